@@ -7,7 +7,7 @@ DOCUMENT = f"/xcap/resource-lists/users/{USER}/index"
 NAMESPACE = "urn:ietf:params:xml:ns:resource-lists"
 LISTS = "application/resource-lists+xml"
 ELEMENT = "application/xcap-el+xml"
-# xcapd closes a connection behind so many requests.
+# xcapd closes a connection after this many requests.
 MOST_REQUESTS = 1_000
 
 
@@ -44,7 +44,7 @@ def address(number):
 
 
 def requests(count):
-    """What is asked of a list of so many entries."""
+    """The requests for a list with this many entries."""
     put = written("PUT", DOCUMENT, LISTS, contact_list(count))
     middle = count // 2
     renamed = written("PUT", address(middle), ELEMENT, entry(middle, "Renamed"))

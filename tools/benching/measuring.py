@@ -3,7 +3,7 @@ import time
 
 from benching.asking import Client
 
-# How many requests are made for two counts of instructions, whose difference tells the cost of one.
+# How many requests are made for two counts of instructions, whose difference gives the cost of one.
 FEW, MORE = 2, 6
 
 

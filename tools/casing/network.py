@@ -17,7 +17,7 @@ CHANCE = random.SystemRandom()
 
 
 def own_address():
-    """An address of the loopback that nothing uses, as long as the one that stands in cases."""
+    """An address of the loopback that nothing uses, as long as the one in cases."""
     while True:
         host = ".".join(["127", *(str(CHANCE.randint(1, 9)) for _ in range(3))])
         port = CHANCE.randint(2_000, 9_999)
@@ -27,7 +27,7 @@ def own_address():
 
 
 def replaced(given, address):
-    """The bytes with the address in the place of the one that stands in cases."""
+    """The bytes with the address in place of the one in cases."""
     return given.replace(WRITTEN, f"{address[0]}:{address[1]}".encode())
 
 
@@ -124,7 +124,7 @@ class Line:
         self.is_open = bool(piece)
 
     def read(self, most=None):
-        """Reads until so many bytes came, or the connection ended."""
+        """Reads until this many bytes came, or the connection ended."""
         while self.is_open and (most is None or len(self.came) < most):
             self.wait()
 

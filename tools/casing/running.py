@@ -20,12 +20,12 @@ def trials_of(cases, programs, seconds):
 
 
 def hold(trials):
-    """Keeps the trials in a process of the pool, which are then told by their numbers."""
+    """Keeps the trials in a process of the pool, which are then named by their numbers."""
     HELD[:] = trials
 
 
 def tried(number):
-    """What is told of one run that differs; nothing of one that goes as written."""
+    """The report of a run that differs; empty for one that goes as written."""
     program, run, cut, _ = HELD[number]
     try:
         differences = Trial(*HELD[number]).differences()
@@ -38,7 +38,7 @@ def tried(number):
 
 
 def failures_of(trials, jobs):
-    """Tries all, and gives what is told of each as it ends."""
+    """Tries all, and yields the report of each as it ends."""
     context = multiprocessing.get_context("fork")
     with context.Pool(jobs, initializer=hold, initargs=(trials,)) as pool:
         yield from pool.imap_unordered(tried, range(len(trials)), chunksize=4)

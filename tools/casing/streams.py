@@ -110,7 +110,7 @@ class Piped:
 
 
 class Filed:
-    """An output that is a file, with room for so many bytes below a limit of the process."""
+    """An output that is a file, that takes this many bytes, by a limit of the process."""
 
     def __init__(self, room, limit):
         self.file = tempfile.TemporaryFile(buffering=0)

@@ -7,7 +7,7 @@ AROUND = 60
 
 
 def bytes_of(text):
-    """The bytes that a text stands for."""
+    """The bytes that a text spells."""
     made, place = bytearray(), 0
     for found in ESCAPED.finditer(text):
         made += text[place : found.start()].encode() + escaped(found)
@@ -50,7 +50,7 @@ def first_difference(wanted, came):
 
 
 def around(piece, place):
-    """What stands around a place."""
+    """The text around a place."""
     begin, end = max(0, place - AROUND), place + AROUND
     before = "..." if begin else ""
     after = "..." if end < len(piece) else "|"

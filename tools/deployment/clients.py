@@ -43,7 +43,7 @@ def reads_nothing(stage):
 
 
 def byte_by_byte(stage):
-    """Puts a list, a byte of it at a time, and answers the status and the seconds that it took."""
+    """Puts a list, a byte of it at a time, and returns the status and the seconds that it took."""
     began = time.monotonic()
     body = friends("bob").encode()
     with connected(stage) as line:
@@ -57,7 +57,7 @@ def byte_by_byte(stage):
 
 
 def others(report, stage):
-    """What another user finds meanwhile. His first request comes behind the large replies."""
+    """What another user finds meanwhile. The first request comes after the large replies."""
     ann = Client(stage, "ann")
     first, *answers = [ann.put(home("ann"), friends(f"friend{n}")) for n in range(21)]
     report.holds("another user's request", first.status == 200, f"{first.status}")

@@ -56,7 +56,7 @@ class Machine:
         self.process.wait()
 
     def wait_for(self, holds, seconds=30):
-        """Whether this comes to hold in so many seconds."""
+        """Whether this comes to hold within this many seconds."""
         until = time.monotonic() + seconds
         while time.monotonic() < until:
             if holds():

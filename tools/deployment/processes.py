@@ -17,7 +17,7 @@ def keeper_of(stage, ports, name):
 
 
 def spread(report, stage, ports):
-    """Puts a list of each user, and answers the users of each process."""
+    """Puts a list of each user, and returns the users of each process."""
     report.part("Users are spread over two processes")
     clients = {name: Client(stage, name) for name in SPREAD}
     put = {it.put(home(name), friends("bob")).status for name, it in clients.items()}

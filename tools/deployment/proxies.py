@@ -1,4 +1,4 @@
-"""The configurations of deploy/ as they stand, but for ports, folders, users and processes."""
+"""The configurations of deploy/ as they are, except for ports, folders, users and processes."""
 import os
 import pathlib
 import re
@@ -93,7 +93,7 @@ def apache(stage, site, ports):
 
 
 def prepare(stage, site, ports, **changed):
-    """Writes what the proxy of a site reads, and answers the words that start it."""
+    """Writes what the proxy of a site reads, and returns the words that start it."""
     return {"nginx": nginx, "haproxy": haproxy, "apache": apache}[site.split("/")[0]](
         stage, site, ports, **changed
     )

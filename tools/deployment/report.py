@@ -8,17 +8,15 @@ class Report:
     def __init__(self):
         self.wrong = 0
         self.tried = 0
-        self.printed = []
 
     def say(self, text):
         print(text, flush=True)
-        self.printed.append(text)
 
     def part(self, title):
         self.say(f"\n{title}")
 
     def note(self, text):
-        """Tells what was measured, of which nothing is asked."""
+        """Reports a measurement, which nothing is checked against."""
         self._print("note", text)
 
     def holds(self, what, does_hold, seen=""):

@@ -1,4 +1,4 @@
-"""The session of README.md, as it stands there, against a process of its own."""
+"""The session of README.md, word for word, against a process of its own."""
 import re
 import subprocess
 

@@ -47,7 +47,7 @@ class Stage:
         for process in self.started:
             self.end(process)
 
-    # ---- what stands in the folder
+    # ---- what is in the folder
 
     def run(self, *words, **options):
         streams = {"stdout": subprocess.PIPE, "stderr": subprocess.STDOUT, "text": True}
@@ -130,12 +130,12 @@ class Stage:
 
     @staticmethod
     def end(process, by=signal.SIGTERM):
-        """Ends a process, and answers the status that it ended with."""
+        """Ends a process, and returns the status that it ended with."""
         if process.poll() is None:
             process.send_signal(by)
         return process.wait(20)
 
-    # ---- what the proxy told
+    # ---- what the proxy logged
 
     def last_request(self):
         """The proxy's status of the last request, and that of xcapd, `-` where it wasn't asked."""

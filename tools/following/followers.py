@@ -55,7 +55,7 @@ class Relay:
 
 class Followed:
     """A document that `follow` follows through a conversation, which goes on before each of its
-    requests but for those that it makes as changes aren't told."""
+    requests but for those that it makes as changes aren't reported."""
 
     def __init__(self, talk, document, steps):
         self.talk, self.document, self.steps = talk, document, steps

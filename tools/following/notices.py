@@ -149,7 +149,7 @@ def operate(root, operation, bound):
 
 
 def told_of(document, bound, path, held):
-    """What a copy becomes by what is told of its document: its tag and its root element."""
+    """What a copy becomes by what is reported of its document: its tag and its root element."""
     need(expanded(document.name, bound) == (DIFF, "document"), f"no document: {document.name}")
     said = document.attributes
     need(said["sel"] == path, f"told of {said['sel']}")

@@ -26,7 +26,7 @@ class Document:
         self.path = path_of(home, name)
         self.prefix = ""
         self.versions = []
-        # Those that the server tells changes since; the tag of the last other one, and their count.
+        # Those since which the server reports changes; the tag of the last other one; their count.
         self.told = []
         self.untold = None
         self.was_untold = 0
@@ -181,7 +181,7 @@ class Talk:
             document.versions = []
             return
         if not document.versions:
-            # What went before it was gone isn't told any more.
+            # What went before it was gone isn't reported any more.
             self.forget(document, document.told)
         document.versions.append(now)
         document.told.append(now)
@@ -193,7 +193,7 @@ class Talk:
             document.told = document.told[len(versions) :]
 
     def follow(self, document):
-        """Follows a changed document, from each version that the server tells changes since."""
+        """Follows a changed document, from each version since which the server reports changes."""
         asked = [(mode, version) for version in document.told for mode in MODES]
         replies = self.wire.ask_all([document.feed(mode, it[0]) for mode, it in asked])
         count = self.count_untold(document, [it.status != 410 for it in replies])
@@ -206,7 +206,7 @@ class Talk:
 
     @staticmethod
     def count_untold(document, is_told):
-        """How many of the first versions aren't told any more: none of a document that is gone, and
+        """How many of the first versions aren't known now: none of a document that is gone, and
         never the newest change."""
         versions = len(document.told)
         count = is_told.index(True) // len(MODES) if True in is_told else versions
@@ -218,7 +218,7 @@ class Talk:
         return count
 
     def check_untold(self, document):
-        """What isn't told any more stays so; of a document that is gone, that alone is told."""
+        """What isn't known any more stays so; of a document that is gone, only that is reported."""
         untold = document.untold if document.versions else None
         if untold and self.wire.ask(document.feed(MODES[0], untold)).status != 410:
             raise Differs(f"{document.path} is told from {untold} on again")

@@ -28,7 +28,7 @@ class Element:
         return "".join(it for it in self.content if isinstance(it, str))
 
     def join_texts(self):
-        """Makes texts that stand beside each other one."""
+        """Joins neighbouring texts."""
         joined = []
         for it in self.content:
             if isinstance(it, str) and joined and isinstance(joined[-1], str):
@@ -39,7 +39,7 @@ class Element:
 
 
 def expanded(name, bound, by_default=True):
-    """The URI and the local name that a name stands for."""
+    """The URI and the local name that a name means."""
     prefix, _, local = name.rpartition(":")
     if prefix == "xml":
         return XML, local

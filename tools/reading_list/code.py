@@ -23,7 +23,7 @@ def without_comments(text):
 
 
 def behind_bracket(text, start):
-    """The place behind the bracket that closes the one at a place."""
+    """The place after the bracket that closes the one at a place."""
     depth = 0
     for place in range(start, len(text)):
         if text[place] == CLOSING[text[start]] and text[place - 1] not in "-=":
@@ -35,7 +35,7 @@ def behind_bracket(text, start):
 
 
 def within(text, start):
-    """What stands in the first braces behind a place."""
+    """What is in the first braces after a place."""
     opening = text.index("{", start)
     return text[opening + 1:behind_bracket(text, opening) - 1]
 
@@ -98,7 +98,7 @@ class CodeFile:
         return list(filter(None, map(self.type, re.findall(r"(?<![\w.])[A-Z]\w*", text))))
 
     def member(self, bounds, member):
-        """The ghost member of one of these traits, or of those that they stand on."""
+        """The ghost member of one of these traits, or of those that they extend."""
         for trait in filter(None, map(self.type, bounds)):
             file, found = declaration(trait.place, trait.name)
             if re.search(rf"ghost {member}: ", within(file.text, found.end())):

@@ -12,7 +12,7 @@ HEAD = re.compile(r"(?:abbrev|unfoldable)(?: pub)?\s|(?:pub )?(?:record|data)\s|
 
 @dataclasses.dataclass(frozen=True)
 class Target:
-    """What a name means: the kind of thing, where that stands, and its name there.
+    """What a name means: the kind of thing, where it is, and its name there.
 
     The kinds are `definition`; `type`, `constant` and `member`, of the code; `clause`, which is a
     contract or a member of an impl; `lemma`; and `trusted`, which is all that no crate of the
@@ -48,7 +48,7 @@ class Definition:
         return [target for target in names.met if target != own]
 
     def head(self, names, statement, bound):
-        """A signature; or the head of a record or data, and behind it a line for each part."""
+        """A signature; or the head of a record or data, and after it a line for each part."""
         first, *rest = statement.split("\n")
         is_whole = not first.endswith(" where")
         items = parsed(HEAD.sub("", statement if is_whole else first, count=1))
@@ -57,7 +57,7 @@ class Definition:
             items = parsed(part.strip().removeprefix("pub "))
             colon = items.index(":")
             names.term(items[colon + 1:], inside)
-            # A field may be named by those behind it.
+            # A field may be named by those after it.
             inside |= set() if self.constructors else set(items[:colon])
         return bound
 
@@ -138,7 +138,7 @@ class SpecFile:
             if begins and indent < base:
                 base, around = 0, []
             if begins and bare.startswith(("module _", "mutual")):
-                # What stands in it is indented.
+                # What is in it is indented.
                 current, base = None, 2
                 around = [bare.removeprefix("module _").removesuffix("where")]
             elif begins:
@@ -183,7 +183,7 @@ class SpecFile:
         return Target("definition", self.name, name) if name in self.definitions else None
 
     def resolve(self, head, members):
-        """What a name means where it stands in this file."""
+        """What a name means in this file."""
         name = self.operators.get(head, head)
         module, there = self.imports.get(name, (None, name))
         if module and there is None:

@@ -12,12 +12,12 @@ TOKEN = re.compile(r'--[^\n]*|"(?:\\.|[^"\\])*"|\[\]|[(){}\[\];,]|[^\s(){}\[\];,
 
 @dataclasses.dataclass
 class Group:
-    """What stands between two brackets: words, and groups again."""
+    """What is between two brackets: words, and groups again."""
     opening: str
     items: list
 
     def split(self, *separators):
-        """Yields the parts between the separators that stand in the group itself."""
+        """Yields the parts between the separators in the group itself."""
         part = []
         for item in self.items:
             if item in separators:
@@ -43,7 +43,7 @@ def parsed(text):
 
 
 def bound_by(item):
-    """The names that a group binds for what stands behind it, as (x y : A) does, or none."""
+    """The names that a group binds for what follows it, as (x y : A) does, or none."""
     if not isinstance(item, Group) or ":" not in item.items:
         return []
     names = item.items[:item.items.index(":")]
@@ -53,7 +53,7 @@ def bound_by(item):
 class FreeNames:
     """Walks terms, and notes what each name means that is free in them.
 
-    `resolve` takes a name and the members that stand behind its dots, and answers what it means:
+    `resolve` takes a name and the members after its dots, and returns what it means:
     one target, or none where it means nothing that is followed.
     """
 
@@ -84,7 +84,7 @@ class FreeNames:
         return names
 
     def term(self, items, bound=frozenset()):
-        """Notes the free names of a term, and returns what is bound behind its last binder."""
+        """Notes the free names of a term, and returns what is bound after its last binder."""
         waiting, in_lambda = [], False
         for index, item in enumerate(items):
             if isinstance(item, Group):

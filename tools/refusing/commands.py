@@ -1,7 +1,7 @@
 """The commands whose memory is refused. Each says what came of a run, and what is unlawful in that.
 
 A run in which nothing is refused says what is due. One in which a request for memory is refused is
-the same but for what docs/COMMANDS.md says of memory that runs out: it ends with 7 and its words;
+the same but for what docs/OPERATIONS.md says of memory that runs out: it ends with 7 and its words;
 or a request is answered by the fixed 503, its connection ends, and nothing has changed.
 """
 from following.followers import Relay
@@ -29,7 +29,7 @@ def ended_without_memory(status, told):
 
 
 def check_audit(told, due, is_refused):
-    """The audit tells what was done; the first of it alone where it was the audit that got no
+    """The audit says what was done; the first of it alone where it was the audit that got no
     memory."""
     need(told == (due if is_refused else due[: len(told)]), f"the audit tells {told}")
 
@@ -166,7 +166,7 @@ class Keep:
         self.due = None
 
     def start(self, folder, journal, around=None):
-        """A process that reads this journal; the files of the new one and of what it tells."""
+        """A process that reads this journal; the files of the new one and of its messages."""
         files = [folder / name for name in ("old", "new", "told")]
         files[0].write_bytes(journal)
         with open(files[0], "rb") as old, open(files[1], "wb") as new, open(files[2], "wb") as told:

@@ -34,6 +34,6 @@ class Refusing:
         return self.made >= self.number
 
     def run(self, words, source=b""):
-        """Runs a command to its end; its status, its output, and what it told for errors."""
+        """Runs a command to its end; its status, its output, and its messages for errors."""
         ran = subprocess.run(words, input=source, capture_output=True, env=self.around, timeout=120)
         return ran.returncode, ran.stdout, ran.stderr.decode(errors="replace")

@@ -13,7 +13,7 @@ def records(text):
 
 
 def session(program, folder, random, count):
-    """A journal of so many edits, and the documents behind each."""
+    """A journal with this many edits, and the documents after each."""
     old, new = folder / "empty", folder / "whole"
     old.write_bytes(b"")
     kept = Kept(program, old, new)
@@ -104,7 +104,7 @@ def is_without_room(kept, known, random):
 
 
 def full_disk(report, program, folder, random):
-    """A limit on the size of files stands for a full disk."""
+    """A limit on the size of files takes the place of a full disk."""
     text, states = session(program, folder, random, 30)
     for limit in (len(text) + 7, len(text) + 2_000, len(text) + 20_001):
         kept, new = start(program, folder, text, limit=limit)
@@ -130,7 +130,7 @@ def full_disk(report, program, folder, random):
 
 
 def ends(report, program, folder, random):
-    """How it ends behind its last connection."""
+    """How it ends after its last connection."""
     text, states = session(program, folder, random, 3)
     put = ("PUT", document_path("ann"), "ann", text_of(["sip:a@x"]), "resource-lists")
     for limit, answer, ended in ((None, 201, (0, [])), (len(text), 500, (4, ["output failed"]))):

@@ -76,7 +76,7 @@ def page_of_zeros(report, program, folder, random):
     )
     mend(place, at)
     is_so = holds(program, place, one)
-    report.holds("  mended as this page says it has all that journal had", is_so)
+    report.holds("  mended as docs/OPERATIONS.md says it has all that journal had", is_so)
 
 
 def zeros_behind(report, program, folder, random):

@@ -1,4 +1,4 @@
-"""The program as deploy/keep-journal runs it, in a folder where its journals stand."""
+"""The program as deploy/keep-journal runs it, in a folder with its journals."""
 import os
 import pathlib
 import re
@@ -15,7 +15,7 @@ COMMANDS = "bash cmp flock ln mv rm sleep sort stat sync tail touch".split()
 STOPPED = 10
 
 
-# What docs/JOURNAL.md says of a damaged place.
+# What docs/OPERATIONS.md says of a damaged place.
 MENDS = """\
 if cmp -s -n {place} {earlier} journal
 then cp {earlier} journal; else truncate -s {place} journal; fi
@@ -83,7 +83,7 @@ def path_without(folder, name=None, **broken):
 
 
 def kept_edits(program, folder, random, known, count):
-    """Starts it, makes so many edits, and ends it. The documents then."""
+    """Starts it, makes this many edits, and ends it. Returns the documents."""
     kept = Looped(program, folder)
     for number in range(count):
         asked, after = known.edit(random, known.last + 1)

@@ -10,7 +10,7 @@ def mount(*words):
 
 
 def unmount(place, seconds=10):
-    """Unmounts it, once the last process that stands there has ended."""
+    """Unmounts it, once the last process in it has ended."""
     until = time.monotonic() + seconds
     while subprocess.run(["umount", place], **QUIET).returncode:
         if time.monotonic() > until:

@@ -64,7 +64,7 @@ class Failures:
         self.disk.mount_again()
 
     def start(self):
-        """Starts it, as docs/JOURNAL.md says where the end of the journal is damaged."""
+        """Starts it, as docs/OPERATIONS.md says where the end of the journal is damaged."""
         while True:
             kept = Looped(self.program, self.folder)
             try:
@@ -133,7 +133,7 @@ def try_failures(report, program, disk, random, rounds):
         " seconds before is held, each document with its tag",
         right == rounds,
         f"{right} of {rounds}; of the changes since then {failures.lost} were lost in all;"
-        f" {failures.cut} times a journal was damaged, and mended as this page says",
+        f" {failures.cut} times a journal was damaged, and mended as docs/OPERATIONS.md says",
     )
 
 

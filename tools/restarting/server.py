@@ -93,7 +93,7 @@ class Kept:
         self.process.wait()
 
     def end(self):
-        """Ends it, and answers its status and what it told for errors, but for the audit."""
+        """Ends it, and returns its status and its messages for errors, except the audit."""
         self.close()
         if self.process.poll() is None:
             self.process.terminate()

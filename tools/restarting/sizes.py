@@ -31,7 +31,7 @@ def record(target, user, media, body):
 
 
 def put(number, size):
-    """The record of a PUT of a document of about so many bytes."""
+    """The record of a PUT of a document of about this many bytes."""
     entry = b'<entry uri="sip:%d@example.com"/>'
     entries = b"".join(entry % n for n in range(max(1, size // 36)))
     body = (
@@ -43,7 +43,7 @@ def put(number, size):
 
 
 def write_journal(file, size, length):
-    """A journal of so many bytes or some more, whose documents have about this length."""
+    """A journal of at least this many bytes, whose documents have about this length."""
     count = 0
     with open(file, "wb") as made:
         while made.tell() < size:
@@ -71,8 +71,8 @@ def restarts(report, program, folder, sizes=(1, 10, 100)):
 
 
 def of_users(users, edits):
-    """The records of so many users: of each a list of 20 friends and a service, and then so often
-    one of the friends put anew."""
+    """The records of this many users: of each a list of 20 friends and a service, and then as many
+    edits as given, each of which puts one of the friends anew."""
     friends = b"".join(ENTRY % (n, n) for n in range(20))
     body = text_of([]).encode().replace(b"</list>", friends + b"</list>")
     names = [b"sip:user%d@example.com" % n for n in range(users)]

@@ -1,6 +1,8 @@
-pub mod Lines
 pub mod Endings
-pub mod Puts
 pub mod Follows
+pub mod Inputs
+pub mod Lines
+pub mod Outputs
+pub mod Puts
 pub mod Words
 pub mod inner

@@ -1,23 +1,23 @@
--- What the commands of the client write of responses. This is the project's own.
+-- What the commands of the client write about responses. The project's own.
 use Rattle.std.specs.Prelude.{ℕ, List, [], ◌++◌, Option, None, Some, codes, decimal, encode_utf8_all}
 use Rattle.xml_tree.specs.Print.{document_print}
-use Rattle.patch_words.specs.Replay.{CopyHeld}
+use Rattle.patch_rules.specs.Replay.{ReplicaContents}
 
--- of a DELETE: the status
+-- for a DELETE: the status
 abbrev pub line_of_status : ℕ → List ℕ
 line_of_status status = decimal status ++ codes "\n"
 
--- of a PUT: the status, and the tag in quotes where there is one
+-- for a PUT: the status, and the etag in quotes where there is one
 abbrev pub put_line : ℕ → Option (List ℕ) → List ℕ
 put_line status None = line_of_status status
 put_line status (Some tag) = decimal status ++ (codes " \"" ++ (encode_utf8_all tag ++ codes "\"\n"))
 
--- of a round: the tag that is held then, or a dash
-abbrev pub round_line : CopyHeld → List ℕ
+-- for a round: the replica's etag, or a dash
+abbrev pub round_line : ReplicaContents → List ℕ
 round_line None = codes "-\n"
 round_line (Some held) = encode_utf8_all held.0 ++ codes "\n"
 
--- of the copy: the document as it is printed
-abbrev pub copy_text : CopyHeld → List ℕ
+-- for a replica: the document as it is printed
+abbrev pub copy_text : ReplicaContents → List ℕ
 copy_text None = []
 copy_text (Some held) = encode_utf8_all (document_print held.1)

@@ -1,13 +1,13 @@
--- The status that a program ends with where a call of the client failed, and what it tells of it. The words of notices are those of RFC 5261,
--- section 5.1; the rest is the project's own.
+-- The status that a program ends with where a call of the client failed, and its message. The
+-- words on diff documents come from RFC 5261, section 5.1; the rest is the project's own.
 use Rattle.std.specs.Prelude.{ℕ, List, ◌++◌, Option, None, Some, codes, decimal, encode_utf8_all}
-use Rattle.http_exchange.specs.declared.fault.ResponseFault.{ResponseFault}
-use Rattle.http_exchange.specs.declared.fault.ResponseFault.TheVariants as responses
+use Rattle.xcap_client.specs.declared.response_fault.ResponseFault.{ResponseFault}
+use Rattle.xcap_client.specs.declared.response_fault.ResponseFault.TheVariants as responses
 use Rattle.patch_apply.specs.declared.fault.ApplyFault.{ApplyFault}
 use Rattle.patch_apply.specs.declared.fault.ApplyFault.TheVariants as notices
 use Rattle.xcap_client.specs.declared.fault.ClientFault.TheVariants as clients
-use Rattle.feed_follower.specs.declared.fault.FollowerFault.{FollowerFault}
-use Rattle.feed_follower.specs.declared.fault.FollowerFault.TheVariants as faults
+use Rattle.client_follower.specs.declared.fault.FollowerFault.{FollowerFault}
+use Rattle.client_follower.specs.declared.fault.FollowerFault.TheVariants as faults
 
 -- the status
 abbrev pub status_of_fault : FollowerFault → ℕ
@@ -31,16 +31,16 @@ response_words responses.Length = codes "bad response: length\n"
 response_words (responses.TooLong n) = codes "bad response: too-long " ++ (decimal n ++ codes "\n")
 response_words (responses.Short n m) = codes "bad response: short " ++ (decimal n ++ (codes " " ++ (decimal m ++ codes "\n")))
 
--- a tag that is held, or a dash
+-- an etag, or a dash
 abbrev pub tag_words : Option (List ℕ) → List ℕ
 tag_words None = codes "-"
 tag_words (Some tag) = encode_utf8_all tag
 
--- the number of an operation behind what is wrong with it
+-- the number of an operation after its error
 abbrev pub with_number : List ℕ → ℕ → List ℕ
 with_number words n = words ++ (decimal n ++ codes "\n")
 
--- why a notice can't be applied
+-- why a diff document can't be applied
 abbrev pub apply_words : ApplyFault → List ℕ
 apply_words notices.WrongDocument = codes "notice: wrong-document\n"
 apply_words (notices.WrongTag held wanted) = codes "notice: wrong-tag " ++ (tag_words held ++ (codes " " ++ (encode_utf8_all wanted ++ codes "\n")))
@@ -51,7 +51,7 @@ apply_words (notices.RootOperation n) = with_number (codes "notice: invalid-root
 apply_words (notices.NodeTypes n) = with_number (codes "notice: invalid-node-types ") n
 apply_words (notices.Whitespace n) = with_number (codes "notice: invalid-whitespace-directive ") n
 
--- the words, on one line; of a status that refuses, with what a conflict document names
+-- the message, on one line; for a status that refuses, with the error that an error document names
 abbrev pub fault_words : FollowerFault → List ℕ
 fault_words (faults.Client clients.PeerFault) = codes "network failed\n"
 fault_words (faults.Client clients.NoMemory) = codes "out of memory\n"

@@ -1,20 +1,25 @@
-//! The commands of a client: what a peer is asked, and what is written of its answers.
-//! Upward it promises: a command makes its calls and no others, and writes exactly the output that the responses give; each way
-//! to end has its cause, and its words.
+//! The commands of a client: the calls that they make, the text that they read from an input, and
+//! what they write of the responses.
+//! Promises upward that a text is all that the input gave to its end (`GaveText`); that a command
+//! makes its calls and no others, and writes exactly the output that the responses determine
+//! (`MakesOneCall`, `Puts`, `Follows`); and that each way to end has its cause, and its message
+//! (`status_of`, `words_of`).
 //! The commands are the project's own; they follow RFC 4825, section 7, and RFC 5875.
 #![tactic(auto)]
 
-mod asker;
-mod ended;
-mod fetching;
-mod following;
-mod lines;
-mod putting;
-mod words;
+mod command_end;
+mod fetch_command;
+mod follow_command;
+mod inputs;
+mod messages;
+mod output_lines;
+mod put_command;
+mod requester;
 
-pub use asker::Asker;
-pub use ended::Ended;
-pub use fetching::{delete_at, fetch_from};
-pub use following::follow;
-pub use putting::put_at;
-pub use words::{status_of, words_of};
+pub use command_end::CommandEnd;
+pub use fetch_command::{delete_at, fetch_from};
+pub use follow_command::follow;
+pub use inputs::{InputFault, read_text};
+pub use messages::{status_of, words_of};
+pub use put_command::put_at;
+pub use requester::Requester;

@@ -2,7 +2,7 @@
 use anyhow::Result;
 use std::{fs, io};
 
-/// The bytes of the file of a case with an ending; none where there is no such file.
+/// The bytes of a case's file with an ending; none where there is no such file.
 pub fn bytes_of(rt: &HostRuntime, name: &str, ending: &str) -> Result<Vec<u8>> {
     let path = format!(in rt.alloc(); "{name}.{ending}")?;
     match fs::read(rt, path.as_str()) {
@@ -11,12 +11,12 @@ pub fn bytes_of(rt: &HostRuntime, name: &str, ending: &str) -> Result<Vec<u8>> {
     }
 }
 
-// Where two texts begin to differ.
+// The place of the first difference of two texts.
 fn first_difference(wanted: &[u8], came: &[u8]) -> usize {
     wanted.iter().zip(came).take_while(|(w, c)| w == c).count()
 }
 
-/// Whether these bytes came as the file with an ending has them. Where they didn't, that is said.
+/// Whether these bytes are those of the case's file with an ending. Prints where they differ.
 pub fn came(rt: &HostRuntime, name: &str, ending: &str, bytes: &[u8]) -> Result<bool> {
     let wanted = bytes_of(rt, name, ending)?;
     if wanted.as_slice() == bytes {

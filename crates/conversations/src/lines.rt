@@ -1,21 +1,21 @@
-//! The lines of a run.
+//! The streams of a run.
 use crate::files::bytes_of;
 use crate::way::Way;
 use anyhow::Result;
 use std::alloc::{AllocError, Global};
-use xcap_io::{MemLine, MemPeer, MemPort};
+use xcap_io::{MemPeer, MemPort, MemStream};
 
-/// The room of each line, which is more than any run takes.
+/// The size of each stream's buffer, which is more than any run needs.
 pub const ROOM: usize = 1_000_000;
 
-/// The lines of a run, but for the one that its audit writes to.
+/// The streams of a run, except the one that its audit writes to.
 #[derive(Drop)]
 pub struct Lines {
     pub port: MemPort,
     pub peer: MemPeer,
-    pub input: MemLine,
-    pub output: MemLine,
-    pub errors: MemLine,
+    pub input: MemStream,
+    pub output: MemStream,
+    pub errors: MemStream,
 }
 
 fn repeated(alloc: Global, once: &[u8], repeat: usize) -> Result<Vec<u8>, AllocError> {
@@ -26,28 +26,28 @@ fn repeated(alloc: Global, once: &[u8], repeat: usize) -> Result<Vec<u8>, AllocE
     Ok(bytes)
 }
 
-// A line that gives these bytes, in pieces of this size.
-fn line_of(alloc: Global, bytes: &[u8], size: usize) -> Result<MemLine, AllocError> {
-    MemLine::new(alloc, bytes, size.max(1), None, ROOM)
+// A stream that gives these bytes, in pieces of this size.
+fn line_of(alloc: Global, bytes: &[u8], size: usize) -> Result<MemStream, AllocError> {
+    MemStream::new(alloc, bytes, size.max(1), None, ROOM)
 }
 
-// The line that gives the bytes of the file with an ending.
-fn line(rt: &HostRuntime, name: &str, ending: &str, size: usize) -> Result<MemLine> {
+// The stream that gives the bytes of the file with an ending.
+fn line(rt: &HostRuntime, name: &str, ending: &str, size: usize) -> Result<MemStream> {
     let bytes = bytes_of(rt, name, ending)?;
     Ok(line_of(rt.alloc(), &bytes, size)?)
 }
 
-// The line that gives the bytes of the input so many times.
-fn input(rt: &HostRuntime, name: &str, repeat: usize, size: usize) -> Result<MemLine> {
+// The stream that gives the bytes of the input `repeat` times.
+fn input(rt: &HostRuntime, name: &str, repeat: usize, size: usize) -> Result<MemStream> {
     let once = bytes_of(rt, name, "in")?;
     let bytes = repeated(rt.alloc(), &once, repeat)?;
     Ok(line_of(rt.alloc(), &bytes, size)?)
 }
 
-// Adds the line of a kind with a number, from 0.
+// Adds the stream of a kind with a number, from 0.
 fn push_line(
     rt: &HostRuntime,
-    lines: &mut Vec<MemLine>,
+    lines: &mut Vec<MemStream>,
     name: &str,
     kind: &str,
     index: usize,
@@ -58,14 +58,14 @@ fn push_line(
     Ok(())
 }
 
-// The lines of a kind, of which there are so many.
+// The `count` streams of a kind.
 fn lines_of(
     rt: &HostRuntime,
     name: &str,
     kind: &str,
     count: usize,
     size: usize,
-) -> Result<Vec<MemLine>> {
+) -> Result<Vec<MemStream>> {
     let mut lines = Vec::new(rt.alloc());
     for index in 0..count {
         push_line(rt, &mut lines, name, kind, index, size)?;
@@ -74,7 +74,7 @@ fn lines_of(
 }
 
 impl Lines {
-    /// The lines of a run whose bytes come in pieces of this size.
+    /// The streams of a run whose bytes come in pieces of this size.
     pub fn new(rt: &HostRuntime, name: &str, way: &Way, size: usize) -> Result<Lines> {
         Ok(Lines {
             port: MemPort::new(lines_of(rt, name, "", way.connections, size)?, false, None),

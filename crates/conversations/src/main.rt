@@ -1,13 +1,9 @@
 //! Whole conversations with the program in memory, as files: what is run, the bytes that come, and
-//! those that are written. It promises nothing upward: it writes a line for each case that goes as
-//! written, says what differs in any other, and then ends with the status 1.
+//! the bytes that have to be written. README.md says which files a case has.
+//! Promises nothing upward: it prints a line for each case that goes as written, says what differs
+//! in any other, and then exits with the status 1. It runs the cases that need no more than
+//! streams and connections, each with whole bytes and byte by byte; `tools/cases` runs all.
 //! The standards are RFC 4825 and RFC 9112.
-//!
-//! The words of the command line name the cases. README.md says in which files a case stands, and
-//! what its lines say. Here those are run that need no more than streams and connections: the keys
-//! that they may have are `shows`, `only in memory`, `words`, `status`, `repeat`, `connection` and
-//! `peer`. Each run is made twice: with the bytes in one piece and byte by byte. All cases are run
-//! over the real program by `tools/cases`.
 #![tactic(auto)]
 
 mod files;
@@ -23,10 +19,10 @@ use anyhow::Result;
 use std::env;
 use std::process::ExitCode;
 
-// The size of a piece that holds whatever comes.
+// The size of a piece that is larger than any input.
 const WHOLE: usize = 1_000_000;
 
-// Whether a run of a case goes as written, whole and byte by byte.
+// Whether a run of a case goes as written, with whole bytes and byte by byte.
 fn is_as_written(rt: &HostRuntime, name: &str, way: &Way) -> Result<bool> {
     let whole = leaves(rt, name, way, WHOLE)?;
     Ok(leaves(rt, name, way, 1)? && whole)

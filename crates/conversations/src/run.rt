@@ -1,15 +1,15 @@
 //! Runs of the program in memory.
 use crate::files::came;
 use crate::lines::{Lines, ROOM};
-use crate::shared_line::SharedLine;
+use crate::shared_line::SharedStream;
 use crate::way::Way;
 use anyhow::Result;
 use std::alloc::{AllocError, Global};
 use watchers::{Audit, Watcher};
 use xcap_app::run;
-use xcap_io::{MemLine, StdSink};
+use xcap_io::{MemStream, StdSink};
 
-// The words of a command line, which stand between single spaces.
+// The words of a command line, separated by single spaces.
 fn words_of(alloc: Global, line: &str) -> Result<Vec<String>, AllocError> {
     let mut words = Vec::new(alloc);
     if line.is_empty() {
@@ -21,13 +21,13 @@ fn words_of(alloc: Global, line: &str) -> Result<Vec<String>, AllocError> {
     Ok(words)
 }
 
-// Runs the program on these lines, with an audit that writes to a line, and answers its status. It
-// promises nothing, so that its caller isn't proved over all that the call says.
+// Runs the program on these streams, with an audit on a stream, and returns its status. It
+// promises nothing, so that its caller isn't proved over all that `run` promises.
 fn run_over(
     alloc: Global,
     words: &[String],
     lines: &mut Lines,
-    told: &SharedLine,
+    told: &SharedStream,
 ) -> Result<u8, AllocError> {
     let audit = Audit::new(alloc, StdSink::new(told.share()?));
     let mut watchers: Vec<Box<dyn Watcher>> = Vec::new(alloc);
@@ -44,18 +44,18 @@ fn run_over(
     ))
 }
 
-// The status with which a command line ends that is run on these lines.
+// The exit status of a command line that is run on these streams.
 fn status_of(
     alloc: Global,
     line: &str,
     lines: &mut Lines,
-    told: &SharedLine,
+    told: &SharedStream,
 ) -> Result<u8, AllocError> {
     let words = words_of(alloc, line)?;
     run_over(alloc, &words, lines, told)
 }
 
-// Whether a run ended with the status that is wanted. Where it didn't, that is said.
+// Whether a run ended with the expected status. Prints the status otherwise.
 fn ended(rt: &HostRuntime, name: &str, wanted: u8, status: u8) -> Result<bool> {
     if status != wanted {
         println!(rt; "{name}: ended with the status {status}")?;
@@ -63,13 +63,13 @@ fn ended(rt: &HostRuntime, name: &str, wanted: u8, status: u8) -> Result<bool> {
     Ok(status == wanted)
 }
 
-// Whether a line of a kind with a number, from 0, took what is wanted.
+// Whether a stream of a kind with a number, from 0, took the expected bytes.
 fn took(
     rt: &HostRuntime,
     name: &str,
     kind: &str,
     index: usize,
-    line: Option<&MemLine>,
+    line: Option<&MemStream>,
 ) -> Result<bool> {
     let ending = format!(in rt.alloc(); "{kind}{}.out", index as u128 + 1)?;
     match line {
@@ -78,7 +78,7 @@ fn took(
     }
 }
 
-// Whether the connections and those of a peer took what is wanted.
+// Whether the connections and the peer's connections took the expected bytes.
 fn all_took(rt: &HostRuntime, name: &str, way: &Way, lines: &Lines) -> Result<bool> {
     let mut alike = true;
     for index in 0..way.connections {
@@ -90,21 +90,21 @@ fn all_took(rt: &HostRuntime, name: &str, way: &Way, lines: &Lines) -> Result<bo
     Ok(alike)
 }
 
-// Whether the streams took what is wanted.
-fn wrote(rt: &HostRuntime, name: &str, lines: &Lines, told: &SharedLine) -> Result<bool> {
+// Whether the output, the stream for errors and the audit took the expected bytes.
+fn wrote(rt: &HostRuntime, name: &str, lines: &Lines, told: &SharedStream) -> Result<bool> {
     let mut alike = came(rt, name, "out", lines.output.sent())?;
     alike &= came(rt, name, "errors", lines.errors.sent())?;
     let told = told.sent(rt.alloc())?;
     Ok(came(rt, name, "audit", &told)? && alike)
 }
 
-// Whether a run of a case on these lines leaves what is wanted.
+// Whether a run of a case on these streams has the expected status and bytes.
 fn leaves_on(
     rt: &HostRuntime,
     name: &str,
     way: &Way,
     lines: &mut Lines,
-    told: &SharedLine,
+    told: &SharedStream,
 ) -> Result<bool> {
     let status = status_of(rt.alloc(), way.words.as_str(), lines, told)?;
     let mut alike = ended(rt, name, way.status, status)?;
@@ -112,9 +112,10 @@ fn leaves_on(
     Ok(all_took(rt, name, way, lines)? && alike)
 }
 
-/// Whether a run of a case whose bytes come in pieces of this size leaves what is wanted.
+/// Whether a run of a case whose bytes come in pieces of this size has the expected status and
+/// bytes.
 pub fn leaves(rt: &HostRuntime, name: &str, way: &Way, size: usize) -> Result<bool> {
-    let told = SharedLine::new(rt.alloc(), ROOM)?;
+    let told = SharedStream::new(rt.alloc(), ROOM)?;
     let mut lines = Lines::new(rt, name, way, size)?;
     leaves_on(rt, name, way, &mut lines, &told)
 }

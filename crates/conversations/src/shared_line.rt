@@ -1,26 +1,26 @@
-//! A line in memory that an audit writes to, and that is read behind its back.
+//! A stream in memory that an audit writes to and that a test reads.
 use std::alloc::{AllocError, Global};
 use std::cell::RefCell;
 use std::io::{self, Write};
 use std::rc::Rc;
-use xcap_io::{Failed, MemLine, Sink};
+use xcap_io::{Failed, MemStream, Sink};
 
-/// A line in memory that has several owners.
+/// A stream in memory that has several owners.
 #[derive(Drop)]
-pub struct SharedLine(Rc<RefCell<MemLine>>);
+pub struct SharedStream(Rc<RefCell<MemStream>>);
 
-impl SharedLine {
-    pub fn new(alloc: Global, room: usize) -> Result<SharedLine, AllocError> {
-        let line = MemLine::new(alloc, b"", 1, None, room)?;
-        Ok(SharedLine(Rc::new(alloc, RefCell::new(line))?))
+impl SharedStream {
+    pub fn new(alloc: Global, room: usize) -> Result<SharedStream, AllocError> {
+        let line = MemStream::new(alloc, b"", 1, None, room)?;
+        Ok(SharedStream(Rc::new(alloc, RefCell::new(line))?))
     }
 
-    /// One more owner of the line.
-    pub fn share(&self) -> Result<SharedLine, AllocError> {
-        Ok(SharedLine(Rc::clone(&self.0)?))
+    /// One more owner of the stream.
+    pub fn share(&self) -> Result<SharedStream, AllocError> {
+        Ok(SharedStream(Rc::clone(&self.0)?))
     }
 
-    /// What the line took.
+    /// The bytes that the stream took.
     pub fn sent(&self, alloc: Global) -> Result<Vec<u8>, AllocError> {
         match self.0.try_borrow() {
             Ok(line) => line.sent().to_vec(alloc),
@@ -29,7 +29,7 @@ impl SharedLine {
     }
 }
 
-impl Write for SharedLine {
+impl Write for SharedStream {
     fn write(&mut self, piece: &[u8]) -> io::Result<usize> {
         if piece.is_empty() {
             return Ok(0);

@@ -8,9 +8,9 @@ pub struct Way {
     pub words: String,
     pub status: u8,
     pub repeat: usize,
-    /// How many connections come.
+    /// The number of connections that come.
     pub connections: usize,
-    /// How many connections a peer takes.
+    /// The number of connections that a peer accepts.
     pub peers: usize,
 }
 
@@ -50,7 +50,7 @@ fn way_of(alloc: Global, paragraph: &str) -> Result<Way> {
     Ok(way)
 }
 
-/// The ways that a text describes, one a paragraph.
+/// The ways that a text describes, one for each paragraph.
 pub fn ways_of(alloc: Global, text: &str) -> Result<Vec<Way>> {
     let mut ways = Vec::new(alloc);
     for paragraph in text.split("\n\n") {

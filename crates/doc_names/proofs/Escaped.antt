@@ -1,4 +1,4 @@
--- What is printed of octets.
+-- The print of octets.
 use Rattle.std.proofs.Common.{◌≡◌, ℕ, ◌<◌, Bool, List, [], ◌∷◌, true, false, not, All, refl, subst, arith}
 use Rattle.std.proofs.lemmas.Bool.{agree_below, agree_below_at}
 use Rattle.std.specs.Char.{is_ascii}
@@ -10,7 +10,7 @@ use Rattle.percent_encoding.specs.Percent.{percent_decode, percent_encode, encod
 use Rattle.doc_names.specs.declared.escapes.TheConstants.{ESCAPED_IN_PARTS, INVISIBLE}
 use Rattle.doc_names.specs.Escapes.{escaped, escaped_octet, is_plain, is_visible}
 
--- octets outside the set are those that stay as they are
+-- octets outside the set are the unescaped ones
 same_octet : (set : AsciiSet) (plain : ℕ → Bool) (b : ℕ) (t : Bool) → should_percent_encode set b ≡ not t → plain b ≡ t → encode_byte set b ≡ escaped_octet plain b
 same_octet set plain b true e h = rw (e, h) refl
 same_octet set plain b false e h = rw (e, h) refl
@@ -47,13 +47,13 @@ visible_at : (b : ℕ) (t : Bool) → is_ascii b ≡ t → should_percent_encode
 visible_at b true e = agree_below_at (λ c. should_percent_encode INVISIBLE c) (λ c. not (is_visible c)) 128 b visible (ascii_is_small b e)
 visible_at b false e = rw (beyond INVISIBLE b e, e) refl
 
--- what is printed of a part, and of a notice's selector
+-- the print of a part, and of the selector in an element's xcap-diff document
 pub parts_escaped : (bs : List ℕ) → percent_encode ESCAPED_IN_PARTS bs ≡ escaped is_plain bs
 parts_escaped bs = escaped_by ESCAPED_IN_PARTS is_plain (λ b. parts_at b (is_ascii b) refl) bs
 
 pub visible_escaped : (bs : List ℕ) → percent_encode INVISIBLE bs ≡ escaped is_visible bs
 visible_escaped bs = escaped_by INVISIBLE is_visible (λ b. visible_at b (is_ascii b) refl) bs
 
--- a printed part stands for its octets
+-- a printed part decodes to its octets
 pub parts_decoded : (bs : List ℕ) → All (λ b. b < 256) bs → percent_decode (escaped is_plain bs) ≡ bs
 parts_decoded bs small = subst (λ x. percent_decode x ≡ bs) (parts_escaped bs) (round_trip ESCAPED_IN_PARTS bs refl small)

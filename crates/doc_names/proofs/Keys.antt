@@ -1,4 +1,5 @@
--- Names of documents as keys of maps: the derived `==` is the test by parts, which tells exactly when two are one.
+-- Names of documents as keys of maps: the derived `==` is the test by parts, which holds exactly
+-- when two names are equal.
 use Rattle.std.proofs.Common.{◌≡◌, ap, ◌∙◌, ◌&&◌, refl}
 use Rattle.std.specs.Str.{bytes_eq}
 use Rattle.doc_names.specs.contracts.doc_id.DocIdPartialEq.TheImpl.{eq-value}
@@ -9,7 +10,7 @@ use Rattle.doc_names.specs.declared.doc_id.Auid.{Auid}
 use Rattle.doc_names.specs.declared.doc_id.Auid.TheVariants.{ResourceLists, RlsServices, XcapCaps}
 use Rattle.doc_names.specs.declared.doc_id.Home.{Home}
 use Rattle.doc_names.specs.declared.doc_id.Home.TheVariants.{Global, User}
-use Rattle.doc_names.specs.Same.{same_auid, same_home, same_id}
+use Rattle.doc_names.specs.Equality.{same_auid, same_home, same_id}
 
 auids : (a b : Auid) → auid-eq.it a b ≡ same_auid a b
 auids ResourceLists ResourceLists = refl

@@ -30,6 +30,6 @@ home_letters (User xui) = IsAscii-append (codes "/users/") (part_text xui ++ cod
 pub id_letters : (doc : DocId) → chars (id_text doc) ≡ id_text doc
 id_letters doc = chars-IsAscii (id_text doc) (IsAscii-append (auid_text doc.auid) (home_text doc.home ++ part_text doc.name) (auid_letters doc.auid) (IsAscii-append (home_text doc.home) (part_text doc.name) (home_letters doc.home) (part_letters doc.name)))
 
--- the selector of a notice
+-- the selector in an element's xcap-diff document
 pub visible_letters : (octets : List ℕ) → chars (escaped is_visible octets) ≡ escaped is_visible octets
 visible_letters octets = chars-IsAscii (escaped is_visible octets) (subst IsAscii (visible_escaped octets) (IsAscii-percent_encode INVISIBLE octets))

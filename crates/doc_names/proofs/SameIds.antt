@@ -1,4 +1,4 @@
--- The test by which maps find documents tells exactly when two names are one.
+-- The test by which maps find documents holds exactly when two names are equal.
 use Rattle.std.proofs.Common.{◌≡◌, ◌≢◌, Bool, true, false, ⊎_elim, refl, sym, ap, ◌∙◌}
 use Rattle.std.proofs.lemmas.Bool.{and_parts, and_from, cases_Bool}
 use Rattle.std.specs.Cmp.Lexicographic.{bytes_decides}
@@ -7,7 +7,7 @@ use Rattle.doc_names.specs.declared.doc_id.Auid.{Auid}
 use Rattle.doc_names.specs.declared.doc_id.Auid.TheVariants.{ResourceLists, RlsServices, XcapCaps}
 use Rattle.doc_names.specs.declared.doc_id.Home.{Home}
 use Rattle.doc_names.specs.declared.doc_id.Home.TheVariants.{Global, User}
-use Rattle.doc_names.specs.Same.{same_auid, same_home, same_id}
+use Rattle.doc_names.specs.Equality.{same_auid, same_home, same_id}
 
 auid_exact : (a b : Auid) → same_auid a b ≡ true → a ≡ b
 auid_exact ResourceLists ResourceLists h = refl
@@ -26,7 +26,7 @@ home_exact Global (User b) h = cc
 home_exact (User a) Global h = cc
 home_exact (User a) (User b) h = ap User ((bytes_decides a b).0 h)
 
--- names that pass the test are one
+-- names that pass the test are equal
 pub id_exact : (a b : DocId) → same_id a b ≡ true → a ≡ b
 id_exact a b h =
     let first = and_parts (same_auid a.auid b.auid) _ h in
@@ -49,11 +49,11 @@ home_self (User a) = (bytes_decides a a).1 refl
 pub id_self : (a : DocId) → same_id a a ≡ true
 id_self a = and_from _ _ (auid_self a.auid) (and_from _ _ (home_self a.home) ((bytes_decides a.name a.name).1 refl))
 
--- names that differ don't
+-- names that differ don't pass
 pub ids_apart : (a b : DocId) → b ≢ a → same_id a b ≡ false
 ids_apart a b differ = ⊎_elim (λ h. absurd (differ (sym (id_exact a b h)))) (λ h. h) (cases_Bool (same_id a b))
 
--- a name that another one than the found one has isn't found
+-- a name that differs from the found one isn't found
 pub other-name : (a b c : DocId) (t : Bool) → same_id a c ≡ t → same_id a b ≡ true → b ≢ c → same_id a c ≡ false
 other-name a b c true e h ne = absurd (ne (sym (id_exact a b h) ∙ id_exact a c e))
 other-name a b c false e h ne = e

@@ -1,4 +1,4 @@
--- Words of ASCII.
+-- ASCII words.
 use Rattle.std.proofs.Common.{◌≡◌, ℕ, List, [], ◌∷◌, true}
 use Rattle.std.proofs.lemmas.Bool.{and_parts, ltb-true}
 use Rattle.std.proofs.lemmas.Str.Ascii.{IsAscii-nil, IsAscii-cons}

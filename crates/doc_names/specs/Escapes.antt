@@ -4,15 +4,15 @@ use Rattle.std.specs.List.{list_any}
 use Rattle.std.specs.Char.{is_ascii, is_ascii_alphanumeric}
 use Rattle.percent_encoding.specs.Percent.{percent_encode_byte}
 
--- the octets that a printed part has as they are: those of `pchar`, RFC 3986, section 3.3
+-- the octets that a printed part has unescaped: `pchar` of RFC 3986, section 3.3
 abbrev pub is_plain : ℕ → Bool
 is_plain b = is_ascii b && (is_ascii_alphanumeric b || list_any (λ c. b == c) (codes "-._~!$&'()*+,;=:@"))
 
--- an octet as it is, or as `%` and two upper-case digits
+-- an octet unescaped, or as `%` and two upper-case digits
 abbrev pub escaped_octet : (ℕ → Bool) → ℕ → List ℕ
 escaped_octet plain b = if plain b then b ∷ [] else percent_encode_byte b
 
--- octets, with those escaped that aren't plain
+-- octets, each escaped unless it is plain
 abbrev pub escaped : (ℕ → Bool) → List ℕ → List ℕ
 escaped plain octets = flat_map (escaped_octet plain) octets
 
@@ -20,6 +20,7 @@ escaped plain octets = flat_map (escaped_octet plain) octets
 abbrev pub escaped_part : List ℕ → List ℕ
 escaped_part text = escaped is_plain (encode_utf8_all text)
 
--- the octets that the selector of a notice about an element has as they are: the visible ones of ASCII, from `!` (33) to `~` (126)
+-- the octets that the selector in an element's xcap-diff document has unescaped: the visible ones
+-- of ASCII, from `!` (33) to `~` (126)
 abbrev pub is_visible : ℕ → Bool
 is_visible b = is_ascii b && (nat_le 33 b && nat_le b 126)

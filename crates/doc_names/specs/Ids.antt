@@ -1,4 +1,5 @@
--- Names of documents. RFC 4825, section 6.2: a usage, then `global` or `users` and a user, then the name of the document.
+-- Names of documents. RFC 4825, section 6.2: an application usage, then `global` or `users` and a
+-- user, then the name of the document.
 use Rattle.std.specs.Prelude.{◌≢◌, ℕ, List, [], ◌++◌, codes, chars}
 use Rattle.doc_names.specs.Usages.{auid_text}
 use Rattle.doc_names.specs.declared.doc_id.Home.{Home}
@@ -6,11 +7,11 @@ use Rattle.doc_names.specs.declared.doc_id.Home.TheVariants.{Global, User}
 use Rattle.doc_names.specs.declared.doc_id.DocId.{DocId}
 use Rattle.doc_names.specs.Escapes.{escaped_part}
 
--- the segment behind which the node selector stands
+-- the segment between document selector and node selector
 abbrev pub separator : List ℕ
 separator = chars (codes "~~")
 
--- a text can stand as a segment before the separator: it is neither empty nor the separator
+-- a text can be a segment of a document selector: it is neither empty nor the separator
 abbrev pub IsNameable : List ℕ → Type 0
 IsNameable text = (text ≢ []) × (text ≢ separator)
 
@@ -19,8 +20,8 @@ IsReadableHome Global = Unit {0}
 IsReadableHome (User xui) = IsNameable xui
 
 -- an id that an address can name
-abbrev pub IsReadable : DocId → Type 0
-IsReadable doc = IsReadableHome doc.home × IsNameable doc.name
+abbrev pub IsAddressable : DocId → Type 0
+IsAddressable doc = IsReadableHome doc.home × IsNameable doc.name
 
 -- the segments of the home, each between slashes
 abbrev pub home_text : Home → List ℕ

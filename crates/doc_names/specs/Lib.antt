@@ -1,4 +1,4 @@
+pub mod Equality
 pub mod Escapes
 pub mod Ids
-pub mod Same
 pub mod Usages

@@ -1,6 +1,7 @@
-//! Names of documents (RFC 4825, section 6.2). Two names are equal where their parts are, so they serve as keys of maps.
+//! Names of documents (RFC 4825, section 6.2). Two names are equal where their parts are, so they
+//! serve as keys of maps.
 ghost use Rattle.std.specs.Prelude.{◌≡◌, ◌↔◌, IsTrue, IfOk};
-ghost use Rattle.doc_names.specs.Same.{same_id};
+ghost use Rattle.doc_names.specs.Equality.{same_id};
 
 use std::alloc::{AllocError, Global};
 use xml_tree::Text;
@@ -13,7 +14,7 @@ pub enum Auid {
     XcapCaps,
 }
 
-/// Where a document of a usage lies.
+/// The home of a document: the global tree or a user's.
 #[derive(Drop, PartialEq, Eq, Hash)]
 pub enum Home {
     /// Under `global`.
@@ -34,9 +35,9 @@ impl Home {
     /// An equal home.
     ///
     /// # Errors
-    /// `NoMemory` for want of memory.
+    /// `NoMemory` when out of memory.
     pub fn copy(&self, alloc: Global) -> Result<Home, AllocError>
-        ensures makes_an_equal_home { IfOk result (λ made. made ≡ self.now) }
+        ensures equal_copy { IfOk result (λ made. made ≡ self.now) }
     {
         match self {
             Home::Global => Ok(Home::Global),
@@ -52,9 +53,9 @@ impl DocId {
     /// An equal name.
     ///
     /// # Errors
-    /// `NoMemory` for want of memory.
+    /// `NoMemory` when out of memory.
     pub fn copy(&self, alloc: Global) -> Result<DocId, AllocError>
-        ensures makes_an_equal_name { IfOk result (λ made. made ≡ self.now) }
+        ensures equal_copy { IfOk result (λ made. made ≡ self.now) }
     {
         let home = self.home.copy(alloc)?;
         let name = self.name.copy(alloc)?;
@@ -65,10 +66,10 @@ impl DocId {
         })
     }
 
-    /// Whether two names are the same. Takes no memory.
+    /// Whether two names are equal. Does not allocate.
     pub fn same(&self, other: &DocId) -> bool
-        ensures tells_whether_they_are_equal { IsTrue result ↔ (self.now ≡ other.now) }
-        ensures tells_by_the_test { result ≡ same_id self.now other.now }
+        ensures equal_iff { IsTrue result ↔ (self.now ≡ other.now) }
+        ensures exact { result ≡ same_id self.now other.now }
     {
         self == other
     }

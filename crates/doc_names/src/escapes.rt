@@ -8,7 +8,8 @@ use percent_encoding::{
 use std::alloc::AllocError;
 use xml_tree::Text;
 
-/// The ASCII octets that a printed part of an address has escaped: all but those of `pchar` (RFC 3986, section 3.3).
+/// The ASCII octets that are escaped in a printed part of an address: all but those of `pchar`
+/// (RFC 3986, section 3.3).
 const ESCAPED_IN_PARTS: AsciiSet = ascii_set!(
     NON_ALPHANUMERIC
         .remove(b'-')
@@ -33,23 +34,25 @@ const ESCAPED_IN_PARTS: AsciiSet = ascii_set!(
 /// The ASCII octets that aren't visible.
 const INVISIBLE: AsciiSet = ascii_set!(CONTROLS.add(b' '));
 
-/// Adds a text as a part of a printed address.
+/// Appends a text as a part of a printed address.
 ///
 /// # Errors
-/// `NoMemory` for want of memory.
+/// `NoMemory` when out of memory.
 pub fn push_part(line: &mut String, text: &Text) -> Result<(), AllocError>
-    ensures adds_the_part { OnOk result (string_bytes line.new ≡ string_bytes line.old ++ escaped_part text.now) }
+    ensures appended { OnOk result
+        (string_bytes line.new ≡ string_bytes line.old ++ escaped_part text.now) }
 {
     utf8_percent_encode(text.as_str(), ESCAPED_IN_PARTS).append_to(line)?;
     Ok(())
 }
 
-/// Adds octets, with those escaped that aren't visible.
+/// Appends octets, each escaped unless it is visible.
 ///
 /// # Errors
-/// `NoMemory` for want of memory.
+/// `NoMemory` when out of memory.
 pub fn push_visible(line: &mut String, octets: &[u8]) -> Result<(), AllocError>
-    ensures adds_the_octets_escaped { OnOk result (string_bytes line.new ≡ string_bytes line.old ++ escaped is_visible octets.now) }
+    ensures appended { OnOk result
+        (string_bytes line.new ≡ string_bytes line.old ++ escaped is_visible octets.now) }
 {
     percent_encode(octets, INVISIBLE).append_to(line)?;
     Ok(())

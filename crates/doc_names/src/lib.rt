@@ -1,6 +1,8 @@
-//! Names of documents: the usages with what each of them has, homes, and printed names.
-//! Promises upward that names are equal where their parts are, and the exact text of a printed name.
-//! The standards are RFC 4825, section 6.2, and RFC 4826; the escapes are those of RFC 3986.
+//! Names of documents: application usages with their AUIDs and namespaces, homes, and printed
+//! names.
+//! Promises upward that `same` is equality part by part (`same_id`), and the exact text of a
+//! printed name (`id_text`).
+//! The standards are RFC 4825, section 6.2, RFC 4826, and RFC 3986 for the escapes.
 #![tactic(auto)]
 
 mod doc_id;

@@ -1,4 +1,5 @@
-//! Printed document ids: `AUID/users/XUI/NAME` or `AUID/global/NAME` (RFC 4825, section 6.2), with each part escaped.
+//! Printed document ids: `AUID/users/XUI/NAME` or `AUID/global/NAME` (RFC 4825, section 6.2),
+//! with each part escaped.
 ghost use Rattle.std.specs.Prelude.{◌≡◌, ◌++◌, OnOk, IfOk, string_bytes};
 ghost use Rattle.doc_names.specs.Ids.{home_text, id_text};
 ghost use Rattle.doc_names.specs.Usages.{auid_text};
@@ -8,16 +9,18 @@ use crate::escapes::push_part;
 use std::alloc::{AllocError, Global};
 use xml_tree::Text;
 
-// Adds the name of a usage.
+// Appends the AUID of a usage.
 fn push_auid(line: &mut String, auid: Auid) -> Result<(), AllocError>
-    ensures adds_the_name { OnOk result (string_bytes line.new ≡ string_bytes line.old ++ auid_text auid) }
+    ensures appended { OnOk result
+        (string_bytes line.new ≡ string_bytes line.old ++ auid_text auid) }
 {
     line.push_str(auid.text())
 }
 
-// Adds the segments of a home, between slashes.
+// Appends the segments of a home, between slashes.
 fn push_home(line: &mut String, home: &Home) -> Result<(), AllocError>
-    ensures adds_the_segments { OnOk result (string_bytes line.new ≡ string_bytes line.old ++ home_text home.now) }
+    ensures appended { OnOk result
+        (string_bytes line.new ≡ string_bytes line.old ++ home_text home.now) }
 {
     match home {
         Home::Global => line.push_str("/global/"),
@@ -29,12 +32,12 @@ fn push_home(line: &mut String, home: &Home) -> Result<(), AllocError>
     }
 }
 
-/// The printed id of a document, in which every octet is ASCII.
+/// The printed id of a document; every octet of it is ASCII.
 ///
 /// # Errors
-/// `NoMemory` for want of memory.
+/// `NoMemory` when out of memory.
 pub fn print_doc_id(alloc: Global, doc: &DocId) -> Result<Text, AllocError>
-    ensures prints_the_id { IfOk result (λ text. text ≡ id_text doc.now) }
+    ensures ok { IfOk result (λ text. text ≡ id_text doc.now) }
 {
     let mut line = String::new(alloc);
     push_auid(&mut line, doc.auid)?;

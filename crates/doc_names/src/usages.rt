@@ -9,14 +9,14 @@ use crate::doc_id::Auid;
 pub enum Usage {
     /// Lists of a user's contacts (RFC 4826, section 3).
     ResourceLists,
-    /// Services that stand for a list (RFC 4826, section 4).
+    /// Services that represent a list (RFC 4826, section 4).
     RlsServices,
 }
 
 impl Auid {
-    /// The name of the usage. Takes no memory.
+    /// The AUID. Does not allocate.
     pub fn text(self) -> &'static str
-        ensures names_the_usage { result.now ≡ auid_text self }
+        ensures exact { result.now ≡ auid_text self }
     {
         match self {
             Auid::ResourceLists => "resource-lists",
@@ -25,9 +25,10 @@ impl Auid {
         }
     }
 
-    /// The namespace of its documents, which a selector's unprefixed element names have. Takes no memory.
+    /// The namespace of its documents, which is the default namespace of a selector's element
+    /// names. Does not allocate.
     pub fn namespace(self) -> &'static str
-        ensures names_the_namespace { result.now ≡ namespace_of self }
+        ensures exact { result.now ≡ namespace_of self }
     {
         match self {
             Auid::ResourceLists => "urn:ietf:params:xml:ns:resource-lists",
@@ -36,9 +37,9 @@ impl Auid {
         }
     }
 
-    /// The same usage, where its documents are stored. Takes no memory.
-    pub fn stored(self) -> Option<Usage>
-        ensures tells_the_stored_usage { result ≡ usage_of self }
+    /// The usage with stored documents that has this AUID, if there is one. Does not allocate.
+    pub fn stored_usage(self) -> Option<Usage>
+        ensures exact { result ≡ usage_of self }
     {
         match self {
             Auid::ResourceLists => Some(Usage::ResourceLists),

@@ -9,11 +9,12 @@ use Rattle.httparse.proofs.OpenLemmas.{letter_is_token}
 use Rattle.std.specs.Int.{w32, to_be_bytes}
 use Rattle.httparse.specs.Grammar.{is_token_byte, AllPass}
 use Rattle.edit_journal.specs.Records.{block}
-use Rattle.edit_journal.specs.declared.reading.Stop.{Stop}
-use Rattle.edit_journal.specs.declared.reading.Stop.TheVariants.{Open, Wrong, NoMemory}
+use Rattle.edit_journal.specs.declared.field_parsers.FieldError.{FieldError}
+use Rattle.edit_journal.specs.declared.field_parsers.FieldError.TheVariants.{Open, Wrong, NoMemory}
 use Rattle.edit_journal.specs.inner.Reading.{Reads, Number, Block, Name}
 
--- lists that are one, and begin with parts of one length, have one part first, and one behind it
+-- two equal lists that begin with parts of the same length begin with the same part, and continue
+-- with the same rest
 pub first_part : {A : Type 0} (xs ys xs' ys' : List A) → length xs' ≡ length xs → xs' ++ ys' ≡ xs ++ ys → xs' ≡ xs
 first_part [] ys [] ys' same e = cc
 first_part [] ys (x' ∷ xs') ys' same e = absurd (omega arith)
@@ -36,8 +37,8 @@ pub block_is : (value : List ℕ) → block value ≡ to_be_bytes w32 (length va
 unfolding block
 block_is value = refl
 
--- a block of a number that isn't there
-pub block_stops : {B : Type 0} (seen : B → List ℕ) (bytes : List ℕ) (least most : ℕ) (stop : Stop) → Reads (λ n. n) (Number least most) bytes (Err stop) → Reads seen (Block least most) bytes (Err stop)
+-- a block whose number is missing
+pub block_stops : {B : Type 0} (seen : B → List ℕ) (bytes : List ℕ) (least most : ℕ) (stop : FieldError) → Reads (λ n. n) (Number least most) bytes (Err stop) → Reads seen (Block least most) bytes (Err stop)
 block_stops seen bytes least most Open (more, value, some, (is, low, high)) =
     let zeros = replicate value 0 in
     let size : length zeros ≡ value = length-replicate value 0 in (
@@ -51,7 +52,7 @@ block_stops seen bytes least most Wrong wrong = λ all value more rest is e.
     (e ∙ ap (λ l. l ++ rest) (is.0 ∙ block_is value) ∙ append_assoc (to_be_bytes w32 (length value)) value rest)
 block_stops seen bytes least most NoMemory none = tt
 
--- a token of so many bytes
+-- a token of n bytes
 letters : ℕ → List ℕ
 letters n = replicate n 65
 
@@ -63,7 +64,7 @@ letters_pass : (n : ℕ) → AllPass is_token_byte (letters n)
 unfolding letters
 letters_pass n = All-replicate (λ b. is_token_byte b ≡ true) n 65 letter_is_token
 
-pub name_stops : {B : Type 0} (seen : B → List ℕ) (bytes : List ℕ) (least most : ℕ) (stop : Stop) → 0 < least → Reads (λ n. n) (Number least most) bytes (Err stop) → Reads seen (Name least most) bytes (Err stop)
+pub name_stops : {B : Type 0} (seen : B → List ℕ) (bytes : List ℕ) (least most : ℕ) (stop : FieldError) → 0 < least → Reads (λ n. n) (Number least most) bytes (Err stop) → Reads seen (Name least most) bytes (Err stop)
 name_stops seen bytes least most Open one (more, value, some, (is, low, high)) =
     let all = letters value in
     let size : length all ≡ value = letters_length value in (
@@ -75,13 +76,13 @@ name_stops seen bytes least most Open one (more, value, some, (is, low, high)) =
 name_stops seen bytes least most Wrong one wrong = λ all value more rest is e. block_stops (λ (l : List ℕ). l) bytes least most Wrong wrong all value more rest is.0 e
 name_stops seen bytes least most NoMemory one none = tt
 
--- what stands behind the number
+-- what comes after the number
 pub behind_number : (bytes front rest : List ℕ) (len : ℕ) → bytes ≡ front ++ rest → front ≡ to_be_bytes w32 len → drop 4 bytes ≡ rest
 behind_number bytes front rest len split is =
     let size : length front ≡ 4 = ap length is in
     ap (drop 4) split ∙ drop-append-le 4 front rest (omega arith) ∙ ap (λ l. l ++ rest) (drop_all 4 front (omega arith))
 
--- A number and then fewer bytes than it says.
+-- A number, and then fewer bytes than it says.
 pub block_open : {B : Type 0} (seen : B → List ℕ) (bytes : List ℕ) (least most len : ℕ) (piece : List ℕ) → Reads (λ n. n) (Number least most) bytes (Ok len)
     → piece ≡ take len (drop 4 bytes) → length piece < len → Reads seen (Block least most) bytes (Err Open)
 block_open seen bytes least most len piece (front, rest, split, (is, low, high)) part short =
@@ -92,7 +93,7 @@ block_open seen bytes least most len piece (front, rest, split, (is, low, high))
     let size : length (rest ++ zeros) ≡ len = omega (arith, length-append rest zeros) in
     (zeros, rest ++ zeros, omega arith, (ap (λ l. l ++ zeros) split ∙ append_assoc front rest zeros ∙ ap (λ l. l ++ (rest ++ zeros)) is ∙ ap (λ n. to_be_bytes w32 n ++ (rest ++ zeros)) (sym size) ∙ sym (block_is (rest ++ zeros)), omega arith, omega arith))
 
--- A number and so many bytes.
+-- A number, and that many bytes.
 pub block_whole : (bytes : List ℕ) (least most len : ℕ) (piece : List ℕ) → Reads (λ n. n) (Number least most) bytes (Ok len)
     → piece ≡ take len (drop 4 bytes) → len ≤ length piece → (front rest : List ℕ) × (bytes ≡ front ++ rest) × Block least most front piece
 block_whole bytes least most len piece (front, rest, split, (is, low, high)) part long =
@@ -104,10 +105,10 @@ block_whole bytes least most len piece (front, rest, split, (is, low, high)) par
       (ap (λ l. l ++ piece) is ∙ ap (λ n. to_be_bytes w32 n ++ piece) (sym size) ∙ sym (block_is piece), omega arith, omega arith),
     )
 
--- A number and then fewer bytes than it says, all of a token.
+-- A number, and then fewer bytes than it says, all of them allowed in a token.
 pub name_open : {B : Type 0} (seen : B → List ℕ) (bytes : List ℕ) (least most len : ℕ) (piece : List ℕ) → 0 < least → Reads (λ n. n) (Number least most) bytes (Ok len)
     → piece ≡ take len (drop 4 bytes) → length piece < len → AllPass is_token_byte piece → Reads seen (Name least most) bytes (Err Open)
-name_open seen bytes least most len piece one (front, rest, split, (is, low, high)) part short pass =
+name_open seen bytes least most len piece one (front, rest, split, (is, low, high)) part short consume =
     let same : piece ≡ take len rest = part ∙ ap (take len) (behind_number bytes front rest len split is) in
     let whole : length rest < len = omega (arith, ap length same, length-take len rest) in
     let all : piece ≡ rest = same ∙ take_all len rest (omega arith) in
@@ -115,18 +116,18 @@ name_open seen bytes least most len piece one (front, rest, split, (is, low, hig
     let more_size : length more ≡ len - length rest = letters_length (len - length rest) in
     let size : length (rest ++ more) ≡ len = omega (arith, length-append rest more) in
     let passes : AllPass is_token_byte (rest ++ more) =
-    All-append (λ b. is_token_byte b ≡ true) rest more (subst (AllPass is_token_byte) all pass) (letters_pass (len - length rest)) in (
+    All-append (λ b. is_token_byte b ≡ true) rest more (subst (AllPass is_token_byte) all consume) (letters_pass (len - length rest)) in (
       more,
       rest ++ more,
       omega arith,
       ((ap (λ l. l ++ more) split ∙ append_assoc front rest more ∙ ap (λ l. l ++ (rest ++ more)) is ∙ ap (λ n. to_be_bytes w32 n ++ (rest ++ more)) (sym size) ∙ sym (block_is (rest ++ more)), omega arith, omega arith), (omega arith, passes)),
     )
 
--- one number is told by four bytes
+-- four bytes determine one number
 pub one_number : (a b : ℕ) → a < 2 ^ 32 → b < 2 ^ 32 → to_be_bytes w32 a ≡ to_be_bytes w32 b → a ≡ b
 one_number a b fits fits' e = sym (from_be_bytes-to_be_bytes_4 a fits) ∙ ap (from_be_bytes w32) e ∙ from_be_bytes-to_be_bytes_4 b fits'
 
--- A number and then bytes of which one is none of a token.
+-- A number, and then bytes of which one is not allowed in a token.
 pub name_wrong : {B : Type 0} (seen : B → List ℕ) (bytes : List ℕ) (least most len : ℕ) (piece : List ℕ) → most < 2 ^ 32 → Reads (λ n. n) (Number least most) bytes (Ok len)
     → piece ≡ take len (drop 4 bytes) → ¬ (AllPass is_token_byte piece) → Reads seen (Name least most) bytes (Err Wrong)
 name_wrong seen bytes least most len piece fits (front, rest, split, (is, low, high)) part fails = λ all value more after named e.
@@ -143,7 +144,7 @@ name_wrong seen bytes least most len piece fits (front, rest, split, (is, low, h
     let front_is : piece ≡ take (length piece) value = first_part (take (length piece) value) (drop (length piece) value ++ after) piece (drop len rest ++ more) (sym (length-take-le (length piece) value short)) parts in
     fails (subst (AllPass is_token_byte) (sym front_is) (All-take (λ b. is_token_byte b ≡ true) (length piece) value named.1.1))
 
--- a block is told by the bytes that it begins
+-- a block is determined by the bytes that it begins
 pub one_block : (a b x y : List ℕ) → length a < 2 ^ 32 → length b < 2 ^ 32 → block a ++ x ≡ block b ++ y → (a ≡ b) × (x ≡ y)
 one_block a b x y fits fits' e =
     let joined : to_be_bytes w32 (length a) ++ (a ++ x) ≡ to_be_bytes w32 (length b) ++ (b ++ y) =
@@ -152,7 +153,7 @@ one_block a b x y fits fits' e =
     let behind : a ++ x ≡ b ++ y = second_part (to_be_bytes w32 (length b)) (b ++ y) (to_be_bytes w32 (length a)) (a ++ x) refl joined in
     (first_part b y a x size behind, second_part b y a x size behind)
 
--- what stands behind a front of that length
+-- what comes after a front of this length
 pub behind : (bytes front rest : List ℕ) (n : ℕ) → bytes ≡ front ++ rest → length front ≡ n → drop n bytes ≡ rest
 behind bytes front rest n split size =
     ap (drop n) split ∙ drop-append-le n front rest (omega arith) ∙ ap (λ l. l ++ rest) (drop_all n front (omega arith))

@@ -6,8 +6,8 @@ use Rattle.std.specs.Int.{w16, w32, to_be_bytes}
 use Rattle.http_wire.specs.declared.request.Field.{Field}
 use Rattle.http_wire.specs.declared.request.Request.{Request}
 use Rattle.edit_journal.specs.Records.{method_number, block, record_content, field_text}
-use Rattle.edit_journal.specs.declared.reading.Stop.{Stop}
-use Rattle.edit_journal.specs.declared.reading.Stop.TheVariants.{Open, Wrong, NoMemory}
+use Rattle.edit_journal.specs.declared.field_parsers.FieldError.{FieldError}
+use Rattle.edit_journal.specs.declared.field_parsers.FieldError.TheVariants.{Open, Wrong, NoMemory}
 use Rattle.edit_journal.specs.inner.Reading.{Reads, Number, Block, Method, Rest, Content, Record}
 use Rattle.edit_journal.proofs.Blocks.{second_part, first_part, one_block, one_number, block_is}
 use Rattle.edit_journal.proofs.Lengths.{block_length, content_length}
@@ -57,7 +57,7 @@ rest_of_content len all request is = record {
   size = omega (arith, content_length request, ap length is.1, is.2, length-append (flat_map field_text request.fields) (block request.body), block_length request.body);
 }
 
-pub content_no_method : {B : Type 0} (seen : B → Request) (bytes : List ℕ) (len : ℕ) (stop : Stop) → 11 ≤ len → len ≤ 300000 → Reads (λ (l : List ℕ). l) Method bytes (Err stop) → Reads seen (Content len) bytes (Err stop)
+pub content_no_method : {B : Type 0} (seen : B → Request) (bytes : List ℕ) (len : ℕ) (stop : FieldError) → 11 ≤ len → len ≤ 300000 → Reads (λ (l : List ℕ). l) Method bytes (Err stop) → Reads seen (Content len) bytes (Err stop)
 content_no_method seen bytes len Open some fits (more, method, longer, named) =
     let rest = rest_there (len - 5) (omega arith) in
     let same : len - 5 ≡ len - (5 + length {A = ℕ} []) = omega arith in (
@@ -72,7 +72,7 @@ content_no_method seen bytes len Wrong some fits wrong = λ all request more beh
     ((block request.target ++ (to_be_bytes w16 (length request.fields) ++ (flat_map field_text request.fields ++ block request.body))) ++ behind) (refl, is.0.0.method) (e ∙ ap (λ l. l ++ behind) is.1)
 content_no_method seen bytes len NoMemory some fits none = tt
 
-pub content_no_target : {B C : Type 0} (seen : B → Request) (seen' : C → List ℕ) (bytes front tail method : List ℕ) (len : ℕ) (stop : Stop) → 11 ≤ len → len ≤ 300000 → bytes ≡ front ++ tail → Method front method
+pub content_no_target : {B C : Type 0} (seen : B → Request) (seen' : C → List ℕ) (bytes front tail method : List ℕ) (len : ℕ) (stop : FieldError) → 11 ≤ len → len ≤ 300000 → bytes ≡ front ++ tail → Method front method
     → Reads seen' (Block 0 (len - 11)) tail (Err stop) → Reads seen (Content len) bytes (Err stop)
 content_no_target seen seen' bytes front tail method len Open some fits split named (more, target, longer, (is, low, high)) =
     let rest = rest_there (len - (5 + length target)) (omega arith) in
@@ -91,7 +91,7 @@ content_no_target seen seen' bytes front tail method len Wrong some fits split n
     wrong (block request.target) request.target more (after ++ behind) (refl, omega arith, omega (arith, content_length request, ap length is.1, is.2)) (next ∙ append_assoc (block request.target) after behind)
 content_no_target seen seen' bytes front tail method len NoMemory some fits split named none = tt
 
-pub content_no_rest : {B C : Type 0} (seen : B → Request) (seen' : C → List Field × List ℕ) (bytes front tail method front' tail' target : List ℕ) (len : ℕ) (stop : Stop) → 11 ≤ len → len ≤ 300000 → bytes ≡ front ++ tail → Method front method
+pub content_no_rest : {B C : Type 0} (seen : B → Request) (seen' : C → List Field × List ℕ) (bytes front tail method front' tail' target : List ℕ) (len : ℕ) (stop : FieldError) → 11 ≤ len → len ≤ 300000 → bytes ≡ front ++ tail → Method front method
     → tail ≡ front' ++ tail' → Block 0 (len - 11) front' target → Reads seen' (Rest (len - (5 + length target))) tail' (Err stop) → Reads seen (Content len) bytes (Err stop)
 content_no_rest seen seen' bytes front tail method front' tail' target len Open some fits split named split' is (more, value, longer, rest) =
     let joined : bytes ++ more ≡ front ++ (block target ++ (tail' ++ more)) =
@@ -132,7 +132,7 @@ record_with : (bytes front tail : List ℕ) (len : ℕ) (request : Request) → 
 record_with bytes front tail len request split is told =
     (told.0, split ∙ ap (λ l. l ++ tail) is ∙ ap (λ n. to_be_bytes w32 n ++ tail) (sym told.2) ∙ sym (block_is tail) ∙ ap block told.1)
 
-pub record_no_number : {B : Type 0} (seen : B → Request) (bytes : List ℕ) (stop : Stop) → Reads (λ n. n) (Number 11 300000) bytes (Err stop) → Reads seen Record bytes (Err stop)
+pub record_no_number : {B : Type 0} (seen : B → Request) (bytes : List ℕ) (stop : FieldError) → Reads (λ n. n) (Number 11 300000) bytes (Err stop) → Reads seen Record bytes (Err stop)
 record_no_number seen bytes Open (more, len, longer, (is, low, high)) =
     let rest = content_there len low high in
     (more ++ rest.0, rest.1, omega (arith, length-append more rest.0), record_with (bytes ++ (more ++ rest.0)) (bytes ++ more) rest.0 len rest.1 (sym (append_assoc bytes more rest.0)) is rest.2)
@@ -141,7 +141,7 @@ record_no_number seen bytes Wrong wrong = λ all request more behind is e.
     (e ∙ ap (λ l. l ++ behind) (is.1 ∙ block_is (record_content request)) ∙ append_assoc (to_be_bytes w32 (length (record_content request))) (record_content request) behind)
 record_no_number seen bytes NoMemory none = tt
 
-pub record_on : (bytes front tail : List ℕ) (len : ℕ) (result : Result Request Stop) → bytes ≡ front ++ tail → Number 11 300000 front len → Reads (λ (r : Request). r) (Content len) tail result → Reads (λ (r : Request). r) Record bytes result
+pub record_on : (bytes front tail : List ℕ) (len : ℕ) (result : Result Request FieldError) → bytes ≡ front ++ tail → Number 11 300000 front len → Reads (λ (r : Request). r) (Content len) tail result → Reads (λ (r : Request). r) Record bytes result
 record_on bytes front tail len (Ok request) split is (front', tail', split', told) =
     (front ++ front', tail', split ∙ ap (λ l. front ++ l) split' ∙ sym (append_assoc front front' tail'), record_with (front ++ front') front front' len request refl is.0 told)
 record_on bytes front tail len (Err Open) split is (more, request, longer, told) =

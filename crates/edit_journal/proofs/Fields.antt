@@ -3,8 +3,8 @@ use Rattle.std.proofs.Common.{◌≡◌, ℕ, zero, suc, ◌+◌, ◌*◌, ◌-�
 use Rattle.std.specs.Borrow.{Bor}
 use Rattle.http_wire.specs.declared.request.Field.{Field}
 use Rattle.edit_journal.specs.Records.{block, field_text}
-use Rattle.edit_journal.specs.declared.reading.Stop.{Stop}
-use Rattle.edit_journal.specs.declared.reading.Stop.TheVariants.{Open, Wrong, NoMemory}
+use Rattle.edit_journal.specs.declared.field_parsers.FieldError.{FieldError}
+use Rattle.edit_journal.specs.declared.field_parsers.FieldError.TheVariants.{Open, Wrong, NoMemory}
 use Rattle.std.specs.Prelude.{replicate}
 use Rattle.std.proofs.lemmas.List.{length-replicate, drop-append-le, drop_all}
 use Rattle.std.proofs.lemmas.Result.{MatchResult-at_ok, err_from_is_err_and}
@@ -18,8 +18,8 @@ use Rattle.edit_journal.proofs.Blocks.{one_block}
 use Rattle.edit_journal.proofs.Lengths.{block_length, field_length}
 use Rattle.edit_journal.specs.inner.Reading.{Reads, Block, Name, Value, FieldPart, FieldsAndBody, HasRoom}
 
--- a field whose name isn't there
-pub field_no_name : (bytes : List ℕ) (others left : ℕ) (stop : Stop) → 9 * others + 13 ≤ left → Reads (λ (piece : Bor (List ℕ)). piece.now) (Name 1 (left - 12 - 9 * others)) bytes (Err stop)
+-- a field whose name is missing
+pub field_no_name : (bytes : List ℕ) (others left : ℕ) (stop : FieldError) → 9 * others + 13 ≤ left → Reads (λ (piece : Bor (List ℕ)). piece.now) (Name 1 (left - 12 - 9 * others)) bytes (Err stop)
     → Reads (λ (f : Field). f) (FieldPart others left) bytes (Err stop)
 field_no_name bytes others left Open room (more, name, some, ((is, low, high), token)) =
     let value = replicate (left - 12 - 9 * others - length name) 0 in
@@ -34,8 +34,8 @@ field_no_name bytes others left Wrong room wrong = λ all field more rest is e.
     (e ∙ ap (λ l. l ++ rest) is.0 ∙ append_assoc (block field.name) (block field.value) rest)
 field_no_name bytes others left NoMemory room none = tt
 
--- a field whose value isn't there
-pub field_no_value : (bytes front rest name : List ℕ) (others left : ℕ) (stop : Stop) → left ≤ 300000 → bytes ≡ front ++ rest → Name 1 (left - 12 - 9 * others) front name
+-- a field whose value is missing
+pub field_no_value : (bytes front rest name : List ℕ) (others left : ℕ) (stop : FieldError) → left ≤ 300000 → bytes ≡ front ++ rest → Name 1 (left - 12 - 9 * others) front name
     → Reads (λ (piece : Bor (List ℕ)). piece.now) (Value others (left - 4 - length name)) rest (Err stop) → Reads (λ (f : Field). f) (FieldPart others left) bytes (Err stop)
 field_no_value bytes front rest name others left Open fits split named (more, value, some, (is, within, room)) =
     let field : Field = record { name = name; value = value } in
@@ -52,7 +52,7 @@ field_no_value bytes front rest name others left Wrong fits split named wrong = 
     wrong (block field.value) field.value more behind (refl, omega (arith, is.2, ap length one.0), subst (HasRoom others) same is.3) one.1
 field_no_value bytes front rest name others left NoMemory fits split named none = tt
 
--- a field that is there
+-- a field that is complete
 pub field_whole : (bytes front rest name front' rest' value : List ℕ) (others left : ℕ) → bytes ≡ front ++ rest → Name 1 (left - 12 - 9 * others) front name
     → rest ≡ front' ++ rest' → Value others (left - 4 - length name) front' value → Reads (λ (f : Field). f) (FieldPart others left) bytes (Ok (record { name = name; value = value }))
 field_whole bytes front rest name front' rest' value others left split named split' is =
@@ -62,7 +62,7 @@ field_whole bytes front rest name front' rest' value others left split named spl
     let same : left - 4 - length name - (4 + length value) ≡ left - length (front ++ front') = omega arith in
     (front ++ front', rest', split ∙ ap (λ l. front ++ l) split' ∙ sym (append_assoc front front' rest'), (joined, named.1, omega (arith, named.0.1, is.1), subst (HasRoom others) same is.2))
 
--- fields and a body that fill so many bytes, where they have room
+-- fields and a body that fill `left` bytes, where they fit
 pub fields_there : (count left : ℕ) → HasRoom count left → (bytes : List ℕ) × (value : List Field × List ℕ) × FieldsAndBody count left bytes value
 fields_there zero left room =
     let body = replicate (left - 4) 0 in
@@ -88,7 +88,7 @@ fields_there (suc count) left room =
       },
     )
 
--- so many fields and a body have room in their bytes
+-- the fields and a body fit their bytes
 pub fields_least : (fields : List Field) → All (λ (f : Field). IsToken f.name) fields → 9 * length fields ≤ length (flat_map field_text fields)
 fields_least [] names = omega arith
 fields_least (field ∷ fields) names =
@@ -109,7 +109,7 @@ body_is : (bytes : List ℕ) (left : ℕ) (fields : List Field) (body : List ℕ
 body_is bytes left [] body none is = is
 body_is bytes left (f ∷ fields) body none is = absurd (omega arith)
 
--- the first of the fields, and what stands behind it
+-- the first of the fields, and what comes after it
 first_field : (others left : ℕ) (all : List ℕ) (fields : List Field) (body : List ℕ) → length fields ≡ suc others → all ≡ flat_map field_text fields ++ block body
     → All (λ (f : Field). IsToken f.name) fields → length body ≤ 262144 → length all ≡ left → (field : Field) × (behind : List ℕ) × (all ≡ field_text field ++ behind) × FieldPart others left (field_text field) field
 first_field others left all [] body some is names short size = absurd (omega arith)
@@ -123,7 +123,7 @@ first_field others left all (field ∷ fields) body some is names short size =
     (field, behind, split, (refl, All-head (λ (f : Field). IsToken f.name) field fields names, omega arith, fields_room others (left - length (field_text field)) behind (fields, body) part))
 
 -- no fields: the body fills the bytes
-pub body_reads : (bytes : List ℕ) (left : ℕ) (stop : Stop) → HasRoom 0 left → Reads (λ (piece : Bor (List ℕ)). piece.now) (Block (left - 4) (left - 4)) bytes (Err stop)
+pub body_reads : (bytes : List ℕ) (left : ℕ) (stop : FieldError) → HasRoom 0 left → Reads (λ (piece : Bor (List ℕ)). piece.now) (Block (left - 4) (left - 4)) bytes (Err stop)
     → {B : Type 0} (seen : B → List Field × List ℕ) → Reads seen (FieldsAndBody 0 left) bytes (Err stop)
 body_reads bytes left Open room (more, body, some, (is, low, high)) seen =
     let most = room.1 refl in
@@ -133,8 +133,8 @@ body_reads bytes left Wrong room wrong seen = λ all value more rest is e.
     wrong all value.1 more rest (only, omega (arith, ap length only, block_length value.1, is.size), omega (arith, ap length only, block_length value.1, is.size)) e
 body_reads bytes left NoMemory room none seen = tt
 
--- a first field that isn't there
-pub fields_no_field : {B : Type 0} (seen : B → List Field × List ℕ) (bytes : List ℕ) (others left : ℕ) (stop : Stop) → Reads (λ (f : Field). f) (FieldPart others left) bytes (Err stop)
+-- a first field that is missing
+pub fields_no_field : {B : Type 0} (seen : B → List Field × List ℕ) (bytes : List ℕ) (others left : ℕ) (stop : FieldError) → Reads (λ (f : Field). f) (FieldPart others left) bytes (Err stop)
     → Reads seen (FieldsAndBody (suc others) left) bytes (Err stop)
 fields_no_field seen bytes others left Open (more, field, some, (is, token, within, room)) =
     let rest = fields_there others (left - length (bytes ++ more)) room in (
@@ -164,7 +164,7 @@ fields_both front front' field value others left part is = record {
   size = omega (arith, length-append front front', is.size, part.2);
 }
 
--- one field is told by the bytes that it begins
+-- a field is determined by the bytes that it begins
 one_field : (f g : Field) (x y : List ℕ) → length f.name < 2 ^ 32 → length f.value < 2 ^ 32 → length g.name < 2 ^ 32 → length g.value < 2 ^ 32
     → field_text f ++ x ≡ field_text g ++ y → (length (field_text f) ≡ length (field_text g)) × (x ≡ y)
 one_field f g x y a b c d e =
@@ -188,8 +188,8 @@ fields_apart front rest field others left part wrong all (f ∷ fields) body mor
     wrong tail (fields, body) more behind
     (record { is = refl; fields = omega arith; names = All-tail (λ (g : Field). IsToken g.name) f fields names; body = short; size = omega (arith, one.0, long, ap length part.0) }) one.1
 
--- a first field, and what stands behind it
-pub fields_on : {B : Type 0} (seen seen' : B → List Field × List ℕ) (bytes front rest : List ℕ) (field : Field) (others left : ℕ) (result : Result B Stop) → bytes ≡ front ++ rest → FieldPart others left front field
+-- a first field, and what comes after it
+pub fields_on : {B : Type 0} (seen seen' : B → List Field × List ℕ) (bytes front rest : List ℕ) (field : Field) (others left : ℕ) (result : Result B FieldError) → bytes ≡ front ++ rest → FieldPart others left front field
     → ((v : B) → result ≡ Ok v → seen v ≡ (field ∷ (seen' v).0, (seen' v).1)) → left ≤ 300000
     → Reads seen' (FieldsAndBody others (left - length front)) rest result → Reads seen (FieldsAndBody (suc others) left) bytes result
 fields_on seen seen' bytes front rest field others left (Ok v) split part same fits (front', rest', split', is) = (
@@ -213,15 +213,15 @@ behind_fields : (all front rest : List Field) (n : ℕ) → all ≡ front ++ res
 behind_fields all front rest n split size =
     ap (drop n) split ∙ drop-append-le n front rest (omega arith) ∙ ap (λ l. l ++ rest) (drop_all n front (omega arith))
 
--- one item more at the end of a list that then grew
+-- one more item at the end of a list that then grew
 pub grown : (old new : List Field) (x : Field) → take (length (old ++ x ∷ [])) new ≡ old ++ x ∷ [] → (drop (length old) new ≡ x ∷ drop (length (old ++ x ∷ [])) new) × (take (length old) new ≡ old)
 grown old new x same =
     let more = drop (length (old ++ x ∷ [])) new in
     let split : new ≡ old ++ x ∷ more = sym (take-append-drop (length (old ++ x ∷ [])) new) ∙ ap (λ l. l ++ more) same ∙ append_assoc old (x ∷ []) more in
     (behind_fields new old (x ∷ more) (length old) split refl, ap (take (length old)) split ∙ take-append_seam old (x ∷ more))
 
--- the same, at a number of fields that may be none
-pub body_stops : {B : Type 0} (seen : B → List Field × List ℕ) (bytes : List ℕ) (count left : ℕ) (stop : Stop) → count ≡ 0 → HasRoom count left
+-- one more item, at a number of fields that may be 0
+pub body_stops : {B : Type 0} (seen : B → List Field × List ℕ) (bytes : List ℕ) (count left : ℕ) (stop : FieldError) → count ≡ 0 → HasRoom count left
     → Reads (λ (piece : Bor (List ℕ)). piece.now) (Block (left - 4) (left - 4)) bytes (Err stop) → Reads seen (FieldsAndBody count left) bytes (Err stop)
 body_stops seen bytes zero left stop none room reads = body_reads bytes left stop room reads seen
 body_stops seen bytes (suc count) left stop none room reads = absurd (omega arith)
@@ -239,14 +239,14 @@ body_whole fields count left front piece body none room is same =
       size = omega (arith, ap length is.0, block_length piece, is.1, is.2, room.0);
     }
 
-pub field_stops : {B : Type 0} (seen : B → List Field × List ℕ) (bytes : List ℕ) (count left : ℕ) (stop : Stop) → 0 < count
+pub field_stops : {B : Type 0} (seen : B → List Field × List ℕ) (bytes : List ℕ) (count left : ℕ) (stop : FieldError) → 0 < count
     → Reads (λ (f : Field). f) (FieldPart (count - 1) left) bytes (Err stop) → Reads seen (FieldsAndBody count left) bytes (Err stop)
 field_stops seen bytes zero left stop some reads = absurd (omega arith)
 field_stops seen bytes (suc others) left stop some reads =
     let same : suc others - 1 ≡ others = omega arith in
     fields_no_field seen bytes others left stop (subst (λ n. Reads (λ (f : Field). f) (FieldPart n left) bytes (Err stop)) same reads)
 
-pub fields_go_on : (old mid new : List Field) (bytes front rest : List ℕ) (field : Field) (count left used : ℕ) (result : Result (List ℕ) Stop) → 0 < count → left ≤ 300000
+pub fields_go_on : (old mid new : List Field) (bytes front rest : List ℕ) (field : Field) (count left used : ℕ) (result : Result (List ℕ) FieldError) → 0 < count → left ≤ 300000
     → bytes ≡ front ++ rest → FieldPart (count - 1) left front field → used ≡ length front → mid ≡ old ++ field ∷ [] → OnOk result (take (length mid) new ≡ mid)
     → Reads (λ (body : List ℕ). (drop (length mid) new, body)) (FieldsAndBody (count - 1) (left - used)) rest result
     → Reads (λ (body : List ℕ). (drop (length old) new, body)) (FieldsAndBody count left) bytes result
@@ -262,12 +262,12 @@ fields_go_on old mid new bytes front rest field (suc others) left used result so
     (subst (λ n. Reads (λ (body : List ℕ). (drop (length mid) new, body)) (FieldsAndBody n (left - length front)) rest result) less
     (subst (λ n. Reads (λ (body : List ℕ). (drop (length mid) new, body)) (FieldsAndBody (suc others - 1) (left - n)) rest result) size reads))
 
-pub fields_grow : (old mid new : List Field) (field : Field) (result : Result (List ℕ) Stop) → mid ≡ old ++ field ∷ [] → OnOk result (take (length mid) new ≡ mid) → OnOk result (take (length old) new ≡ old)
+pub fields_grow : (old mid new : List Field) (field : Field) (result : Result (List ℕ) FieldError) → mid ≡ old ++ field ∷ [] → OnOk result (take (length mid) new ≡ mid) → OnOk result (take (length old) new ≡ old)
 fields_grow old mid new field (Ok v) pushed kept = (grown old new field (subst (λ (l : List Field). take (length l) new ≡ l) pushed kept)).1
 fields_grow old mid new field (Err e) pushed kept = tt
 
--- what the exit of a `?` answers
-pub stops_with : {A B : Type 0} (seen : B → A) (P : List ℕ → A → Type 0) (bytes : List ℕ) (result : Result B Stop) (stop : Stop) → IsErrAnd result (λ e. e ≡ stop) → Reads seen P bytes (Err stop) → Reads seen P bytes result
+-- what the exit of a `?` returns
+pub stops_with : {A B : Type 0} (seen : B → A) (P : List ℕ → A → Type 0) (bytes : List ℕ) (result : Result B FieldError) (stop : FieldError) → IsErrAnd result (λ e. e ≡ stop) → Reads seen P bytes (Err stop) → Reads seen P bytes result
 stops_with seen P bytes result stop is reads =
     let p = err_from_is_err_and result is in
     subst (λ r. Reads seen P bytes r) (sym (p.1 ∙ ap (λ e. Err e) p.2)) reads

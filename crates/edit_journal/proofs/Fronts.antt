@@ -1,25 +1,25 @@
--- What was read at the front of some bytes, in the words of texts.
+-- What was read at the front of some bytes, in terms of texts.
 use Rattle.std.proofs.Common.{◌≡◌, ℕ, ◌+◌, List, [], ◌++◌, length, Ok, Err, refl, sym, ap, ◌∙◌, arith, append-nil, append_assoc, length-append}
 use Rattle.http_wire.specs.declared.request.Request.{Request}
 use Rattle.edit_journal.specs.Records.{record_of, record_content}
 use Rattle.edit_journal.specs.Texts.{BeginsWith, HasNoRecord, IsTorn, IsDamaged}
-use Rattle.edit_journal.specs.declared.reading.Stop.TheVariants.{Open, Wrong}
-use Rattle.edit_journal.specs.inner.Reading.{Reads, Record, worth}
+use Rattle.edit_journal.specs.declared.field_parsers.FieldError.TheVariants.{Open, Wrong}
+use Rattle.edit_journal.specs.inner.Reading.{Reads, Record, padded_u32}
 use Rattle.std.specs.Int.{w32, to_be_bytes}
 use Rattle.edit_journal.proofs.Blocks.{block_is}
 use Rattle.edit_journal.proofs.Lengths.{record_length}
 use Rattle.edit_journal.proofs.Numbers.{number_there}
 use Rattle.edit_journal.proofs.Wholes.{no_record_in}
 
--- the length of the record that stands at the front
-record_len_is : (request : Request) (bytes rest : List ℕ) → BeginsWith bytes request rest → 4 + worth bytes 0 ≡ length (record_of request)
+-- the length of the record at the front
+record_len_is : (request : Request) (bytes rest : List ℕ) → BeginsWith bytes request rest → 4 + padded_u32 bytes 0 ≡ length (record_of request)
 record_len_is request bytes rest (told, split) =
-    let number : worth bytes 0 ≡ length (record_content request) = number_there bytes (length (record_content request)) (record_content request ++ rest) (omega (arith, told.0.short))
+    let number : padded_u32 bytes 0 ≡ length (record_content request) = number_there bytes (length (record_content request)) (record_content request ++ rest) (omega (arith, told.0.short))
     (split ∙ ap (λ l. l ++ rest) (block_is (record_content request)) ∙ append_assoc (to_be_bytes w32 (length (record_content request))) (record_content request) rest) in
     omega (arith, record_length request)
 
 pub front_whole : (bytes : List ℕ) (request : Request) → Reads (λ (r : Request). r) Record bytes (Ok request)
-    → (rest : List ℕ) × BeginsWith bytes request rest × (4 + worth bytes 0 ≡ length (record_of request))
+    → (rest : List ℕ) × BeginsWith bytes request rest × (4 + padded_u32 bytes 0 ≡ length (record_of request))
 front_whole bytes request (front, rest, split, (told, is)) =
     let begins : BeginsWith bytes request rest = (told, split ∙ ap (λ l. l ++ rest) is) in
     (rest, begins, record_len_is request bytes rest begins)

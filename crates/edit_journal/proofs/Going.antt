@@ -1,9 +1,9 @@
 -- One call on a journal after another.
 use Rattle.std.proofs.Common.{◌≡◌, ◌⊎◌, inl, inr, refl, ◌∙◌, arith}
-use Rattle.xcap_io.specs.Causes.{Rose}
-use Rattle.edit_journal.specs.Journals.{JournalState, Goes}
+use Rattle.xcap_io.specs.Causes.{CountRises}
+use Rattle.edit_journal.specs.Journals.{JournalState, IsJournalProgress}
 
-pub goes_none : (journal : JournalState) → Goes journal journal
+pub goes_none : (journal : JournalState) → IsJournalProgress journal journal
 goes_none journal = record {
   later = omega arith;
   later_beneath = omega arith;
@@ -13,11 +13,11 @@ goes_none journal = record {
   same_aside = refl;
 }
 
-cause_on : (old mid new : JournalState) → Goes old mid → Goes mid new → (mid.faults ≡ 0) ⊎ Rose old.beneath mid.beneath → (new.faults ≡ 0) ⊎ Rose old.beneath new.beneath
+cause_on : (old mid new : JournalState) → IsJournalProgress old mid → IsJournalProgress mid new → (mid.faults ≡ 0) ⊎ CountRises old.beneath mid.beneath → (new.faults ≡ 0) ⊎ CountRises old.beneath new.beneath
 cause_on old mid new first next (inl none) = elim (next.cause none) [ inl none' ↦ inl none' | inr rose ↦ inr (omega (arith, first.later_beneath, rose)) ]
 cause_on old mid new first next (inr rose) = inr (omega (arith, next.later_beneath, rose))
 
-pub goes_on : (old mid new : JournalState) → Goes old mid → Goes mid new → Goes old new
+pub goes_on : (old mid new : JournalState) → IsJournalProgress old mid → IsJournalProgress mid new → IsJournalProgress old new
 goes_on old mid new first next = record {
   later = omega (arith, first.later, next.later);
   later_beneath = omega (arith, first.later_beneath, next.later_beneath);

@@ -1,14 +1,14 @@
--- Records that a journal holds stay whole.
+-- Complete records in a journal stay complete.
 use Rattle.std.proofs.Common.{◌≡◌, ℕ, ◌+◌, inl, inr, Bool, true, false, List, [], ◌∷◌, ◌++◌, length, take, drop, Result, Ok, Err, refl, sym, ap, ◌∙◌, subst, arith, append-nil, append_assoc, length-append}
 use Rattle.std.proofs.lemmas.List.{drop_all}
 use Rattle.std.proofs.Math.Seq.{drop-append-le, take-append_seam}
 use Rattle.std.proofs.lemmas.List.Elements.{All-append, All-cons, All-nil}
 use Rattle.std.specs.Bool.{MatchBool}
 use Rattle.http_wire.specs.declared.request.Request.{Request}
-use Rattle.edit_journal.specs.declared.log.AppendFault.{AppendFault}
-use Rattle.edit_journal.specs.declared.log.AppendFault.TheVariants.{Failed, NoMemory}
+use Rattle.edit_journal.specs.declared.journal_log.AppendFault.{AppendFault}
+use Rattle.edit_journal.specs.declared.journal_log.AppendFault.TheVariants.{Failed, NoMemory}
 use Rattle.edit_journal.specs.Records.{record_of, recorded, IsRecordable}
-use Rattle.edit_journal.specs.Texts.{text, IsTold}
+use Rattle.edit_journal.specs.Texts.{text, IsRecordedRequest}
 use Rattle.edit_journal.specs.Journals.{JournalState, IsFirstOf}
 use Rattle.edit_journal.specs.Logs.{LogState, HoldsRecords, KeepsWhole, AddsRecord, with_request, log_with}
 
@@ -19,14 +19,14 @@ text-append (x ∷ xs) ys = ap (λ l. record_of x ++ l) (text-append xs ys) ∙ 
 pub text_one_more : (requests : List Request) (request : Request) → text (requests ++ recorded request ∷ []) ≡ text requests ++ record_of request
 text_one_more requests request = text-append requests (recorded request ∷ []) ∙ ap (λ l. text requests ++ l) (append-nil (record_of request))
 
-pub is_told : (request : Request) → IsRecordable request → IsTold (recorded request)
+pub is_told : (request : Request) → IsRecordable request → IsRecordedRequest (recorded request)
 is_told request can = (record { method = can.method; names = can.names; few = can.few; body = can.body; short = can.short }, refl)
 
--- a record, or some first bytes of one
+-- a record, or a prefix of one
 abbrev BeginsRecord : List ℕ → Type 0
-BeginsRecord bytes = (request : Request) × IsTold request × IsFirstOf bytes (record_of request)
+BeginsRecord bytes = (request : Request) × IsRecordedRequest request × IsFirstOf bytes (record_of request)
 
--- the whole records are the first bytes
+-- the complete records are a prefix of the bytes
 pub whole_first : (log : LogState) (requests : List Request) (bytes : List ℕ) (holds : HoldsRecords log requests bytes) → take log.len bytes ≡ text requests
 whole_first log requests bytes holds =
     ap (λ n. take n bytes) (sym holds.len) ∙ ap (take (length (text requests))) holds.split ∙ take-append_seam (text requests) holds.rest
@@ -37,12 +37,12 @@ behind_whole log requests bytes holds =
     ∙ drop-append-le (length (text requests)) (text requests) holds.rest (omega arith)
     ∙ ap (λ l. l ++ holds.rest) (drop_all (length (text requests)) (text requests) (omega arith))
 
--- what stands behind the whole records begins one, or nothing does
+-- what comes after the complete records begins one, or is empty
 behind_begins : (is_torn : Bool) (request : Request) (rest : List ℕ) → IsRecordable request → MatchBool is_torn (BeginsRecord rest) (rest ≡ []) → BeginsRecord rest
 behind_begins true request rest can behind = behind
 behind_begins false request rest can behind = (recorded request, is_told request can, (record_of request, ap (λ l. l ++ record_of request) (sym behind)))
 
--- some first ones of what begins a record begin it
+-- a prefix of what begins a record begins it
 begins_too : (bytes all : List ℕ) → IsFirstOf bytes all → BeginsRecord all → BeginsRecord bytes
 begins_too bytes all p q = (q.0, q.1, (p.0 ++ q.2.0, q.2.1 ∙ ap (λ l. l ++ q.2.0) p.1 ∙ append_assoc bytes p.0 q.2.0))
 
@@ -50,7 +50,7 @@ holds_added : (log : LogState) (request : Request) (requests : List Request) (ol
     → HoldsRecords (log_with log (record_of request)) (requests ++ recorded request ∷ []) new
 holds_added log request requests old new can behind holds = record {
   rest = [];
-  told = All-append IsTold requests (recorded request ∷ []) holds.told (All-cons IsTold (recorded request) [] (is_told request can) (All-nil IsTold));
+  told = All-append IsRecordedRequest requests (recorded request ∷ []) holds.told (All-cons IsRecordedRequest (recorded request) [] (is_told request can) (All-nil IsRecordedRequest));
   split = behind ∙ ap (λ l. l ++ record_of request) (whole_first log requests old holds) ∙ sym (text_one_more requests request) ∙ sym (append-nil (text (requests ++ recorded request ∷ [])));
   len = ap length (text_one_more requests request) ∙ length-append (text requests) (record_of request) ∙ ap (λ n. n + length (record_of request)) holds.len;
   behind = refl;
@@ -69,8 +69,8 @@ holds_kept log request requests old new can kept holds = record {
   ];
 }
 
--- A journal that holds the records of some requests holds those and the new one after a record was added, or at a fault those,
--- and behind them at most some first bytes of a record.
+-- A journal with the records of some requests has those and the new one after a record was added,
+-- or at a fault those, and after them at most a prefix of a record.
 pub adding_keeps_records : (log log' : LogState) (journal journal' : JournalState) (request : Request) (result : Result (Unit {0}) AppendFault)
     → IsRecordable request → AddsRecord log journal (record_of request) result log' journal'
     → (requests : List Request) → HoldsRecords log requests journal.held → HoldsRecords log' (with_request result requests request) journal'.held

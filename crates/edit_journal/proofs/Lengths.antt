@@ -34,7 +34,7 @@ content_length request =
 pub record_length : (request : Request) → length (record_of request) ≡ 4 + length (record_content request)
 record_length request = block_length (record_content request)
 
--- one field more
+-- one more field
 pub fields_more : (fields : List Field) (i : ℕ) (d : Field) → i < length fields → flat_map field_text (take (i + 1) fields) ≡ flat_map field_text (take i fields) ++ field_text (get_or fields i d)
 fields_more fields i d within =
     let on : i + 1 ≡ suc i = omega arith in

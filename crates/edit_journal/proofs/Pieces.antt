@@ -1,10 +1,10 @@
--- One piece behind another.
+-- One piece after another.
 use Rattle.std.proofs.Common.{◌≡◌, ℕ, ◌+◌, ◌-◌, ◌^◌, ◌<◌, ◌≤◌, ◌⊎◌, inl, inr, List, ◌∷◌, ◌++◌, length, take, drop, min, Result, Ok, Err, OnOk, refl, sym, ap, ◌∙◌, arith, append_assoc, length-append, length-drop, take-append-drop}
 use Rattle.std.specs.Borrow.{GName}
 use Rattle.std.proofs.Math.Seq.{drop-append-le}
 use Rattle.std.proofs.lemmas.List.{take_all, take-append-le, length-take-le}
-use Rattle.xcap_io.specs.Causes.{LineState, Rose, Writes}
-use Rattle.edit_journal.specs.Journals.{Goes, Adds, Cuts}
+use Rattle.xcap_io.specs.Causes.{StreamState, CountRises, Writes}
+use Rattle.edit_journal.specs.Journals.{IsJournalProgress, Adds, Cuts}
 use Rattle.edit_journal.specs.Memory.{MemoryJournal, memory_state}
 use Rattle.edit_journal.specs.Streams.{stream_state}
 
@@ -13,8 +13,8 @@ pub then_more : {T E : Type 0} (r : Result T E) (a b c x y : List ℕ) → b ≡
 then_more (Ok v) a b c x y p q = q ∙ ap (λ l. l ++ y) p ∙ append_assoc a x y
 then_more (Err e) a b c x y p q = tt
 
--- a journal in memory went on, and its count rose
-memory_goes : (old new : MemoryJournal) → old.faults ≤ new.faults → Rose old.faults new.faults → Goes (memory_state old) (memory_state new)
+-- a journal in memory went on, and its fault counter rose
+memory_goes : (old new : MemoryJournal) → old.faults ≤ new.faults → CountRises old.faults new.faults → IsJournalProgress (memory_state old) (memory_state new)
 memory_goes old new later rose = record {
   later = later;
   later_beneath = later;
@@ -26,27 +26,28 @@ memory_goes old new later rose = record {
 
 -- a journal in memory failed, and keeps some of the piece
 pub memory_stops : {E : Type 0} (old new : MemoryJournal) (e : E) (piece : List ℕ) (count : ℕ) → new.held ≡ old.held ++ take count piece
-    → old.faults ≤ new.faults → Rose old.faults new.faults → Adds (memory_state old) (memory_state new) (Err e) piece
+    → old.faults ≤ new.faults → CountRises old.faults new.faults → Adds (memory_state old) (memory_state new) (Err e) piece
 memory_stops old new e piece count held later rose = record {
   added = (take count piece, (drop count piece, sym (take-append-drop count piece)), held);
   counts = rose;
   goes = memory_goes old new later rose;
 }
 
--- a journal in memory failed to cut, and is as before
+-- a journal in memory failed to cut, and is unchanged
 pub memory_keeps : {E : Type 0} (old new : MemoryJournal) (e : E) (len : ℕ) → len ≤ length old.held → new.held ≡ old.held
-    → old.faults ≤ new.faults → Rose old.faults new.faults → Cuts (memory_state old) (memory_state new) (Err e) len
+    → old.faults ≤ new.faults → CountRises old.faults new.faults → Cuts (memory_state old) (memory_state new) (Err e) len
 memory_keeps old new e len within held later rose = record {
   kept = (length old.held, within, held ∙ sym (take_all (length old.held) old.held (omega arith)));
   counts = rose;
   goes = memory_goes old new later rose;
 }
 
--- the count of bytes that were handed over, as it is kept
+-- the count of bytes that were written, as it is stored
 abbrev pub counted : ℕ → ℕ → ℕ
 counted len count = min (len + count) (2 ^ 64 - 1)
 
--- where the last bytes of what was taken begin stays, as more is taken, though the count of them ends at the greatest `u64`
+-- the offset where the last bytes of what was taken begin is unchanged as more is taken, though
+-- their count stops at the greatest `u64`
 start_stays : (taken bytes : List ℕ) (len : ℕ) → length (drop (length taken - len) taken) + length bytes < 2 ^ 64
     → length (taken ++ bytes) - counted len (length bytes) ≡ length taken - len
 start_stays taken bytes len room = omega (arith, length-append taken bytes, length-drop (length taken - len) taken)
@@ -65,9 +66,9 @@ before_stays old new bytes len len' room p size =
     ∙ ap (λ n. take n (old ++ bytes)) (start_stays old bytes len room)
     ∙ take-append-le (length old - len) old bytes (omega arith)
 
-stream_goes : (old new : LineState) (name : GName) (len len' faults faults' : ℕ) (bytes : List ℕ) → length (stream_state old name len faults).held + length bytes < 2 ^ 64 → new.taken ≡ old.taken ++ bytes
-    → len' ≡ counted len (length bytes) → Writes old new → faults ≤ faults' → (faults ≡ 0 → (faults' ≡ 0) ⊎ Rose old.write_faults new.write_faults)
-    → Goes (stream_state old name len faults) (stream_state new name len' faults')
+stream_goes : (old new : StreamState) (name : GName) (len len' faults faults' : ℕ) (bytes : List ℕ) → length (stream_state old name len faults).held + length bytes < 2 ^ 64 → new.taken ≡ old.taken ++ bytes
+    → len' ≡ counted len (length bytes) → Writes old new → faults ≤ faults' → (faults ≡ 0 → (faults' ≡ 0) ⊎ CountRises old.write_faults new.write_faults)
+    → IsJournalProgress (stream_state old name len faults) (stream_state new name len' faults')
 stream_goes old new name len len' faults faults' bytes room p size writes later cause = record {
   later = later;
   later_beneath = writes.later;
@@ -77,8 +78,8 @@ stream_goes old new name len len' faults faults' bytes room p size writes later 
   same_aside = cc;
 }
 
--- all bytes were handed over
-pub stream_adds : {E : Type 0} (old new : LineState) (name : GName) (len len' faults faults' : ℕ) (bytes : List ℕ) → length (stream_state old name len faults).held + length bytes < 2 ^ 64
+-- all bytes were written
+pub stream_adds : {E : Type 0} (old new : StreamState) (name : GName) (len len' faults faults' : ℕ) (bytes : List ℕ) → length (stream_state old name len faults).held + length bytes < 2 ^ 64
     → new.taken ≡ old.taken ++ bytes → len' ≡ counted len (length bytes) → Writes old new → faults' ≡ faults
     → Adds {E = E} (stream_state old name len faults) (stream_state new name len' faults') (Ok tt) bytes
 stream_adds old new name len len' faults faults' bytes room p size writes same = record {
@@ -87,10 +88,10 @@ stream_adds old new name len len' faults faults' bytes room p size writes same =
   goes = stream_goes old new name len len' faults faults' bytes room p size writes (omega arith) (λ none. inl (same ∙ none));
 }
 
--- some were, and then a write failed
-pub stream_stops : {E : Type 0} (old new : LineState) (name : GName) (len len' faults faults' : ℕ) (e : E) (bytes : List ℕ) (done : ℕ) → done ≤ length bytes
+-- some were written, and then a write failed
+pub stream_stops : {E : Type 0} (old new : StreamState) (name : GName) (len len' faults faults' : ℕ) (e : E) (bytes : List ℕ) (done : ℕ) → done ≤ length bytes
     → length (stream_state old name len faults).held + length bytes < 2 ^ 64 → new.taken ≡ old.taken ++ take done bytes → len' ≡ counted len done
-    → Writes old new → faults ≤ faults' → Rose faults faults' → Rose old.write_faults new.write_faults
+    → Writes old new → faults ≤ faults' → CountRises faults faults' → CountRises old.write_faults new.write_faults
     → Adds (stream_state old name len faults) (stream_state new name len' faults') (Err e) bytes
 stream_stops old new name len len' faults faults' e bytes done within room p size writes later rose rose' =
     let short : length (take done bytes) ≡ done = length-take-le done bytes within in
@@ -103,7 +104,7 @@ stream_stops old new name len len' faults faults' e bytes done within room p siz
     }
 
 -- a journal over a sink can't cut
-pub stream_keeps : {E : Type 0} (sink : LineState) (name : GName) (len faults faults' : ℕ) (e : E) (first : ℕ) → first ≤ length (stream_state sink name len faults).held → 0 < faults → faults ≤ faults' → Rose faults faults'
+pub stream_keeps : {E : Type 0} (sink : StreamState) (name : GName) (len faults faults' : ℕ) (e : E) (first : ℕ) → first ≤ length (stream_state sink name len faults).held → 0 < faults → faults ≤ faults' → CountRises faults faults'
     → Cuts (stream_state sink name len faults) (stream_state sink name len faults') (Err e) first
 stream_keeps sink name len faults faults' e first within some later rose = record {
   kept = (

@@ -1,11 +1,11 @@
--- What stands behind the target of a record, where bytes may break off.
+-- What comes after the target of a record, where bytes may break off.
 use Rattle.std.proofs.Common.{◌≡◌, ℕ, ◌-◌, ◌/◌, ◌<◌, ◌≤◌, ◌^◌, nat_lt, min, true, false, Bool, if◌then◌else◌, List, ◌++◌, length, Result, Err, refl, sym, ap, ◌∙◌, subst, arith, append_assoc, length-append, flat_map}
 use Rattle.std.specs.Int.{w16, to_be_bytes, from_be_bytes}
 use Rattle.std.proofs.lemmas.Nat.{from_be_bytes-to_be_bytes_2}
 use Rattle.http_wire.specs.declared.request.Field.{Field}
 use Rattle.edit_journal.specs.Records.{block, field_text}
-use Rattle.edit_journal.specs.declared.reading.Stop.{Stop}
-use Rattle.edit_journal.specs.declared.reading.Stop.TheVariants.{Open, Wrong, NoMemory}
+use Rattle.edit_journal.specs.declared.field_parsers.FieldError.{FieldError}
+use Rattle.edit_journal.specs.declared.field_parsers.FieldError.TheVariants.{Open, Wrong, NoMemory}
 use Rattle.edit_journal.specs.inner.Reading.{Reads, Short, FieldsAndBody, HasRoom, Rest}
 use Rattle.edit_journal.proofs.Blocks.{first_part, second_part}
 use Rattle.edit_journal.proofs.Fields.{fields_there, fields_room}
@@ -16,7 +16,7 @@ least_count left = if nat_lt 262150 left then 1 else 0
 abbrev pub most_count : ℕ → ℕ
 most_count left = min ((left - 6) / 9) 64
 
--- a number of fields between the bounds has room, and one that has room is between them
+-- a number of fields between the bounds fits, and one that fits is between them
 pub count_room : (count left : ℕ) → 6 ≤ left → least_count left ≤ count → count ≤ most_count left → HasRoom count (left - 2)
 count_room count left some low high = (omega arith, λ none. grind arith)
 
@@ -44,7 +44,7 @@ fields_of left bytes value rest = record {
 pub one_short : (a b : ℕ) → a < 2 ^ 16 → b < 2 ^ 16 → to_be_bytes w16 a ≡ to_be_bytes w16 b → a ≡ b
 one_short a b fits fits' e = sym (from_be_bytes-to_be_bytes_2 a fits) ∙ ap (from_be_bytes w16) e ∙ from_be_bytes-to_be_bytes_2 b fits'
 
-pub rest_no_count : {B : Type 0} (seen : B → List Field × List ℕ) (bytes : List ℕ) (left : ℕ) (stop : Stop) → 6 ≤ left → Reads (λ n. n) (Short (least_count left) (most_count left)) bytes (Err stop)
+pub rest_no_count : {B : Type 0} (seen : B → List Field × List ℕ) (bytes : List ℕ) (left : ℕ) (stop : FieldError) → 6 ≤ left → Reads (λ n. n) (Short (least_count left) (most_count left)) bytes (Err stop)
     → Reads seen (Rest left) bytes (Err stop)
 rest_no_count seen bytes left Open some (more, count, longer, (is, low, high)) =
     let rest = fields_there count (left - 2) (count_room count left some low high) in (
@@ -60,7 +60,7 @@ rest_no_count seen bytes left Wrong some wrong = λ all value more behind is e.
     (e ∙ ap (λ l. l ++ behind) is.is ∙ append_assoc (to_be_bytes w16 (length value.0)) (flat_map field_text value.0 ++ block value.1) behind)
 rest_no_count seen bytes left NoMemory some none = tt
 
-pub rest_stops : {B C : Type 0} (seen : B → List Field × List ℕ) (seen' : C → List Field × List ℕ) (bytes front tail : List ℕ) (count left : ℕ) (stop : Stop) → 6 ≤ left → bytes ≡ front ++ tail
+pub rest_stops : {B C : Type 0} (seen : B → List Field × List ℕ) (seen' : C → List Field × List ℕ) (bytes front tail : List ℕ) (count left : ℕ) (stop : FieldError) → 6 ≤ left → bytes ≡ front ++ tail
     → Short (least_count left) (most_count left) front count → Reads seen' (FieldsAndBody count (left - 2)) tail (Err stop) → Reads seen (Rest left) bytes (Err stop)
 rest_stops seen seen' bytes front tail count left Open some split is (more, value, longer, fields) =
     (more, value, longer, rest_of left (bytes ++ more) front (tail ++ more) value count some (omega (arith, is.2)) (ap (λ l. l ++ more) split ∙ append_assoc front tail more) is.0 fields)
@@ -75,7 +75,7 @@ rest_stops seen seen' bytes front tail count left Wrong some split is wrong = λ
     (second_part (to_be_bytes w16 (length value.0)) ((flat_map field_text value.0 ++ block value.1) ++ behind) front (tail ++ more) (omega arith) joined)
 rest_stops seen seen' bytes front tail count left NoMemory some split is none = tt
 
--- such a rest is there, where it has room
+-- such a rest is complete, where it fits
 rest_with : (left count : ℕ) → 6 ≤ left → count ≤ 64 → HasRoom count (left - 2) → (bytes : List ℕ) × (value : List Field × List ℕ) × Rest left bytes value
 rest_with left count some few room =
     let fields = fields_there count (left - 2) room in
@@ -94,8 +94,8 @@ rest_by false left is some = let short = not_long left is in rest_with left 0 so
 pub rest_there : (left : ℕ) → 6 ≤ left → (bytes : List ℕ) × (value : List Field × List ℕ) × Rest left bytes value
 rest_there left some = rest_by (nat_lt 262150 left) left refl some
 
--- the bounds as they are computed
-pub bounds_are : (bytes : List ℕ) (left least most : ℕ) (result : Result ℕ Stop) → least ≡ least_count left → most ≡ most_count left → Reads (λ n. n) (Short least most) bytes result
+-- the bounds as the code computes them
+pub bounds_are : (bytes : List ℕ) (left least most : ℕ) (result : Result ℕ FieldError) → least ≡ least_count left → most ≡ most_count left → Reads (λ n. n) (Short least most) bytes result
     → Reads (λ n. n) (Short (least_count left) (most_count left)) bytes result
 bounds_are bytes left least most result is is' reads =
     subst (λ n. Reads (λ n. n) (Short (least_count left) n) bytes result) is' (subst (λ n. Reads (λ n. n) (Short n most) bytes result) is reads)

@@ -1,4 +1,4 @@
--- What is whole at the front of some bytes is one list of requests.
+-- The requests complete at the front of some bytes are one list.
 use Rattle.std.proofs.Common.{◌≡◌, ℕ, ◌<◌, ◌≤◌, ◌^◌, inl, inr, false, List, [], ◌∷◌, ◌++◌, length, take, drop, All, refl, sym, ap, ◌∙◌, arith, append-nil, append_assoc, length-append, flat_map}
 use Rattle.std.proofs.lemmas.List.Elements.{All-head, All-tail, All-nil, All-cons}
 use Rattle.std.proofs.lemmas.Bool.{cases_lt}
@@ -6,7 +6,7 @@ use Rattle.std.specs.Int.{w16, to_be_bytes}
 use Rattle.http_wire.specs.declared.request.Field.{Field}
 use Rattle.http_wire.specs.declared.request.Request.{Request}
 use Rattle.edit_journal.specs.Records.{method_number, block, field_text, record_content, record_of}
-use Rattle.edit_journal.specs.Texts.{text, IsTold, HasNoRecord, IsTorn, OneWhole, PrefixesHoldFirstOnes}
+use Rattle.edit_journal.specs.Texts.{text, IsRecordedRequest, HasNoRecord, IsTorn, OneWhole, PrefixesHoldFirstOnes}
 use Rattle.httparse.specs.Grammar.{IsToken}
 use Rattle.edit_journal.proofs.Blocks.{first_part, second_part, one_block}
 use Rattle.edit_journal.proofs.Lengths.{content_length, record_length, field_length}
@@ -46,7 +46,7 @@ one_fields (f ∷ fs) (g ∷ gs) x y same a b e =
     let rest = one_fields fs gs x y (omega arith) (omega arith) (omega arith) next.1 in
     ((λ i. record { name = first.0 i; value = next.0 i } ∷ rest.0 i), rest.1)
 
-one_content : (a b : Request) → IsTold a → IsTold b → record_content a ≡ record_content b → a ≡ b
+one_content : (a b : Request) → IsRecordedRequest a → IsRecordedRequest b → record_content a ≡ record_content b → a ≡ b
 one_content a b told told' e =
     let size = content_length a in
     let size' = content_length b in
@@ -61,30 +61,30 @@ one_content a b told told' e =
     let body = one_block a.body b.body [] [] (omega (arith, told.0.body)) (omega (arith, told'.0.body)) (ap (λ l. l ++ []) fields.1) in
     λ i. record { method = one_method a.method b.method told.0.method number i; target = target.0 i; closes = (told.1 ∙ sym told'.1) i; fields = fields.0 i; body = body.0 i }
 
--- the bytes of a record tell the request
-pub one_record : (a b : Request) (x y : List ℕ) → IsTold a → IsTold b → record_of a ++ x ≡ record_of b ++ y → (a ≡ b) × (x ≡ y)
+-- the bytes of a record determine the request
+pub one_record : (a b : Request) (x y : List ℕ) → IsRecordedRequest a → IsRecordedRequest b → record_of a ++ x ≡ record_of b ++ y → (a ≡ b) × (x ≡ y)
 one_record a b x y told told' e =
     let same = one_block (record_content a) (record_content b) x y (omega (arith, told.0.short)) (omega (arith, told'.0.short)) e in
     (one_content a b told told' same.0, same.1)
 
-one_list : (bytes : List ℕ) (requests requests' : List Request) (rest rest' : List ℕ) → All IsTold requests → All IsTold requests' → HasNoRecord rest → HasNoRecord rest'
+one_list : (bytes : List ℕ) (requests requests' : List Request) (rest rest' : List ℕ) → All IsRecordedRequest requests → All IsRecordedRequest requests' → HasNoRecord rest → HasNoRecord rest'
     → bytes ≡ text requests ++ rest → bytes ≡ text requests' ++ rest' → (requests ≡ requests') × (rest ≡ rest')
 one_list bytes [] [] rest rest' told told' none none' e e' = (refl, sym e ∙ e')
 one_list bytes [] (b ∷ ys) rest rest' told told' none none' e e' =
-    absurd (none b (text ys ++ rest') (All-head IsTold b ys told', sym e ∙ e' ∙ append_assoc (record_of b) (text ys) rest'))
+    absurd (none b (text ys ++ rest') (All-head IsRecordedRequest b ys told', sym e ∙ e' ∙ append_assoc (record_of b) (text ys) rest'))
 one_list bytes (a ∷ xs) [] rest rest' told told' none none' e e' =
-    absurd (none' a (text xs ++ rest) (All-head IsTold a xs told, sym e' ∙ e ∙ append_assoc (record_of a) (text xs) rest))
+    absurd (none' a (text xs ++ rest) (All-head IsRecordedRequest a xs told, sym e' ∙ e ∙ append_assoc (record_of a) (text xs) rest))
 one_list bytes (a ∷ xs) (b ∷ ys) rest rest' told told' none none' e e' =
-    let one = one_record a b (text xs ++ rest) (text ys ++ rest') (All-head IsTold a xs told) (All-head IsTold b ys told') (sym (append_assoc (record_of a) (text xs) rest) ∙ sym e ∙ e' ∙ append_assoc (record_of b) (text ys) rest') in
-    let more = one_list (text xs ++ rest) xs ys rest rest' (All-tail IsTold a xs told) (All-tail IsTold b ys told') none none' refl one.1 in
+    let one = one_record a b (text xs ++ rest) (text ys ++ rest') (All-head IsRecordedRequest a xs told) (All-head IsRecordedRequest b ys told') (sym (append_assoc (record_of a) (text xs) rest) ∙ sym e ∙ e' ∙ append_assoc (record_of b) (text ys) rest') in
+    let more = one_list (text xs ++ rest) xs ys rest rest' (All-tail IsRecordedRequest a xs told) (All-tail IsRecordedRequest b ys told') none none' refl one.1 in
     ((λ i. one.0 i ∷ more.0 i), more.1)
 
 pub one_whole : OneWhole
 one_whole bytes requests requests' rest rest' whole whole' =
     one_list bytes requests requests' rest rest' whole.told whole'.told whole.no_more whole'.no_more whole.split whole'.split
 
--- no record is whole in fewer bytes than its own
-pub no_record_in : (bytes more : List ℕ) (request : Request) → IsTold request → record_of request ≡ bytes ++ more → length bytes < length (record_of request) → HasNoRecord bytes
+-- no record is complete in fewer bytes than its own
+pub no_record_in : (bytes more : List ℕ) (request : Request) → IsRecordedRequest request → record_of request ≡ bytes ++ more → length bytes < length (record_of request) → HasNoRecord bytes
 no_record_in bytes more request told e short = λ other rest begins.
     let one = one_record request other [] (rest ++ more) told begins.0 (append-nil (record_of request) ∙ e ∙ ap (λ l. l ++ more) begins.1 ∙ append_assoc (record_of other) rest more) in
     omega (arith, ap length e, length-append bytes more, ap length one.1, length-append rest more)
@@ -93,7 +93,7 @@ no_record_in bytes more request told e short = λ other rest begins.
 some_request : Request
 some_request = record { method = chars (codes "PUT"); target = []; closes = false; fields = []; body = [] }
 
-some_told : IsTold some_request
+some_told : IsRecordedRequest some_request
 unfolding some_request
 some_told = (
   record {
@@ -106,14 +106,14 @@ some_told = (
   refl,
 )
 
--- nothing is the first bytes of a record
+-- nothing is a prefix of a record
 pub nothing_torn : IsTorn []
 nothing_torn = (some_request, some_told, omega (arith, record_length some_request, content_length some_request), (record_of some_request, refl))
 
 pub nothing_in : HasNoRecord []
 nothing_in = λ request rest begins. omega (arith, ap length begins.1, length-append (record_of request) rest, record_length request)
 
-first_here : (request : Request) (requests : List Request) (bytes more : List ℕ) → All IsTold (request ∷ requests) → record_of request ++ text requests ≡ bytes ++ more → length bytes < length (record_of request)
+first_here : (request : Request) (requests : List Request) (bytes more : List ℕ) → All IsRecordedRequest (request ∷ requests) → record_of request ++ text requests ≡ bytes ++ more → length bytes < length (record_of request)
     → (more' : List ℕ) × (record_of request ≡ bytes ++ more')
 first_here request requests bytes more told e short =
     let parts : bytes ++ more ≡ take (length bytes) (record_of request) ++ (drop (length bytes) (record_of request) ++ text requests) =
@@ -140,22 +140,22 @@ nothing_before (b ∷ bytes) more e = absurd (omega (arith, ap length e))
 pub first_ones : PrefixesHoldFirstOnes
 first_ones [] bytes told (more, e) =
     let none : bytes ≡ [] = nothing_before bytes more e in
-    ([], [], [], refl, record { told = All-nil IsTold; split = none; no_more = nothing_in }, nothing_torn)
+    ([], [], [], refl, record { told = All-nil IsRecordedRequest; split = none; no_more = nothing_in }, nothing_torn)
 first_ones (request ∷ requests) bytes told (more, e) = elim (cases_lt (length bytes) (length (record_of request))) [
   | inl short ↦
       let here = first_here request requests bytes more told e short in
-      let one = All-head IsTold request requests told in
-      ([], request ∷ requests, bytes, refl, record { told = All-nil IsTold; split = refl; no_more = no_record_in bytes here.0 request one here.1 short }, (request, one, short, (here.0, here.1)))
+      let one = All-head IsRecordedRequest request requests told in
+      ([], request ∷ requests, bytes, refl, record { told = All-nil IsRecordedRequest; split = refl; no_more = no_record_in bytes here.0 request one here.1 short }, (request, one, short, (here.0, here.1)))
   | inr long ↦
       let parts = behind_it (record_of request) bytes (text requests) more long e in
-      let one = All-head IsTold request requests told in
-      let rest = first_ones requests parts.0 (All-tail IsTold request requests told) (more, parts.2) in (
+      let one = All-head IsRecordedRequest request requests told in
+      let rest = first_ones requests parts.0 (All-tail IsRecordedRequest request requests told) (more, parts.2) in (
         request ∷ rest.0,
         rest.1,
         rest.2,
         ap (λ l. request ∷ l) rest.3,
         record {
-          told = All-cons IsTold request rest.0 one rest.4.told;
+          told = All-cons IsRecordedRequest request rest.0 one rest.4.told;
           split = parts.1 ∙ ap (λ l. record_of request ++ l) rest.4.split ∙ sym (append_assoc (record_of request) (text rest.0) rest.2);
           no_more = rest.4.no_more;
         },

@@ -1,52 +1,55 @@
 -- What contracts see of a journal, and what a call on it may change. This is the project's own.
 use Rattle.std.specs.Prelude.{◌≡◌, ℕ, ◌≤◌, ◌⊎◌, List, ◌++◌, take, Result, MatchResult}
 use Rattle.std.specs.Borrow.{GName}
-use Rattle.xcap_io.specs.Causes.{Aside, Rose, Counts}
+use Rattle.xcap_io.specs.Causes.{Aside, CountRises, Counts}
 
 -- A journal at one moment.
 pub record JournalState : Type 0 where
-  -- the bytes that it holds
+  -- the bytes in the journal
   pub held : List ℕ
-  -- the bytes that stand in front of them in what it works through
+  -- the bytes before them in the underlying object
   pub before : List ℕ
-  -- how often a call failed
+  -- how many calls failed
   pub faults : ℕ
-  -- how often what it works through has failed
+  -- the number of faults of the underlying object
   pub beneath : ℕ
-  -- the references that it holds, by name, and what it doesn't show of what it works through
+  -- the references inside the journal, by name, and what it hides of the underlying object
   pub holds : List GName
   pub aside : List Aside
 
--- Between the two there were calls, if any. No count falls, and the first fault has a cause in what the journal works
--- through. What stands in front of its bytes stays, and so does what it holds and doesn't show.
-pub record Goes (old new : JournalState) : Type 0 where
+-- Only calls on the journal happened between the two states, if anything did. No counter falls,
+-- and the first fault has a cause in the underlying object. The bytes before the journal's, its
+-- references and what it hides are unchanged.
+pub record IsJournalProgress (old new : JournalState) : Type 0 where
   pub later : old.faults ≤ new.faults
   pub later_beneath : old.beneath ≤ new.beneath
-  pub cause : old.faults ≡ 0 → (new.faults ≡ 0) ⊎ Rose old.beneath new.beneath
+  pub cause : old.faults ≡ 0 → (new.faults ≡ 0) ⊎ CountRises old.beneath new.beneath
   pub same_before : new.before ≡ old.before
   pub same_holds : new.holds ≡ old.holds
   pub same_aside : new.aside ≡ old.aside
 
--- the bytes are some first ones of these, or all
+-- the bytes are a prefix of these, or all of them
 abbrev pub IsFirstOf : List ℕ → List ℕ → Type 0
 IsFirstOf bytes all = (more : List ℕ) × (all ≡ bytes ++ more)
 
--- some first ones of the piece, or all or none, stand behind what was held
+-- a prefix of the piece, perhaps empty or all of it, was appended
 abbrev pub AddsSome : List ℕ → List ℕ → List ℕ → Type 0
 AddsSome old new piece = (some : List ℕ) × IsFirstOf some piece × (new ≡ old ++ some)
 
--- The piece was added, or at a failure some first bytes of it; it failed only where the count rose.
+-- The piece was appended, or at a failure a prefix of it; it failed only where the fault counter
+-- rose.
 pub record Adds {E : Type 0} (old new : JournalState) (result : Result (Unit {0}) E) (piece : List ℕ) : Type 0 where
   pub added : MatchResult result (λ _. new.held ≡ old.held ++ piece) (λ _. AddsSome old.held new.held piece)
   pub counts : Counts old.faults new.faults result
-  pub goes : Goes old new
+  pub goes : IsJournalProgress old new
 
--- what is held is some first bytes of what was, at least so many
+-- a prefix of what was there is kept, of at least n bytes
 abbrev pub KeepsAtLeast : List ℕ → List ℕ → ℕ → Type 0
 KeepsAtLeast old new len = (count : ℕ) × (len ≤ count) × (new ≡ take count old)
 
--- The first so many bytes were kept, or at a failure more of them; it failed only where the count rose.
+-- The first `len` bytes were kept, or at a failure more of them; it failed only where the fault
+-- counter rose.
 pub record Cuts {E : Type 0} (old new : JournalState) (result : Result (Unit {0}) E) (len : ℕ) : Type 0 where
   pub kept : MatchResult result (λ _. new.held ≡ take len old.held) (λ _. KeepsAtLeast old.held new.held len)
   pub counts : Counts old.faults new.faults result
-  pub goes : Goes old new
+  pub goes : IsJournalProgress old new

@@ -1,15 +1,16 @@
--- The limits of records and journals, which are the constants of the code. They are this server's own; no standard sets any.
+-- The limits of records and journals, which are the constants of the code. They are this server's
+-- own; no standard sets any.
 use Rattle.std.specs.Prelude.{ℕ}
 use Rattle.edit_journal.specs.declared.limits.TheConstants.{MAX_CONTENT, MAX_RECORD, MAX_JOURNAL}
 
--- how many bytes a record has at most behind its length
-abbrev pub most_content_bytes : ℕ
-most_content_bytes = MAX_CONTENT
+-- the greatest number of bytes of a record after its length
+abbrev pub max_content_bytes : ℕ
+max_content_bytes = MAX_CONTENT
 
--- how many bytes it has at most, its length included
-abbrev pub most_record_bytes : ℕ
-most_record_bytes = MAX_RECORD
+-- the greatest number of bytes of a record, its length included
+abbrev pub max_record_bytes : ℕ
+max_record_bytes = MAX_RECORD
 
--- how many bytes of an old journal are taken at most
-abbrev pub most_journal_bytes : ℕ
-most_journal_bytes = MAX_JOURNAL
+-- the greatest number of bytes of an old journal that are read
+abbrev pub max_journal_bytes : ℕ
+max_journal_bytes = MAX_JOURNAL

@@ -2,49 +2,52 @@
 use Rattle.std.specs.Prelude.{◌≡◌, ℕ, ◌+◌, ◌<◌, ◌≤◌, ◌⊎◌, Bool, true, false, List, [], ◌∷◌, ◌++◌, length, take, drop, All, Result, Ok, Err}
 use Rattle.std.specs.Bool.{MatchBool}
 use Rattle.http_wire.specs.declared.request.Request.{Request}
-use Rattle.xcap_io.specs.Causes.{Rose}
-use Rattle.edit_journal.specs.declared.log.AppendFault.{AppendFault}
-use Rattle.edit_journal.specs.declared.log.AppendFault.TheVariants.{Failed, NoMemory}
+use Rattle.xcap_io.specs.Causes.{CountRises}
+use Rattle.edit_journal.specs.declared.journal_log.AppendFault.{AppendFault}
+use Rattle.edit_journal.specs.declared.journal_log.AppendFault.TheVariants.{Failed, NoMemory}
 use Rattle.edit_journal.specs.Records.{record_of, recorded}
-use Rattle.edit_journal.specs.Texts.{IsTold, text}
+use Rattle.edit_journal.specs.Texts.{IsRecordedRequest, text}
 use Rattle.edit_journal.specs.Journals.{JournalState, IsFirstOf}
 
--- The length of the whole records of a journal, and whether a piece of one may stand behind them.
+-- The length of the complete records of a journal, and whether a part of a record may come after
+-- them.
 pub record LogState : Type 0 where
   pub len : ℕ
   pub is_torn : Bool
 
--- The journal holds as many bytes as the whole records have, or more where the log is torn, which it is only after a fault.
+-- The journal has as many bytes as the complete records, or more where the log is torn, which it
+-- is only after a fault.
 abbrev pub Fits : LogState → JournalState → Type 0
 Fits log journal = MatchBool log.is_torn ((log.len ≤ length journal.held) × (0 < journal.faults)) (length journal.held ≡ log.len)
 
--- The bytes are the records of the requests, which have the log's length; and behind them, only where the log is torn, some
--- first bytes of a record, or all of them.
+-- The bytes are the records of the requests, which have the log's length; and after them, only
+-- where the log is torn, a prefix of a record, or all of it.
 pub record HoldsRecords (log : LogState) (requests : List Request) (bytes : List ℕ) : Type 0 where
   pub rest : List ℕ
-  pub told : All IsTold requests
+  pub told : All IsRecordedRequest requests
   pub split : bytes ≡ text requests ++ rest
   pub len : length (text requests) ≡ log.len
-  pub behind : MatchBool log.is_torn ((request : Request) × IsTold request × IsFirstOf rest (record_of request)) (rest ≡ [])
+  pub behind : MatchBool log.is_torn ((request : Request) × IsRecordedRequest request × IsFirstOf rest (record_of request)) (rest ≡ [])
 
--- the log with whole records of so many bytes more
+-- the log with a record of these bytes added
 abbrev pub log_with : LogState → List ℕ → LogState
 log_with log bytes = record { len = log.len + length bytes; is_torn = false }
 
--- behind the first `len` bytes stand some first ones of the record, or of what stood there
+-- after the first `len` bytes comes a prefix of the record, or of what was there
 abbrev pub KeepsWhole : ℕ → List ℕ → List ℕ → List ℕ → Type 0
 KeepsWhole len bytes old new = (rest : List ℕ) × (new ≡ take len old ++ rest) × (IsFirstOf rest bytes ⊎ IsFirstOf rest (drop len old))
 
--- What adding a record did. At `Ok` it stands behind the whole ones, and nothing behind it. At `Failed` the whole records are as
--- before, the journal's count rose, and the log is torn. At `NoMemory` nothing has changed.
+-- What adding a record did. At `Ok` it follows the complete ones, and nothing follows it. At
+-- `Failed` the complete records are unchanged, the journal's fault counter rose, and the log is
+-- torn. At `NoMemory` nothing has changed.
 abbrev pub AddsRecord : LogState → JournalState → List ℕ → Result (Unit {0}) AppendFault → LogState → JournalState → Type 0
 AddsRecord log journal bytes (Ok x) log' journal' =
     (log' ≡ log_with log bytes) × (journal'.held ≡ take log.len journal.held ++ bytes) × (journal'.faults ≡ journal.faults)
 AddsRecord log journal bytes (Err Failed) log' journal' =
-    (log' ≡ record log { is_torn = true }) × KeepsWhole log.len bytes journal.held journal'.held × Rose journal.faults journal'.faults
+    (log' ≡ record log { is_torn = true }) × KeepsWhole log.len bytes journal.held journal'.held × CountRises journal.faults journal'.faults
 AddsRecord log journal bytes (Err NoMemory) log' journal' = (log' ≡ log) × (journal' ≡ journal)
 
--- the requests whose records are whole in a journal, after one more was to be added
+-- the requests whose records are complete in a journal, after one more was to be added
 abbrev pub with_request : Result (Unit {0}) AppendFault → List Request → Request → List Request
 with_request (Ok x) requests request = requests ++ recorded request ∷ []
 with_request (Err fault) requests request = requests

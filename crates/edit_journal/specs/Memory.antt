@@ -6,9 +6,10 @@ use Rattle.edit_journal.specs.Journals.{JournalState}
 -- A journal in memory.
 pub record MemoryJournal : Type 0 where
   pub held : List ℕ
-  -- how many bytes it can hold
+  -- its capacity in bytes
   pub room : ℕ
-  -- the numbers of the calls that fail, counted from 1, and how many calls there were; that number ends at the greatest `u64`
+  -- the numbers of the calls that fail, counted from 1, and how many calls there were; that number
+  -- stops at the greatest `u64`
   pub fails : List ℕ
   pub calls : ℕ
   pub faults : ℕ
@@ -17,11 +18,12 @@ pub record MemoryJournal : Type 0 where
 abbrev pub FailsNow : MemoryJournal → Type 0
 FailsNow journal = Contains journal.fails (one_more journal.calls)
 
--- how much of the piece a failing `append` keeps: half, or nothing where the piece would pass the room
+-- how many bytes of the piece a failing `append` keeps: half, or none where the piece would exceed
+-- the capacity
 abbrev pub kept_of : MemoryJournal → List ℕ → ℕ
 kept_of journal piece = if nat_le (length journal.held + length piece) journal.room then length piece / 2 else 0
 
--- `append` fails exactly at the calls that are to fail, and where the room would be passed
+-- `append` fails exactly at the calls that are to fail, and where the capacity would be exceeded
 abbrev pub MemoryAppend : {E : Type 0} → MemoryJournal → MemoryJournal → Result (Unit {0}) E → List ℕ → Type 0
 MemoryAppend old new (Ok x) piece = ¬ (FailsNow old) × (length old.held + length piece ≤ old.room)
     × (new ≡ record old { held = old.held ++ piece; calls = one_more old.calls })
@@ -33,7 +35,7 @@ abbrev pub MemoryCut : {E : Type 0} → MemoryJournal → MemoryJournal → Resu
 MemoryCut old new (Ok x) len = ¬ (FailsNow old) × (new ≡ record old { held = take len old.held; calls = one_more old.calls })
 MemoryCut old new (Err e) len = FailsNow old × (new ≡ record old { calls = one_more old.calls; faults = one_more old.faults })
 
--- a journal in memory as a journal, which works through nothing else
+-- a journal in memory as a journal, without an underlying object
 abbrev pub memory_state : MemoryJournal → JournalState
 memory_state journal = record {
   held = journal.held;

@@ -1,20 +1,21 @@
--- The record of a request: what a journal keeps of a PUT or DELETE, so that it can be done again. This is the project's own.
+-- The record of a request: what a journal keeps of a PUT or DELETE, so that it can be replayed.
+-- This is the project's own.
 use Rattle.std.specs.Prelude.{ℕ, ◌<◌, ◌≤◌, if◌then◌else◌, false, List, ◌∷◌, ◌++◌, flat_map, length, All, chars, codes}
 use Rattle.std.specs.Int.{w16, w32, to_be_bytes}
 use Rattle.std.specs.Str.{bytes_eq}
 use Rattle.httparse.specs.Grammar.{IsToken}
 use Rattle.http_wire.specs.declared.request.Field.{Field}
 use Rattle.http_wire.specs.declared.request.Request.{Request}
-use Rattle.http_wire.specs.Limits.{most_body_bytes, most_field_lines}
-use Rattle.edit_journal.specs.Limits.{most_content_bytes}
+use Rattle.http_wire.specs.Limits.{max_body_bytes, max_field_lines}
+use Rattle.edit_journal.specs.Limits.{max_content_bytes}
 
--- the number of a method that is recorded, and 0 for any other
+-- the number of a recorded method, and 0 for any other
 unfoldable pub method_number : List ℕ → ℕ
 method_number method =
     if bytes_eq method (chars (codes "PUT")) then 1
     else if bytes_eq method (chars (codes "DELETE")) then 2 else 0
 
--- a length in four bytes, the highest first, and so many bytes
+-- a length in four bytes, the highest first, and that many bytes
 unfoldable pub block : List ℕ → List ℕ
 block bytes = to_be_bytes w32 (length bytes) ++ bytes
 
@@ -35,10 +36,10 @@ record_of request = block (record_content request)
 pub record IsRecordable (request : Request) : Type 0 where
   pub method : 0 < method_number request.method
   pub names : All (λ (field : Field). IsToken field.name) request.fields
-  pub few : length request.fields ≤ most_field_lines
-  pub body : length request.body ≤ most_body_bytes
-  pub short : length (record_content request) ≤ most_content_bytes
+  pub few : length request.fields ≤ max_field_lines
+  pub body : length request.body ≤ max_body_bytes
+  pub short : length (record_content request) ≤ max_content_bytes
 
--- the request as its record tells it
+-- the request as its record gives it
 abbrev pub recorded : Request → Request
 recorded request = record request { closes = false }

@@ -1,12 +1,12 @@
 -- A journal over a sink, as its callers see it. This is the project's own.
 use Rattle.std.specs.Prelude.{ℕ, ◌-◌, ◌∷◌, length, drop, take}
 use Rattle.std.specs.Borrow.{GName}
-use Rattle.xcap_io.specs.Causes.{LineState}
+use Rattle.xcap_io.specs.Causes.{StreamState}
 use Rattle.xcap_io.specs.Pairs.{unwritten}
 use Rattle.edit_journal.specs.Journals.{JournalState}
 
--- A journal that handed the last `len` bytes over to the sink, of those that the sink took.
-abbrev pub stream_state : LineState → GName → ℕ → ℕ → JournalState
+-- A journal that wrote the last `len` bytes that the sink took.
+abbrev pub stream_state : StreamState → GName → ℕ → ℕ → JournalState
 stream_state sink name len faults = record {
   held = drop (length sink.taken - len) sink.taken;
   before = take (length sink.taken - len) sink.taken;

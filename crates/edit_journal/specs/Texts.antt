@@ -1,4 +1,4 @@
--- The text of a journal, and which requests are whole in some bytes. This is the project's own.
+-- The text of a journal, and which requests are complete in some bytes. This is the project's own.
 use Rattle.std.specs.Prelude.{◌≡◌, ℕ, ◌<◌, false, List, ◌++◌, flat_map, length, All}
 use Rattle.http_wire.specs.declared.request.Request.{Request}
 use Rattle.edit_journal.specs.Journals.{IsFirstOf}
@@ -8,38 +8,42 @@ use Rattle.edit_journal.specs.Records.{record_of, IsRecordable}
 abbrev pub text : List Request → List ℕ
 text requests = flat_map record_of requests
 
--- a request that a record tells: whether the connection ends after it isn't recorded, and reads as false
-abbrev pub IsTold : Request → Type 0
-IsTold request = IsRecordable request × (request.closes ≡ false)
+-- a request as a record gives it: whether the connection ends after it isn't recorded, and reads
+-- as false
+abbrev pub IsRecordedRequest : Request → Type 0
+IsRecordedRequest request = IsRecordable request × (request.closes ≡ false)
 
 -- the bytes begin with the record of the request, and then rest
 abbrev pub BeginsWith : List ℕ → Request → List ℕ → Type 0
-BeginsWith bytes request rest = IsTold request × (bytes ≡ record_of request ++ rest)
+BeginsWith bytes request rest = IsRecordedRequest request × (bytes ≡ record_of request ++ rest)
 
--- no record lies whole at the front of the bytes
+-- no record is complete at the front of the bytes
 abbrev pub HasNoRecord : List ℕ → Type 0
 HasNoRecord bytes = (request : Request) (rest : List ℕ) → ¬ (BeginsWith bytes request rest)
 
--- The bytes are torn: the first ones of a record, not all of them; or nothing.
+-- The bytes are torn: a proper prefix of a record, or nothing.
 abbrev pub IsTorn : List ℕ → Type 0
-IsTorn bytes = (request : Request) × IsTold request × (length bytes < length (record_of request)) × IsFirstOf bytes (record_of request)
+IsTorn bytes = (request : Request) × IsRecordedRequest request × (length bytes < length (record_of request)) × IsFirstOf bytes (record_of request)
 
 -- the bytes begin no record, whatever may follow them
 abbrev pub IsDamaged : List ℕ → Type 0
 IsDamaged bytes = HasNoRecord bytes × ¬ (IsTorn bytes)
 
--- The requests whose records lie whole at the front of the bytes, and the rest, at whose front none does.
+-- The requests whose records are complete at the front of the bytes, and the rest, at whose front
+-- no record is.
 pub record Whole (bytes : List ℕ) (requests : List Request) (rest : List ℕ) : Type 0 where
-  pub told : All IsTold requests
+  pub told : All IsRecordedRequest requests
   pub split : bytes ≡ text requests ++ rest
   pub no_more : HasNoRecord rest
 
--- One record is told by its bytes, so the requests whole in some bytes, and the rest, are one list each.
+-- A record is determined by its bytes, so the requests complete in some bytes are one list, and
+-- the rest is one, too.
 abbrev pub OneWhole : Type 0
 OneWhole = (bytes : List ℕ) (requests requests' : List Request) (rest rest' : List ℕ)
     → Whole bytes requests rest → Whole bytes requests' rest' → (requests ≡ requests') × (rest ≡ rest')
 
--- In some first bytes of a text there are, whole, some first ones of its requests, and behind them a torn rest.
+-- In a prefix of a text the records of its first requests are complete, and after them comes a
+-- torn rest.
 abbrev pub PrefixesHoldFirstOnes : Type 0
-PrefixesHoldFirstOnes = (requests : List Request) (bytes : List ℕ) → All IsTold requests → IsFirstOf bytes (text requests)
+PrefixesHoldFirstOnes = (requests : List Request) (bytes : List ℕ) → All IsRecordedRequest requests → IsFirstOf bytes (text requests)
     → (first more : List Request) × (rest : List ℕ) × (requests ≡ first ++ more) × Whole bytes first rest × IsTorn rest

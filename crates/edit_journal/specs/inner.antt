@@ -1,7 +1,8 @@
--- What private functions and proofs speak of. No clause of a public call needs it.
-pub mod Reading
-pub mod Writing
-pub mod Fronts
+-- Definitions for private functions and proofs. No clause of a public call needs them.
 pub mod Adding
-pub mod Inflow
-pub mod Redoing
+pub mod Fronts
+pub mod JournaledMachines
+pub mod ReadBuffer
+pub mod Reading
+pub mod ReplaySteps
+pub mod Writing

@@ -1,23 +1,23 @@
-// What a journal is.
+// The trait of journals.
 ghost use Rattle.std.specs.Prelude.{◌+◌, ◌<◌, ◌≤◌, ◌^◌, length};
 ghost use Rattle.edit_journal.specs.Journals.{JournalState, Adds, Cuts};
 
 use xcap_io::Failed;
 
-/// Where bytes are kept, one piece behind the other.
+/// Where bytes are stored, one piece after the other.
 pub trait Journal {
-    /// What contracts see of it.
+    /// The state that contracts see.
     ghost state: { Self → JournalState };
 
-    /// Adds the bytes behind those that it holds. After `Failed` it holds some first ones of them, if any.
+    /// Appends the bytes. After `Failed` a prefix of them, perhaps empty, was appended.
     fn append(&mut self, bytes: &[u8]) -> Result<(), Failed>
         requires { length (state self.old).held + length bytes.now < 2 ^ 64 }
-        ensures adds_the_bytes_behind { Adds (state self.old) (state self.new) result bytes.now };
+        ensures appends_bytes { Adds (state self.old) (state self.new) result bytes.now };
 
-    /// Keeps the first `len` bytes that it holds, after a fault of an earlier call. After `Failed` it holds these and maybe more
-    /// of what it held.
+    /// Truncates to the first `len` bytes, after a fault of an earlier call. After `Failed` these
+    /// are kept, and maybe more of what was there.
     fn cut(&mut self, len: u64) -> Result<(), Failed>
-        requires faults { 0 < (state self.old).faults }
+        requires has_faults { 0 < (state self.old).faults }
         requires within { len ≤ length (state self.old).held }
-        ensures keeps_the_first_bytes { Cuts (state self.old) (state self.new) result len };
+        ensures cuts_to_len { Cuts (state self.old) (state self.new) result len };
 }

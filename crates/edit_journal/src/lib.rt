@@ -1,29 +1,44 @@
-//! Journals of accepted requests: records, where they are kept, how one is added, and how a server is brought back from them.
-//! Upward: a journal holds whole records, and behind them only after a fault a piece of one; what a record tells is one request;
-//! and a restart does again exactly the requests whose records lie whole in the bytes given, in order.
-//! The form of a record is the project's own; no standard defines it.
+//! The journal of accepted requests: the form of records, adding one (`JournalLog`, `Journal`),
+//! serving with a log (`LoggedMachine`), and replaying an old journal at a restart (`restart`).
+//! Upward: a request's record is complete in the journal before its change is made, or the reply
+//! is the 500 and nothing changes (`Answers`, `AddsRecord`); a restart replays exactly the
+//! requests whose records are complete in the bytes given, in order (`Restarts`); and the laws of
+//! `recovery_laws` say so of any prefix of a journal. The form of records is this project's own;
+//! no standard defines one.
+//! A log is a length and a mark: how much is whole records, and whether a piece of one may follow,
+//! which is cut off before the next record.
 #![tactic(auto)]
 
-mod front;
-mod inflow;
+mod accept_loop;
+mod field_parsers;
 mod journal;
+mod journal_log;
+mod journal_restart;
+mod journaled_machine;
 mod laws;
 mod limits;
-mod log;
+mod machine;
 mod mem_journal;
-mod reading;
+mod read_buffer;
 mod record_fields;
-mod record_reading;
+mod record_parser;
+mod record_scan;
 mod records;
+mod recovery_laws;
 mod replayer;
-mod restarting;
 mod stream_journal;
 
+pub use accept_loop::serve_streams_logged;
 pub use journal::Journal;
+pub use journal_log::{AppendFault, JournalLog};
+pub use journal_restart::{RestartFault, restart};
 pub use laws::{bytes_have_one_list, prefixes_hold_first_ones};
-pub use log::{AppendFault, Log};
+pub use machine::LoggedMachine;
 pub use mem_journal::MemJournal;
-pub use replayer::{Redone, Replayer};
-pub use restarting::{RestartFault, restart};
+pub use recovery_laws::{
+    first_bytes_hold_the_first_requests, journals_begin_a_text,
+    new_journals_are_told_from_old_ones, restarts_do_the_first_requests,
+};
+pub use replayer::{ReplayStep, Replayer};
 pub use stream_journal::StreamJournal;
 pub use xcap_io::NoMemory;

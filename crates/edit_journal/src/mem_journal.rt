@@ -1,6 +1,6 @@
 // A journal in memory, for tests and for programs over known bytes.
 ghost use Rattle.std.specs.Prelude.{◌≡◌, ◌<◌, ◌≤◌, ◌+◌, ◌^◌, ◌↔◌, ◌++◌, length, nat_le, IfOk, IsTrue};
-ghost use Rattle.xcap_io.specs.Causes.{Rose};
+ghost use Rattle.xcap_io.specs.Causes.{CountRises};
 ghost use Rattle.xcap_io.specs.Memory.{one_more};
 ghost use Rattle.edit_journal.specs.Journals.{Adds, Cuts};
 ghost use Rattle.edit_journal.specs.Memory.{FailsNow, MemoryAppend, MemoryCut, memory_state};
@@ -10,7 +10,8 @@ use std::alloc::Global;
 use std::marker::Model;
 use xcap_io::{Failed, NoMemory, fault};
 
-/// A journal in memory. It holds bytes until its room is full, and fails at the calls that it was told.
+/// A journal in memory. It takes bytes until its capacity is used up, and fails at the calls that
+/// it was set to fail.
 #[derive(Drop)]
 pub struct MemJournal {
     bytes: Vec<u8>,
@@ -38,8 +39,8 @@ impl Model for MemJournal {
 }
 
 impl MemJournal {
-    /// A journal that holds `bytes` and has room for `room` bytes in all. Of its calls, counted from 1, those of the numbers
-    /// `fails` fail.
+    /// A journal that has `bytes` and takes `room` bytes in all. The calls whose numbers, counted
+    /// from 1, are in `fails` fail.
     pub fn new(
         alloc: Global,
         bytes: &[u8],
@@ -47,7 +48,7 @@ impl MemJournal {
         fails: &[u64],
     ) -> Result<MemJournal, NoMemory>
         requires { length bytes.now ≤ room }
-        ensures holds_the_bytes { IfOk result (λ journal. journal ≡ record {
+        ensures holds_bytes { IfOk result (λ journal. journal ≡ record {
           held = bytes.now;
           room = room;
           fails = fails.now;
@@ -66,17 +67,17 @@ impl MemJournal {
         })
     }
 
-    /// The bytes that it holds. Takes no memory.
+    /// The bytes of the journal. Does not allocate.
     pub fn held(&self) -> &[u8]
-        ensures lends_what_is_held { result.now ≡ self.now.held }
+        ensures exact { result.now ≡ self.now.held }
     {
         &self.bytes[..self.held]
     }
 
-    // Counts a call, and says whether it is to fail.
+    // Counts a call, and returns whether it is to fail.
     fn is_failing_call(&mut self) -> bool
-        ensures tells_whether_it_fails { IsTrue result ↔ FailsNow self.old }
-        ensures counts_the_call { self.new ≡ record self.old { calls = one_more self.old.calls } }
+        ensures fails_iff { IsTrue result ↔ FailsNow self.old }
+        ensures counts_call { self.new ≡ record self.old { calls = one_more self.old.calls } }
     {
         self.calls = self.calls.saturating_add(1);
         self.fails.contains(&self.calls)
@@ -86,24 +87,24 @@ impl MemJournal {
     fn fail(&mut self) -> Failed
         ensures counts_one_more { self.new ≡ record self.old { faults = one_more self.old.faults } }
         ensures count_never_falls { self.old.faults ≤ self.new.faults }
-        ensures count_rose { Rose self.old.faults self.new.faults }
+        ensures count_rises { CountRises self.old.faults self.new.faults }
     {
         fault(&mut self.faults)
     }
 
-    // Adds a piece for which there is room.
-    fn hold(&mut self, piece: &[u8])
+    // Appends a piece that fits.
+    fn fill_to(&mut self, piece: &[u8])
         requires { length self.old.held + length piece.now ≤ self.old.room }
-        ensures holds_the_piece_behind { self.new ≡ record self.old { held = self.old.held ++ piece.now } }
+        ensures exact { self.new ≡ record self.old { held = self.old.held ++ piece.now } }
     {
         let end = self.held + piece.len();
         self.bytes[self.held..end].copy_from_slice(piece);
         self.held = end;
     }
 
-    // Whether there is room for a piece.
+    // Whether a piece fits.
     fn has_room(&self, piece: &[u8]) -> bool
-        ensures tells_whether_there_is_room { result ≡ nat_le (length self.now.held + length piece.now) self.now.room }
+        ensures exact { result ≡ nat_le (length self.now.held + length piece.now) self.now.room }
     {
         piece.len() <= self.bytes.len() - self.held
     }
@@ -114,26 +115,27 @@ impl Journal for MemJournal {
 
     fn append(&mut self, bytes: &[u8]) -> Result<(), Failed>
         requires { length self.old.held + length bytes.now < 2 ^ 64 }
-        ensures adds_the_bytes_behind { Adds (memory_state self.old) (memory_state self.new) result bytes.now }
-        ensures does_what_memory_does { MemoryAppend self.old self.new result bytes.now }
+        ensures appends_bytes { Adds (memory_state self.old)
+            (memory_state self.new) result bytes.now }
+        ensures as_memory_form { MemoryAppend self.old self.new result bytes.now }
     {
         let fails = self.is_failing_call();
         if !self.has_room(bytes) {
             return Err(self.fail());
         }
         if fails {
-            self.hold(&bytes[..bytes.len() / 2]);
+            self.fill_to(&bytes[..bytes.len() / 2]);
             return Err(self.fail());
         }
-        self.hold(bytes);
+        self.fill_to(bytes);
         Ok(())
     }
 
     fn cut(&mut self, len: u64) -> Result<(), Failed>
-        requires faults { 0 < self.old.faults }
+        requires has_faults { 0 < self.old.faults }
         requires within { len ≤ length self.old.held }
-        ensures keeps_the_first_bytes { Cuts (memory_state self.old) (memory_state self.new) result len }
-        ensures does_what_memory_does { MemoryCut self.old self.new result len }
+        ensures cuts_to_len { Cuts (memory_state self.old) (memory_state self.new) result len }
+        ensures as_memory_form { MemoryCut self.old self.new result len }
     {
         if self.is_failing_call() {
             return Err(self.fail());

@@ -1,28 +1,28 @@
-// The fields and the body of a record, read from bytes that may break off.
+// Parses the header fields and the body of a record, in bytes that may break off.
 ghost use Rattle.std.specs.Prelude.{◌≡◌, ◌≤◌, ◌<◌, ◌+◌, ◌-◌, ◌*◌, drop, take, length, IfOk, OnOk, if◌then◌else◌, ◌==◌};
-ghost use Rattle.http_wire.specs.Limits.{most_body_bytes, most_field_lines};
+ghost use Rattle.http_wire.specs.Limits.{max_body_bytes, max_field_lines};
 ghost use Rattle.edit_journal.specs.inner.Reading.{Reads, Value, FieldPart, FieldsAndBody, HasRoom};
 
+use crate::field_parsers::{FieldError, after, block, name};
 use crate::limits::MAX_CONTENT;
-use crate::reading::{Stop, after, block, name};
 use http_wire::{Field, MAX_BODY, token_text};
 use std::alloc::Global;
 use xcap_io::{Bytes, NoMemory};
 use xml_tree::List;
 
-impl From<NoMemory> for Stop {
-    ghost use Rattle.edit_journal.specs.declared.reading.Stop.{Stop};
+impl From<NoMemory> for FieldError {
+    ghost use Rattle.edit_journal.specs.declared.field_parsers.FieldError.{FieldError};
 
-    ghost from_gives = { λ _ stop. stop ≡ Stop.NoMemory };
+    ghost from_gives = { λ _ stop. stop ≡ FieldError.NoMemory };
 
-    fn from(_none: NoMemory) -> Stop {
-        Stop::NoMemory
+    fn from(_none: NoMemory) -> FieldError {
+        FieldError::NoMemory
     }
 }
 
-// The least length of a value, so that the rest isn't longer than a body where no field is behind it.
+// The least length of a value: without a field after it, the rest may not be longer than a body.
 fn least_value(others: usize, left: usize) -> usize
-    ensures least_length_of_the_value { result ≡ (if others == 0 then left - (most_body_bytes + 8) else 0) }
+    ensures exact { result ≡ (if others == 0 then left - (max_body_bytes + 8) else 0) }
 {
     if others == 0 {
         left.saturating_sub(MAX_BODY + 8)
@@ -31,18 +31,18 @@ fn least_value(others: usize, left: usize) -> usize
     }
 }
 
-// The value of a field, with so many fields and a body behind it in so many bytes.
-fn value(bytes: &[u8], others: usize, left: usize) -> Result<&[u8], Stop>
-    requires others { others < most_field_lines }
-    requires room { 9 * others + 8 ≤ left }
-    requires left { left ≤ MAX_CONTENT }
-    ensures reads_the_value { Reads (λ piece. piece.now) (Value others left) bytes.now result }
+// The value of a field, where `left` bytes have it, `others` more fields and a body.
+fn value(bytes: &[u8], others: usize, left: usize) -> Result<&[u8], FieldError>
+    requires others_bounded { others < max_field_lines }
+    requires room_left { 9 * others + 8 ≤ left }
+    requires left_bounded { left ≤ MAX_CONTENT }
+    ensures reads_rule { Reads (λ piece. piece.now) (Value others left) bytes.now result }
 {
     block(bytes, least_value(others, left), left - 8 - 9 * others)
 }
 
 fn field_of(alloc: Global, name: &[u8], value: &[u8]) -> Result<Field, NoMemory>
-    ensures field_of_both { IfOk result (λ field. field ≡ record { name = name.now; value = value.now }) }
+    ensures ok { IfOk result (λ field. field ≡ record { name = name.now; value = value.now }) }
 {
     Ok(Field {
         name: token_text(alloc, name)?,
@@ -50,12 +50,12 @@ fn field_of(alloc: Global, name: &[u8], value: &[u8]) -> Result<Field, NoMemory>
     })
 }
 
-// A field, with so many fields and a body behind it in so many bytes.
-fn field(alloc: Global, bytes: &[u8], others: usize, left: usize) -> Result<Field, Stop>
-    requires others { others < most_field_lines }
-    requires room { 9 * others + 13 ≤ left }
-    requires left { left ≤ MAX_CONTENT }
-    ensures reads_the_field { Reads (λ field. field) (FieldPart others left) bytes.now result }
+// A field, where `left` bytes have it, `others` more fields and a body.
+fn field(alloc: Global, bytes: &[u8], others: usize, left: usize) -> Result<Field, FieldError>
+    requires others_bounded { others < max_field_lines }
+    requires room_left { 9 * others + 13 ≤ left }
+    requires left_bounded { left ≤ MAX_CONTENT }
+    ensures reads_rule { Reads (λ field. field) (FieldPart others left) bytes.now result }
 {
     let token = name(bytes, 1, left - 12 - 9 * others)?;
     let rest = after(bytes, 4 + token.len());
@@ -63,19 +63,21 @@ fn field(alloc: Global, bytes: &[u8], others: usize, left: usize) -> Result<Fiel
     Ok(field_of(alloc, token, piece)?)
 }
 
-/// So many fields and the body, in so many bytes. The fields are added to those of the list.
+/// Reads this many fields and the body, which fill `left` bytes. The fields are appended to the
+/// list.
 pub(crate) fn fields_and_body(
     alloc: Global,
     bytes: &[u8],
     count: usize,
     left: usize,
     fields: &mut List<Field>,
-) -> Result<Bytes, Stop>
-    requires count { count ≤ most_field_lines }
-    requires room { HasRoom count left }
-    requires left { left ≤ MAX_CONTENT }
-    ensures reads_the_fields_and_the_body { Reads (λ body. (drop (length fields.old) fields.new, body)) (FieldsAndBody count left) bytes.now result }
-    ensures keeps_the_fields_before { OnOk result (take (length fields.old) fields.new ≡ fields.old) }
+) -> Result<Bytes, FieldError>
+    requires count_bounded { count ≤ max_field_lines }
+    requires room_left { HasRoom count left }
+    requires left_bounded { left ≤ MAX_CONTENT }
+    ensures reads_rule { Reads (λ body. (drop (length fields.old) fields.new, body))
+        (FieldsAndBody count left) bytes.now result }
+    ensures keeps_prefix { OnOk result (take (length fields.old) fields.new ≡ fields.old) }
 {
     if count == 0 {
         return Ok(Bytes::from(alloc, block(bytes, left - 4, left - 4)?)?);

@@ -1,4 +1,4 @@
-// Records of requests, as they are written.
+// Writes the records of requests.
 ghost use Rattle.std.specs.Prelude.{◌≡◌, ◌<◌, ◌^◌, ◌++◌, length, All, IfOk, OnOk, flat_map};
 ghost use Rattle.std.specs.Int.{to_be_bytes};
 ghost use Rattle.edit_journal.specs.Records.{method_number, block, field_text, record_content, record_of, IsRecordable};
@@ -9,10 +9,10 @@ use std::alloc::Global;
 use xcap_io::{Bytes, NoMemory};
 use xml_tree::Text;
 
-// The number of a method that is recorded, and 0 for any other.
+// The number of a recorded method, and 0 for any other.
 #[tactic(auto, unfolding(crate::specs::Records::method_number))]
 fn method_number(method: &Text) -> u8
-    ensures numbers_the_method { result ≡ method_number method.now }
+    ensures exact { result ≡ method_number method.now }
 {
     if method.is("PUT") {
         return 1;
@@ -23,11 +23,11 @@ fn method_number(method: &Text) -> u8
     0
 }
 
-// Adds a length and so many bytes.
+// Appends a length and that many bytes.
 #[tactic(auto, unfolding(crate::specs::Records::block))]
 fn put_block(made: &mut Bytes, bytes: &[u8]) -> Result<(), NoMemory>
     requires { length bytes.now < 2 ^ 32 }
-    ensures adds_the_block_behind { OnOk result (made.new ≡ made.old ++ block bytes.now) }
+    ensures appended { OnOk result (made.new ≡ made.old ++ block bytes.now) }
 {
     made.extend(&(bytes.len() as u32).to_be_bytes())?;
     made.extend(bytes)
@@ -35,7 +35,7 @@ fn put_block(made: &mut Bytes, bytes: &[u8]) -> Result<(), NoMemory>
 
 fn put_field(made: &mut Bytes, field: &Field) -> Result<(), NoMemory>
     requires { IsWritable field.now }
-    ensures adds_the_field_behind { OnOk result (made.new ≡ made.old ++ field_text field.now) }
+    ensures appended { OnOk result (made.new ≡ made.old ++ field_text field.now) }
 {
     put_block(made, field.name.as_str().as_bytes())?;
     put_block(made, field.value.as_slice())
@@ -43,7 +43,7 @@ fn put_field(made: &mut Bytes, field: &Field) -> Result<(), NoMemory>
 
 fn put_fields(made: &mut Bytes, fields: &[Field]) -> Result<(), NoMemory>
     requires { All IsWritable fields.now }
-    ensures adds_the_fields_behind { OnOk result (made.new ≡ made.old ++ flat_map field_text fields.now) }
+    ensures appended { OnOk result (made.new ≡ made.old ++ flat_map field_text fields.now) }
 {
     'fields: for field in fields {
         put_field(made, field)?;
@@ -53,7 +53,7 @@ fn put_fields(made: &mut Bytes, fields: &[Field]) -> Result<(), NoMemory>
 
 fn content_of(alloc: Global, request: &Request) -> Result<Bytes, NoMemory>
     requires { IsRecordable request.now }
-    ensures writes_the_content { IfOk result (λ bytes. bytes ≡ record_content request.now) }
+    ensures ok { IfOk result (λ bytes. bytes ≡ record_content request.now) }
 {
     let mut bytes = Bytes::new(alloc);
     bytes.push(method_number(&request.method))?;
@@ -68,7 +68,7 @@ fn content_of(alloc: Global, request: &Request) -> Result<Bytes, NoMemory>
 /// The record of a request that has one.
 pub(crate) fn record_of(alloc: Global, request: &Request) -> Result<Bytes, NoMemory>
     requires { IsRecordable request.now }
-    ensures writes_the_record { IfOk result (λ bytes. bytes ≡ record_of request.now) }
+    ensures ok { IfOk result (λ bytes. bytes ≡ record_of request.now) }
 {
     let content = content_of(alloc, request)?;
     let mut made = Bytes::new(alloc);

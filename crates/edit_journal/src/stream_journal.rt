@@ -5,8 +5,8 @@ ghost use Rattle.edit_journal.specs.Streams.{stream_state};
 use crate::Journal;
 use xcap_io::{Failed, Line, Sink, fault};
 
-/// A journal that hands its bytes over to a sink, from which nothing can be cut. Its count of faults is its own, and its first
-/// fault is one of the sink.
+/// A journal that writes its bytes to a sink, from which nothing can be cut. It has its own fault
+/// counter, and its first fault is one of the sink.
 #[derive(Drop)]
 pub struct StreamJournal<'a, O: Sink> {
     output: &'a mut O,
@@ -15,12 +15,13 @@ pub struct StreamJournal<'a, O: Sink> {
 }
 
 impl<'a, O: Sink> StreamJournal<'a, O> {
-    /// A journal that holds nothing yet. Takes no memory.
+    /// An empty journal. Does not allocate.
     pub fn new(output: &'a mut O) -> StreamJournal<'a, O>
-        ensures of_the_sink { ⟦<StreamJournal<'a, O> as Journal>⟧.state result
+        ensures sink_state { ⟦<StreamJournal<'a, O> as Journal>⟧.state result
             ≡ stream_state (O.state output.old) output.entry.ghost_name 0 0 }
         ensures holds_nothing { (⟦<StreamJournal<'a, O> as Journal>⟧.state result).held ≡ [] }
-        ensures behind_what_was_taken { (⟦<StreamJournal<'a, O> as Journal>⟧.state result).before ≡ (O.state output.old).taken }
+        ensures starts_after_taken { (⟦<StreamJournal<'a, O> as Journal>⟧.state result).before
+            ≡ (O.state output.old).taken }
     {
         StreamJournal {
             output,
@@ -31,7 +32,8 @@ impl<'a, O: Sink> StreamJournal<'a, O> {
 
     /// Whether a call has failed.
     pub fn has_failed(&self) -> bool
-        ensures tells_whether_a_call_failed { result ≡ nat_lt 0 (⟦<StreamJournal<'a, O> as Journal>⟧.state self.now).faults }
+        ensures exact { result
+            ≡ nat_lt 0 (⟦<StreamJournal<'a, O> as Journal>⟧.state self.now).faults }
     {
         self.faults > 0
     }

@@ -1,9 +1,9 @@
 -- The length of a print after a change.
 use Rattle.std.proofs.Common.{◌≡◌, ℕ, zero, suc, ◌+◌, ◌<◌, ◌≤◌, Bool, true, false, cond, List, [], ◌∷◌, ◌++◌, length, flat_map, option_to_list, Some, refl, ap, ◌∙◌, arith}
 use Rattle.std.specs.List.{slice_get}
-use Rattle.xml_tree.specs.Tree.{Content, last, more, note, Tree, tree_of, at, kids, kids_of}
+use Rattle.xml_tree.specs.Tree.{Content, last, more, comment_node, Tree, tree_of, at, child_elements, child_elements_of}
 use Rattle.xml_tree.specs.Attributes.{with_attr, without_attr}
-use Rattle.xml_tree.specs.Edits.{cut, cut_kid, own_number, put_kid}
+use Rattle.xml_tree.specs.Edits.{cut, cut_child, own_number, put_kid}
 use Rattle.xml_tree.specs.Nodes.{nodes_of, text_node}
 use Rattle.xml_tree.specs.Print.{byte_len, is_empty, print}
 use Rattle.xml_tree.specs.declared.tree.Node.{Node}
@@ -13,9 +13,9 @@ use Rattle.xml_tree.proofs.PrintEdits.{attrs-dropped, attrs-written, content-cut
 use Rattle.edit_ops.specs.declared.change.Change.{Change}
 use Rattle.edit_ops.specs.declared.change.Change.TheVariants.{CreateDocument, Insert, Replace, Remove, SetAttr, DropAttr, RemoveDocument}
 use Rattle.edit_ops.specs.Changes.{edited}
-use Rattle.edit_ops.specs.inner.Lengths.{brought, end_tag_len, lost}
-use Rattle.edit_ops.specs.Rebuilding.{site}
-use Rattle.edit_ops.specs.inner.Here.{FitsHere, made_here}
+use Rattle.edit_ops.specs.inner.Lengths.{inserted_part, end_tag_len, lost}
+use Rattle.edit_ops.specs.ElementChanges.{site}
+use Rattle.edit_ops.specs.inner.LocalChanges.{FitsHere, made_here}
 use Rattle.edit_ops.proofs.SiteLemmas.{edited_there}
 
 -- ---- an element that gets its first node, or loses its only one
@@ -24,53 +24,53 @@ some_nodes : (t : List ℕ) (x : Node) (ns : List Node) → length (text_node t 
 some_nodes [] x ns e = absurd (omega (arith, e))
 some_nodes (c ∷ t) x ns e = absurd (omega (arith, e))
 
-nodes_there : (i : ℕ) (c : Content) → i < length (kids c) → length (nodes_of c) ≡ 0 → ⊥
+nodes_there : (i : ℕ) (c : Content) → i < length (child_elements c) → length (nodes_of c) ≡ 0 → ⊥
 nodes_there i (last t) h e = absurd (omega arith)
 nodes_there i (more t n ds ats c rest) h e = some_nodes t _ (nodes_of rest) e
-nodes_there i (note t x rest) h e = some_nodes t _ (nodes_of rest) e
+nodes_there i (comment_node t x rest) h e = some_nodes t _ (nodes_of rest) e
 
 -- an element without nodes, and one with nodes
 pub bare : (c : Content) → length (nodes_of c) ≡ 0 → is_empty c ≡ true
 bare (last []) e = refl
 bare (last (x ∷ t)) e = absurd (omega (arith, e))
 bare (more t n ds ats c rest) e = absurd (some_nodes t _ (nodes_of rest) e)
-bare (note t x rest) e = absurd (some_nodes t _ (nodes_of rest) e)
+bare (comment_node t x rest) e = absurd (some_nodes t _ (nodes_of rest) e)
 
 pub full : (c : Content) → (length (nodes_of c) ≡ 0 → ⊥) → is_empty c ≡ false
 full (last []) ne = absurd (ne refl)
 full (last (x ∷ t)) ne = refl
 full (more t n ds ats c rest) ne = refl
-full (note t x rest) ne = refl
+full (comment_node t x rest) ne = refl
 
 more_than_one : (t : List ℕ) (x : Node) (ns : List Node) → (length ns ≡ 0 → ⊥) → length (text_node t ++ x ∷ ns) ≡ 1 → ⊥
 more_than_one [] x ns some e = some (omega (arith, e))
 more_than_one (c ∷ t) x ns some e = absurd (omega (arith, e))
 
-pub alone : (i : ℕ) (c : Content) → i < length (kids c) → length (nodes_of c) ≡ 1 → is_empty (cut i c) ≡ true
+pub alone : (i : ℕ) (c : Content) → i < length (child_elements c) → length (nodes_of c) ≡ 1 → is_empty (cut i c) ≡ true
 alone i (last t) h e = absurd (omega arith)
 alone zero (more (x ∷ t) n ds ats c rest) h e = absurd (omega (arith, e))
 alone zero (more [] n ds ats c (last [])) h e = refl
 alone zero (more [] n ds ats c (last (x ∷ t))) h e = absurd (omega (arith, e))
 alone zero (more [] n ds ats c (more t m ds' ats' c' rest)) h e = absurd (more_than_one [] (Elem (tree_of n ds ats c)) _ (some_nodes t (Elem (tree_of m ds' ats' c')) (nodes_of rest)) e)
-alone zero (more [] n ds ats c (note t x rest)) h e = absurd (more_than_one [] (Elem (tree_of n ds ats c)) _ (some_nodes t (Comment x) (nodes_of rest)) e)
+alone zero (more [] n ds ats c (comment_node t x rest)) h e = absurd (more_than_one [] (Elem (tree_of n ds ats c)) _ (some_nodes t (Comment x) (nodes_of rest)) e)
 alone (suc i) (more t n ds ats c rest) h e = absurd (more_than_one t _ (nodes_of rest) (nodes_there i rest (omega arith)) e)
-alone i (note t x rest) h e = absurd (more_than_one t _ (nodes_of rest) (nodes_there i rest h) e)
+alone i (comment_node t x rest) h e = absurd (more_than_one t _ (nodes_of rest) (nodes_there i rest h) e)
 
-pub not_alone : (i : ℕ) (c : Content) → i < length (kids c) → (length (nodes_of c) ≡ 1 → ⊥) → is_empty (cut i c) ≡ false
+pub not_alone : (i : ℕ) (c : Content) → i < length (child_elements c) → (length (nodes_of c) ≡ 1 → ⊥) → is_empty (cut i c) ≡ false
 not_alone i (last t) h ne = absurd (omega arith)
 not_alone zero (more (x ∷ t) n ds ats c (last u)) h ne = refl
 not_alone zero (more (x ∷ t) n ds ats c (more u m ds' ats' c' rest)) h ne = refl
-not_alone zero (more (x ∷ t) n ds ats c (note u y rest)) h ne = refl
+not_alone zero (more (x ∷ t) n ds ats c (comment_node u y rest)) h ne = refl
 not_alone zero (more [] n ds ats c (last [])) h ne = absurd (ne refl)
 not_alone zero (more [] n ds ats c (last (x ∷ t))) h ne = refl
 not_alone zero (more [] n ds ats c (more t m ds' ats' c' rest)) h ne = refl
-not_alone zero (more [] n ds ats c (note t x rest)) h ne = refl
+not_alone zero (more [] n ds ats c (comment_node t x rest)) h ne = refl
 not_alone (suc i) (more t n ds ats c rest) h ne = refl
-not_alone i (note t x rest) h ne = refl
+not_alone i (comment_node t x rest) h ne = refl
 
--- ---- what a change takes and brings
+-- ---- what a change removes and adds
 
--- a part that is there
+-- an existing part
 pub one : {A : Type 0} (f : A → List ℕ) (x : A) → byte_len (flat_map f (option_to_list (Some x))) ≡ byte_len (f x)
 one f x = byte_len-append (f x) [] ∙ omega arith
 
@@ -81,11 +81,11 @@ there i [] h = absurd (omega arith)
 there zero (x ∷ xs) h = (x, refl)
 there (suc i) (x ∷ xs) h = there i xs (omega arith)
 
--- the print of the element that a change is made in, with what it loses and what it gets
+-- the print of the element that a change is made in, with what it loses and what it gains
 abbrev Balanced : Change → Tree → Type 0
-Balanced change e = (byte_len (print (made_here change e)) + lost change e ≡ byte_len (print e) + brought change e) × (lost change e ≤ byte_len (print e))
+Balanced change e = (byte_len (print (made_here change e)) + lost change e ≡ byte_len (print e) + inserted_part change e) × (lost change e ≤ byte_len (print e))
 
-put_here : (gap : ℕ) (k e : Tree) → gap ≤ length (kids_of e) → (b : Bool) → is_empty e.content ≡ b
+put_here : (gap : ℕ) (k e : Tree) → gap ≤ length (child_elements_of e) → (b : Bool) → is_empty e.content ≡ b
     → byte_len (print (put_kid gap k e)) ≡ byte_len (print e) + (byte_len (print k) + cond (is_empty e.content) (end_tag_len e.name) 0)
 put_here gap k e fits true h =
     omega (
@@ -108,12 +108,12 @@ put_here gap k e fits false h =
       ap (λ (b : Bool). cond b (end_tag_len e.name) 0) h,
     )
 
-cut_here : (i : ℕ) (k e : Tree) → slice_get (kids_of e) i ≡ Some k → (b : Bool) → is_empty (cut i e.content) ≡ b
-    → byte_len (print (cut_kid i e)) + (byte_len (print k) + cond (is_empty (cut i e.content)) (end_tag_len e.name) 0) ≡ byte_len (print e)
+cut_here : (i : ℕ) (k e : Tree) → slice_get (child_elements_of e) i ≡ Some k → (b : Bool) → is_empty (cut i e.content) ≡ b
+    → byte_len (print (cut_child i e)) + (byte_len (print k) + cond (is_empty (cut i e.content)) (end_tag_len e.name) 0) ≡ byte_len (print e)
 cut_here i k e is true h =
     omega (
       arith,
-      print-parts (cut_kid i e),
+      print-parts (cut_child i e),
       print-parts e,
       content-cut i k e.content is,
       ap (ending_len e.name) (full-there i k e.content is),
@@ -123,7 +123,7 @@ cut_here i k e is true h =
 cut_here i k e is false h =
     omega (
       arith,
-      print-parts (cut_kid i e),
+      print-parts (cut_child i e),
       print-parts e,
       content-cut i k e.content is,
       ap (ending_len e.name) (full-there i k e.content is),
@@ -136,9 +136,9 @@ balanced (CreateDocument root) e fits = absurd fits
 balanced (Insert parent gap k) e fits = (omega (arith, put_here gap k e fits (is_empty e.content) refl), omega arith)
 balanced (Replace p other) e fits = (omega arith, omega arith)
 balanced (Remove p) e fits =
-    let kid = there (own_number p) (kids_of e) fits.1 in
-    let here = cut_here (own_number p) kid.0 e kid.1 (is_empty (cut (own_number p) e.content)) refl in
-    let len = ap (λ o. byte_len (flat_map print (option_to_list o))) kid.1 ∙ one print kid.0 in
+    let child_element = there (own_number p) (child_elements_of e) fits.1 in
+    let here = cut_here (own_number p) child_element.0 e child_element.1 (is_empty (cut (own_number p) e.content)) refl in
+    let len = ap (λ o. byte_len (flat_map print (option_to_list o))) child_element.1 ∙ one print child_element.0 in
     (omega (arith, here, len), omega (arith, here, len))
 balanced (SetAttr p name value) e fits =
     let tag = print-attrs e (with_attr name value e.attrs) in
@@ -153,7 +153,7 @@ balanced RemoveDocument e fits = absurd fits
 -- ---- the whole tree
 
 pub len_after : (t e : Tree) (change : Change) → at (site change) t ≡ Some e → FitsHere change e
-    → (byte_len (print (edited t change)) + lost change e ≡ byte_len (print t) + brought change e) × (lost change e ≤ byte_len (print t))
+    → (byte_len (print (edited t change)) + lost change e ≡ byte_len (print t) + inserted_part change e) × (lost change e ≤ byte_len (print t))
 len_after t e change is fits =
     let here = balanced change e fits in
     let whole = print-change_at (site change) (made_here change) e t is in

@@ -1,7 +1,10 @@
+pub mod Around
 pub mod LengthLemmas
 pub mod MoveLaws
 pub mod NodeLemmas
+pub mod Operations
 pub mod SiteLemmas
 pub mod StageLemmas
 pub mod TagLemmas
+pub mod Values
 pub mod WayLemmas

@@ -3,17 +3,17 @@ use Rattle.std.proofs.Common.{◌≡◌, inl, ℕ, zero, suc, ◌-◌, ◌<◌, 
 use Rattle.std.proofs.lemmas.Bool.{cases_eq, cases_lt, cases_order, le-leb, lt-leb}
 use Rattle.std.specs.List.{slice_get}
 use Rattle.std.specs.Option.{option_map, option_and_then, IsSomeAnd}
-use Rattle.xml_tree.specs.Tree.{Tree, at, kids, kids_of}
-use Rattle.xml_tree.specs.Edits.{change_at, cut_kid, cut_out, drop_at, drop_attr, own_number, parent_path, put_in, put_kid, put_over, set_at, write_attr}
+use Rattle.xml_tree.specs.Tree.{Tree, at, child_elements, child_elements_of}
+use Rattle.xml_tree.specs.Edits.{change_at, cut_child, cut_out, drop_at, drop_attr, own_number, parent_path, put_in, put_kid, put_over, set_at, write_attr}
 use Rattle.xml_tree.proofs.PathLemmas.{from_there}
-use Rattle.xml_tree.proofs.PlaceLaws.{at-change_at, kids-cut, kids-put, this_kid}
+use Rattle.xml_tree.proofs.PlaceLaws.{at-change_at, child_elements-cut, child_elements-put, this_kid}
 use Rattle.edit_ops.specs.declared.change.Change.{Change}
 use Rattle.edit_ops.specs.declared.change.Change.TheVariants.{CreateDocument, Insert, Replace, Remove, SetAttr, DropAttr, RemoveDocument}
 use Rattle.edit_ops.specs.Changes.{Fits, edited}
-use Rattle.edit_ops.specs.Moves.{KeepsTheOthers, behind, closed_up, made_room, re_routed, under, unless}
+use Rattle.edit_ops.specs.MovedPaths.{KeepsTheOthers, behind, closed_up, made_room, re_routed, under, unless}
 use Rattle.edit_ops.proofs.WayLemmas.{behind-other, behind-same, behind-whole, front-apart, front-none}
 
--- ---- items beside one that is put in or taken out
+-- ---- items beside one that is inserted or removed
 
 behind_gap : {A : Type 0} (xs : List A) (j : ℕ) (e : A) (n : ℕ) → j ≤ n → j ≤ length xs → slice_get (insert xs j e) (suc n) ≡ slice_get xs n
 behind_gap xs zero e n le h = refl
@@ -47,7 +47,7 @@ before_hole (x ∷ xs) (suc i) (suc n) lt = before_hole xs i n (omega arith)
 
 -- ---- a path that leads through a changed element
 
--- the change g of the element at q moves what is below that element as f says
+-- the change g of the element at q moves what is below that element as f does
 abbrev Shifts : (List ℕ → List ℕ) → (Tree → Tree) → List ℕ → List ℕ → Tree → Type 0
 Shifts f g q p t = (n : ℕ) (r : List ℕ) (e : Tree) → behind q p ≡ Some (n ∷ r) → at q t ≡ Some e → at (f (n ∷ r)) (g e) ≡ at (n ∷ r) e
 
@@ -64,7 +64,7 @@ same_way : (m : ℕ) (q p : List ℕ) (f : List ℕ → List ℕ) (g : Tree → 
 same_way m q p f g t away shifts ih =
     ap (λ u. at u (change_at (m ∷ q) g t)) (ap (re_routed f (m ∷ q) (m ∷ p)) (behind-same m q p) ∙ longer f m q p (behind q p))
     ∙ ap (option_and_then (at (under f q p))) (this_kid m (change_at q g) t.content)
-    ∙ below (slice_get (kids_of t) m) (under f q p) p (change_at q g)
+    ∙ below (slice_get (child_elements_of t) m) (under f q p) p (change_at q g)
     (λ k is. ih k (sym (behind-same m p q) ∙ away) (λ n r e b there. shifts n r e (behind-same m q p ∙ b) (ap (option_and_then (at q)) is ∙ there)))
 
 other_way : (m n : ℕ) (q p : List ℕ) (f : List ℕ → List ℕ) (g : Tree → Tree) (t : Tree) → (m ≡ n → ⊥) → at (under f (m ∷ q) (n ∷ p)) (change_at (m ∷ q) g t) ≡ at (n ∷ p) t
@@ -82,34 +82,34 @@ at-under (m ∷ q) (n ∷ p) f g t away shifts =
     (λ ne. other_way m n q p f g t ne)
     (cases_eq m n)
 
--- ---- an element put in a gap, or taken out
+-- ---- an element inserted into a gap, or removed
 
-room : (j n : ℕ) (r : List ℕ) (k e : Tree) → j ≤ length (kids_of e) → at (made_room j (n ∷ r)) (put_kid j k e) ≡ at (n ∷ r) e
+room : (j n : ℕ) (r : List ℕ) (k e : Tree) → j ≤ length (child_elements_of e) → at (made_room j (n ∷ r)) (put_kid j k e) ≡ at (n ∷ r) e
 room j n r k e h =
     ⊎_elim
-    (λ lt. ap (λ b. at (cond b (suc n) n ∷ r) (put_kid j k e)) (lt-leb j n lt) ∙ ap (option_and_then (at r)) (ap (λ l. slice_get l n) (kids-put j k e.content h) ∙ before_gap (kids_of e) j k n lt h))
+    (λ lt. ap (λ b. at (cond b (suc n) n ∷ r) (put_kid j k e)) (lt-leb j n lt) ∙ ap (option_and_then (at r)) (ap (λ l. slice_get l n) (child_elements-put j k e.content h) ∙ before_gap (child_elements_of e) j k n lt h))
     (λ le. ap (λ b. at (cond b (suc n) n ∷ r) (put_kid j k e)) (le-leb j n le)
-    ∙ ap (option_and_then (at r)) (ap (λ l. slice_get l (suc n)) (kids-put j k e.content h) ∙ behind_gap (kids_of e) j k n le h))
+    ∙ ap (option_and_then (at r)) (ap (λ l. slice_get l (suc n)) (child_elements-put j k e.content h) ∙ behind_gap (child_elements_of e) j k n le h))
     (cases_lt n j)
 
-hole : (i n : ℕ) (r : List ℕ) (e : Tree) → (i ≡ n → ⊥) → at (closed_up i (n ∷ r)) (cut_kid i e) ≡ at (n ∷ r) e
+hole : (i n : ℕ) (r : List ℕ) (e : Tree) → (i ≡ n → ⊥) → at (closed_up i (n ∷ r)) (cut_child i e) ≡ at (n ∷ r) e
 hole i n r e ne =
     ⊎_elim
     (λ same. absurd (ne same))
     (⊎_elim
-    (λ lt. ap (λ b. at (cond b (n - 1) n ∷ r) (cut_kid i e)) (le-leb (suc i) n (omega arith))
-    ∙ ap (option_and_then (at r)) (ap (λ l. slice_get l (n - 1)) (kids-cut i e.content) ∙ behind_hole_less (kids_of e) i n lt))
-    (λ lt. ap (λ b. at (cond b (n - 1) n ∷ r) (cut_kid i e)) (lt-leb (suc i) n (omega arith))
-    ∙ ap (option_and_then (at r)) (ap (λ l. slice_get l n) (kids-cut i e.content) ∙ before_hole (kids_of e) i n lt)))
+    (λ lt. ap (λ b. at (cond b (n - 1) n ∷ r) (cut_child i e)) (le-leb (suc i) n (omega arith))
+    ∙ ap (option_and_then (at r)) (ap (λ l. slice_get l (n - 1)) (child_elements-cut i e.content) ∙ behind_hole_less (child_elements_of e) i n lt))
+    (λ lt. ap (λ b. at (cond b (n - 1) n ∷ r) (cut_child i e)) (lt-leb (suc i) n (omega arith))
+    ∙ ap (option_and_then (at r)) (ap (λ l. slice_get l n) (child_elements-cut i e.content) ∙ before_hole (child_elements_of e) i n lt)))
     (cases_order i n)
 
-after_insert : (q p : List ℕ) (j : ℕ) (k t : Tree) → IsSomeAnd (at q t) (λ e. j ≤ length (kids_of e)) → behind p q ≡ None → at (under (made_room j) q p) (put_in q j k t) ≡ at p t
+after_insert : (q p : List ℕ) (j : ℕ) (k t : Tree) → IsSomeAnd (at q t) (λ e. j ≤ length (child_elements_of e)) → behind p q ≡ None → at (under (made_room j) q p) (put_in q j k t) ≡ at p t
 after_insert q p j k t fits away =
-    at-under q p (made_room j) (put_kid j k) t away (λ n r e b is. room j n r k e (from_there (at q t) (λ x. j ≤ length (kids_of x)) e fits is))
+    at-under q p (made_room j) (put_kid j k) t away (λ n r e b is. room j n r k e (from_there (at q t) (λ x. j ≤ length (child_elements_of x)) e fits is))
 
 after_remove : (q p : List ℕ) (t : Tree) → 0 < length q → behind p q ≡ None → behind q p ≡ None → at (under (closed_up (own_number q)) (parent_path q) p) (cut_out q t) ≡ at p t
 after_remove q p t some away gone =
-    at-under (parent_path q) p (closed_up (own_number q)) (cut_kid (own_number q)) t (front-none p q away) (λ n r e b is. hole (own_number q) n r e (front-apart q p n r some gone b))
+    at-under (parent_path q) p (closed_up (own_number q)) (cut_child (own_number q)) t (front-none p q away) (λ n r e b is. hole (own_number q) n r e (front-apart q p n r some gone b))
 
 -- ---- a change that moves nothing
 
@@ -120,7 +120,7 @@ stays_if f q p (Some r) whole same = ap (λ x. q ++ x) (same r) ∙ sym (whole r
 unmoved : (q p : List ℕ) (g : Tree → Tree) (t : Tree) → behind p q ≡ None → ((e : Tree) → (g e).content ≡ e.content) → at p (change_at q g t) ≡ at p t
 unmoved q p g t away same =
     ap (λ x. at x (change_at q g t)) (sym (stays_if (λ r. r) q p (behind q p) (behind-whole q p) (λ r. refl)))
-    ∙ at-under q p (λ r. r) g t away (λ n r e b is. ap (λ c. option_and_then (at r) (slice_get (kids c) n)) (same e))
+    ∙ at-under q p (λ r. r) g t away (λ n r e b is. ap (λ c. option_and_then (at r) (slice_get (child_elements c) n)) (same e))
 
 kept_there : (o : Option (List ℕ)) {B : Type 0} (x y : B) → unless o x ≡ Some y → (o ≡ None) × (x ≡ y)
 kept_there None x y h = (refl, cc)

@@ -1,17 +1,17 @@
--- The element that a change is made in, and the way to it.
+-- The element that a change is made in, and the path to it.
 use Rattle.std.proofs.Common.{◌≡◌, ℕ, zero, suc, ◌<◌, List, [], ◌∷◌, ◌++◌, length, Option, Some, None, IsSome, IsSomeAnd, refl, sym, ap, ◌∙◌, subst, arith}
 use Rattle.std.specs.List.{slice_get}
 use Rattle.std.specs.Option.{option_and_then}
-use Rattle.xml_tree.specs.Tree.{Content, last, more, note, more_of, Tree, at, kids, kids_of}
-use Rattle.xml_tree.specs.Edits.{change, change_at, change_kid, own_number, parent_path}
+use Rattle.xml_tree.specs.Tree.{Content, last, more, comment_node, more_of, Tree, at, child_elements, child_elements_of}
+use Rattle.xml_tree.specs.Edits.{change, change_at, change_child, own_number, parent_path}
 use Rattle.xml_tree.proofs.PathLemmas.{at-snoc, kid_there}
 use Rattle.edit_ops.specs.declared.change.Change.{Change}
 use Rattle.edit_ops.specs.declared.change.Change.TheVariants.{CreateDocument, Insert, Replace, Remove, SetAttr, DropAttr, RemoveDocument}
 use Rattle.edit_ops.specs.Changes.{Fits, edited}
-use Rattle.edit_ops.specs.Rebuilding.{site}
-use Rattle.edit_ops.specs.inner.Here.{FitsHere, made_here}
+use Rattle.edit_ops.specs.ElementChanges.{site}
+use Rattle.edit_ops.specs.inner.LocalChanges.{FitsHere, made_here}
 
--- ---- what is there
+-- ---- existing elements
 
 some_there : (o : Option Tree) → IsSome o → IsSomeAnd o (λ _. Unit {0})
 some_there None h = cc
@@ -38,12 +38,12 @@ fits_there t (Insert parent gap element) fits = fits
 fits_there t (Replace p element) fits = some_there (at p t) fits
 fits_there t (Remove p) fits =
     let below = subst IsSome (ap (λ q. at q t) (parent_and_number p fits.0) ∙ at-snoc (parent_path p) (own_number p) t) fits.1 in
-    there_with (at (parent_path p) t) (λ e. own_number p < length (kids_of e)) (FitsHere (Remove p)) (λ e h. (fits.0, h)) (kid_there (at (parent_path p) t) (own_number p) below)
+    there_with (at (parent_path p) t) (λ e. own_number p < length (child_elements_of e)) (FitsHere (Remove p)) (λ e h. (fits.0, h)) (kid_there (at (parent_path p) t) (own_number p) below)
 fits_there t (SetAttr p name value) fits = some_there (at p t) fits
 fits_there t (DropAttr p name) fits = some_there (at p t) (some_before _ (at p t) fits)
 fits_there t RemoveDocument fits = absurd fits
 
--- a change is one of the element at its site
+-- a change of a tree is a change of the element at its site
 pub edited_there : (t : Tree) (change : Change) → edited t change ≡ change_at (site change) (made_here change) t
 edited_there t (CreateDocument root) = refl
 edited_there t (Insert parent gap element) = refl
@@ -53,14 +53,14 @@ edited_there t (SetAttr p name value) = refl
 edited_there t (DropAttr p name) = refl
 edited_there t RemoveDocument = refl
 
--- ---- one step of the way
+-- ---- one step of the path
 
--- the child that f makes of the one that is there
-made_child : (n : ℕ) (f : Tree → Tree) (k : Tree) (c : Content) → slice_get (kids c) n ≡ Some k → change n (λ _. f k) c ≡ change n f c
+-- the child that f makes of the existing one
+made_child : (n : ℕ) (f : Tree → Tree) (k : Tree) (c : Content) → slice_get (child_elements c) n ≡ Some k → change n (λ _. f k) c ≡ change n f c
 made_child n f k (last t) is = refl
 made_child zero f k (more t m ds ats c rest) is = ap (λ x. more_of t (f x) rest) (sym (cc))
 made_child (suc n) f k (more t m ds ats c rest) is = ap (more t m ds ats c) (made_child n f k rest is)
-made_child n f k (note t c rest) is = ap (note t c) (made_child n f k rest is)
+made_child n f k (comment_node t c rest) is = ap (comment_node t c) (made_child n f k rest is)
 
-pub made_below : (n : ℕ) (f : Tree → Tree) (k w t : Tree) → slice_get (kids_of t) n ≡ Some k → w ≡ f k → change_kid n (λ _. w) t ≡ change_kid n f t
-made_below n f k w t is made = ap (λ x. change_kid n (λ _. x) t) made ∙ ap (λ (x : Content). record t { content = x }) (made_child n f k t.content is)
+pub made_below : (n : ℕ) (f : Tree → Tree) (k w t : Tree) → slice_get (child_elements_of t) n ≡ Some k → w ≡ f k → change_child n (λ _. w) t ≡ change_child n f t
+made_below n f k w t is made = ap (λ x. change_child n (λ _. x) t) made ∙ ap (λ (x : Content). record t { content = x }) (made_child n f k t.content is)

@@ -6,9 +6,9 @@ use Rattle.xml_tree.proofs.PathLemmas.{from_there, made_at, with_there}
 use Rattle.edit_ops.specs.declared.change.Change.{Change}
 use Rattle.edit_ops.specs.declared.change.Change.TheVariants.{CreateDocument, Insert, Replace, Remove, SetAttr, DropAttr, RemoveDocument}
 use Rattle.edit_ops.specs.Changes.{Fits, WantsMemory, edited}
-use Rattle.edit_ops.specs.Rebuilding.{site}
-use Rattle.edit_ops.specs.inner.Here.{FitsHere, made_here}
-use Rattle.edit_ops.specs.inner.Here.{WantsHere}
+use Rattle.edit_ops.specs.ElementChanges.{site}
+use Rattle.edit_ops.specs.inner.LocalChanges.{FitsHere, made_here}
+use Rattle.edit_ops.specs.inner.LocalChanges.{WantsHere}
 use Rattle.edit_ops.proofs.SiteLemmas.{edited_there, fits_there}
 
 is_there : (o : Option Tree) (P : Tree → Type 0) → IsSomeAnd o P → IsSome o
@@ -19,7 +19,7 @@ not_there : (o : Option Tree) (P : Tree → Type 0) → IsSomeAnd o P → o ≡ 
 not_there None P h e = absurd h
 not_there (Some x) P h e = cc
 
--- a change that fits a tree has its site there, and fits the element there
+-- a change that fits a tree has its site in it, and fits the element there
 pub site_there : (t : Tree) (change : Change) → Fits t change → IsSome (at (site change) t)
 site_there t change fits = is_there (at (site change) t) (FitsHere change) (fits_there t change fits)
 
@@ -29,7 +29,7 @@ site_missing t change fits none = not_there (at (site change) t) (FitsHere chang
 pub fits_at : (t e : Tree) (change : Change) → Fits t change → at (site change) t ≡ Some e → FitsHere change e
 fits_at t e change fits is = from_there (at (site change) t) (FitsHere change) e (fits_there t change fits) is
 
--- the change wants memory in the tree where it wants it at its site
+-- the change may allocate in the tree where it may at its site
 pub wants_at : (t e : Tree) (change : Change) → at (site change) t ≡ Some e → WantsHere change e → WantsMemory t change
 wants_at t e (CreateDocument root) is h = absurd h
 wants_at t e (Insert parent gap element) is h = tt

@@ -5,11 +5,11 @@ use Rattle.xml_tree.specs.Attributes.{with_new_value, with_attr, is_written_so a
 use Rattle.xml_tree.specs.declared.names.Name.{Name}
 use Rattle.xml_tree.specs.declared.names.Attr.{Attr}
 
--- the attribute of the name stands first
+-- the attribute of the name is first
 first_written : (n : Name) (v : List ℕ) (a : Attr) (xs : List Attr) → is_named n a ≡ true → with_attr n v (a ∷ xs) ≡ with_new_value v a ∷ xs
 first_written n v a xs h = ap (λ b. cond b (with_new_value v a ∷ xs) (a ∷ with_attr n v xs)) h
 
--- what stands of the attributes once the one of the name was written, and the others behind it
+-- the rest of the attributes once the one of the name was written, and the others after it
 pub tag_written : (e m g made : Tree) (n : Name) (v : List ℕ) (a new : Attr) (xs ts back : List Attr) → m ≡ record e { attrs = m.attrs }
     → m.attrs ++ with_attr n v ts ≡ e.attrs ++ with_attr n v xs → ts ≡ a ∷ back → is_named n a ≡ true → new ≡ with_new_value v a
     → g ≡ record m { attrs = m.attrs ++ new ∷ [] } → made ≡ record g { attrs = g.attrs ++ back } → made ≡ record e { attrs = e.attrs ++ with_attr n v xs }

@@ -1,11 +1,11 @@
--- The way from one place to another below it.
+-- The path from one place to another below it.
 use Rattle.std.proofs.Common.{◌≡◌, ℕ, ◌<◌, ◌≤◌, All, subst, Bool, true, false, cond, List, [], ◌∷◌, ◌++◌, length, Option, Some, None, refl, sym, ap, ◌∙◌, arith}
 use Rattle.std.proofs.lemmas.Bool.{eqb-true, eq-eqb, ne_eqb}
 use Rattle.std.proofs.lemmas.List.Elements.{recursion_from_All}
 use Rattle.std.specs.List.{AllByRecursion}
 use Rattle.std.specs.Prelude.{◌==◌}
 use Rattle.xml_tree.specs.Edits.{parent_path, own_number}
-use Rattle.edit_ops.specs.Moves.{behind}
+use Rattle.edit_ops.specs.MovedPaths.{behind}
 use Rattle.xml_tree.proofs.PathLemmas.{front-snoc, final-snoc}
 
 -- ---- one number further
@@ -16,7 +16,7 @@ behind-same n q p = ap (λ b. cond b (behind q p) None) (eq-eqb n n refl)
 pub behind-other : (m n : ℕ) (q p : List ℕ) → (m ≡ n → ⊥) → behind (m ∷ q) (n ∷ p) ≡ None
 behind-other m n q p ne = ap (λ b. cond b (behind q p) None) (ne_eqb m n ne)
 
--- what stands behind a place, together with the place, is the path
+-- the rest after a place, appended to the place, is the path
 whole_if : (b : Bool) (m n : ℕ) (q p r : List ℕ) → (b ≡ true → m ≡ n) → (behind q p ≡ Some r → p ≡ q ++ r) → cond b (behind q p) None ≡ Some r → n ∷ p ≡ (m ∷ q) ++ r
 whole_if true m n q p r same rest is = λ i. sym (same refl) i ∷ rest is i
 whole_if false m n q p r same rest is = absurd (cc)
@@ -32,7 +32,7 @@ none_if : {A B : Type 0} (b : Bool) (x : Option A) (y : Option B) → (x ≡ Non
 none_if true x y f h = f h
 none_if false x y f h = refl
 
--- a place that isn't on the way to another isn't on the way to its parent
+-- a place that isn't on the path to another isn't on the path to its parent
 pub front-none : (p q : List ℕ) → behind p q ≡ None → behind p (parent_path q) ≡ None
 front-none [] q h = absurd (cc)
 front-none (n ∷ p) [] h = refl
@@ -43,7 +43,8 @@ apart_if : {A B : Type 0} (b : Bool) (x : Option A) (y : Option B) (s : B) (C : 
 apart_if true x y s C f h k = f h k
 apart_if false x y s C f h k = absurd (cc)
 
--- a path that leads through the parent of a place, and not through the place, goes on by another number
+-- a path that leads through the parent of a place, and not through the place, continues with
+-- another number
 pub front-apart : (q p : List ℕ) (n : ℕ) (r : List ℕ) → 0 < length q → behind q p ≡ None → behind (parent_path q) p ≡ Some (n ∷ r) → own_number q ≡ n → ⊥
 front-apart [] p n r some h k e = absurd (omega arith)
 front-apart (m ∷ []) [] n r some h k e = absurd (cc)

@@ -1,11 +1,13 @@
--- What a change makes of a document's tree. The places are those of RFC 4825, sections 8.2.3, 8.2.4 and 8.4, as paths of numbers.
+-- What a change makes of a document's tree. Places are the places of RFC 4825, sections 8.2.3,
+-- 8.2.4 and 8.4, as paths of numbers.
 use Rattle.std.specs.Prelude.{ℕ, ◌<◌, ◌≤◌, List, [], length, IsSome, IsSomeAnd}
-use Rattle.xml_tree.specs.Tree.{Tree, at, kids_of}
+use Rattle.xml_tree.specs.Tree.{Tree, at, child_elements_of}
 use Rattle.xml_tree.specs.Edits.{put_in, put_over, cut_out, set_at, drop_at, attr_at, TextsMeetAt}
 use Rattle.edit_ops.specs.declared.change.Change.{Change}
 use Rattle.edit_ops.specs.declared.change.Change.TheVariants.{CreateDocument, Insert, Replace, Remove, SetAttr, DropAttr, RemoveDocument}
 
--- the tree after the change; a document that is made or removed has no tree before and after it, and the tree given stands
+-- the tree after the change; creating or removing a document has no tree before or after it, and
+-- leaves the given tree
 abbrev pub edited : Tree → Change → Tree
 edited t (CreateDocument root) = t
 edited t (Insert parent gap element) = put_in parent gap element t
@@ -15,17 +17,19 @@ edited t (SetAttr p name value) = set_at p name value t
 edited t (DropAttr p name) = drop_at p name t
 edited t RemoveDocument = t
 
--- the change is one of the tree: its place, gap and dropped attribute are there, and the root isn't to be removed
+-- the change fits the tree: its place, gap and dropped attribute are there, and it doesn't remove
+-- the root
 abbrev pub Fits : Tree → Change → Type 0
 Fits t (CreateDocument root) = ⊥
-Fits t (Insert parent gap element) = IsSomeAnd (at parent t) (λ e. gap ≤ length (kids_of e))
+Fits t (Insert parent gap element) = IsSomeAnd (at parent t) (λ e. gap ≤ length (child_elements_of e))
 Fits t (Replace p element) = IsSome (at p t)
 Fits t (Remove p) = (0 < length p) × IsSome (at p t)
 Fits t (SetAttr p name value) = IsSome (at p t)
 Fits t (DropAttr p name) = IsSome (attr_at p name t)
 Fits t RemoveDocument = ⊥
 
--- the change may want memory: never to drop an attribute, and to remove an element only where texts meet that have to be joined
+-- the change may have to allocate: not to drop an attribute, and to remove an element only if
+-- texts meet that have to be joined
 abbrev pub WantsMemory : Tree → Change → Type 0
 WantsMemory t (CreateDocument root) = ⊥
 WantsMemory t (Insert parent gap element) = Unit {0}
@@ -35,7 +39,8 @@ WantsMemory t (SetAttr p name value) = Unit {0}
 WantsMemory t (DropAttr p name) = ⊥
 WantsMemory t RemoveDocument = ⊥
 
--- where the change lies: the element that is given a child or an attribute, loses an attribute, or is itself replaced or removed
+-- where the change lies: the element that gets a child or an attribute, loses an attribute, or is
+-- itself replaced or removed
 abbrev pub place : Change → List ℕ
 place (CreateDocument root) = []
 place (Insert parent gap element) = parent

@@ -1,10 +1,11 @@
--- How long the print is of the element that a change brings, in bytes as UTF-8.
+-- The length of the print of the element that a change inserts, in bytes as UTF-8.
 use Rattle.std.specs.Prelude.{ℕ}
 use Rattle.xml_tree.specs.Print.{byte_len, print}
 use Rattle.edit_ops.specs.declared.change.Change.{Change}
 use Rattle.edit_ops.specs.declared.change.Change.TheVariants.{CreateDocument, Insert, Replace, Remove, SetAttr, DropAttr, RemoveDocument}
 
--- of the element that is made, put in or exchanged for another; 0 where there is none
+-- the printed length of the created root, the inserted element or the replacement; 0 if there is
+-- none
 abbrev pub element_len : Change → ℕ
 element_len (CreateDocument root) = byte_len (print root)
 element_len (Insert parent gap element) = byte_len (print element)

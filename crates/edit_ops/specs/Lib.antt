@@ -1,6 +1,10 @@
 pub mod Changes
+pub mod ElementChanges
+pub mod Inserted
 pub mod Lengths
-pub mod Moves
-pub mod Rebuilding
-pub mod Staging
+pub mod MovedPaths
+pub mod Notes
+pub mod Operations
+pub mod Recorded
+pub mod StagedChanges
 pub mod inner

@@ -1,3 +1,5 @@
--- What private functions and proofs speak of. No clause of a public call needs it.
+-- Definitions for private functions and proofs; no public clause needs them.
 pub mod Lengths
-pub mod Here
+pub mod LocalChanges
+pub mod RecordData
+pub mod RecordLengths

@@ -1,6 +1,6 @@
-//! Changes, and the places that an address means for a PUT.
+//! Changes of documents (RFC 4825, sections 8.2 and 8.4).
 ghost use Rattle.std.specs.Prelude.{◌≡◌, IfOk};
-ghost use Rattle.edit_ops.specs.Rebuilding.{site};
+ghost use Rattle.edit_ops.specs.ElementChanges.{site};
 
 use std::alloc::{AllocError, Global};
 use xml_tree::{Element, Name, Path, Text, copy_tree};
@@ -8,38 +8,38 @@ use xml_tree::{Element, Name, Path, Text, copy_tree};
 /// A change of a document.
 #[derive(Drop)]
 pub enum Change {
-    /// The document is made, with this root.
+    /// Creates the document, with this root.
     CreateDocument {
         root: Element,
     },
-    /// An element is put in a gap of the element at a path: gap 0 stands before all nodes, gap `j` directly behind the `j`-th
-    /// element child.
+    /// Inserts an element into a gap of the element at a path: gap 0 is before all nodes, gap `j`
+    /// directly after the `j`-th child element.
     Insert {
         parent: Path,
         gap: usize,
         element: Element,
     },
-    /// The element at a path is exchanged for another.
+    /// Replaces the element at a path by another.
     Replace {
         at: Path,
         element: Element,
     },
-    /// The element at a path is taken out, and texts that meet are joined.
+    /// Removes the element at a path, and joins texts that meet.
     Remove {
         at: Path,
     },
-    /// The attribute of this prefix and local name is written, behind the others if it is new.
+    /// Writes the attribute of this prefix and local name, after the others if it is new.
     SetAttr {
         at: Path,
         name: Name,
         value: Text,
     },
-    /// The attribute of this prefix and local name is taken out.
+    /// Removes the attribute of this prefix and local name.
     DropAttr {
         at: Path,
         name: Name,
     },
-    /// The document is removed.
+    /// Removes the document.
     RemoveDocument,
 }
 
@@ -47,9 +47,9 @@ impl Change {
     /// An equal change.
     ///
     /// # Errors
-    /// `NoMemory` for want of memory.
+    /// `NoMemory` when out of memory.
     pub fn copy(&self, alloc: Global) -> Result<Change, AllocError>
-        ensures makes_an_equal_change { IfOk result (λ made. made ≡ self.now) }
+        ensures equal_copy { IfOk result (λ made. made ≡ self.now) }
     {
         let made = match self {
             Change::CreateDocument { root } => {
@@ -101,7 +101,7 @@ impl Change {
 // The place of the element that a change is made in.
 #[tactic(auto, using(crate::proofs::WayLemmas::parents))]
 pub(crate) fn site_of(change: &Change) -> Path
-    ensures place_of_the_change { result ≡ site change.now }
+    ensures exact { result ≡ site change.now }
 {
     match change {
         Change::CreateDocument { .. } => Path::root(),

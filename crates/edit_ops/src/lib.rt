@@ -1,21 +1,37 @@
-//! Changes of a document's tree, made in place or as a new tree, and where each element stands after one.
-//! Promises upward that a change makes exactly the edited tree, and that every element beside it is found unchanged where it is said to be.
-//! The standard is RFC 4825, sections 8.2.3, 8.2.4 and 8.4.
+//! Changes of a document's tree, made in place, in two steps or as a new tree; where each element
+//! is afterwards; and change records (`EditNote`), from which xcap-diff documents are written.
+//! Promises upward that a change makes exactly the `edited` tree, that every element beside it is
+//! found unchanged where `moved` says (`KeepsTheOthers`), that a record is `note_of` its change
+//! and tree, and that its weight is the length of its operation's text, at most `usize::MAX`.
+//! The standards are RFC 4825, sections 8.2.3, 8.2.4 and 8.4, RFC 5874 and RFC 5261.
+//! The memory for a change is outside the tree until the change is made (`Staged`), as contracts
+//! don't see a vector's capacity.
 #![tactic(auto)]
 
 mod apply;
 mod change;
+mod edit;
+mod edit_note;
 mod laws;
 mod lengths;
-mod moves;
-mod rebuilding;
-mod staged;
+mod lent_notes;
+mod moved_paths;
+mod rebuild_tree;
+mod record_bindings;
+mod record_lengths;
+mod record_weight;
+mod recorded_tree;
+mod staged_change;
 
 pub use apply::apply_change;
 pub use change::Change;
+pub use edit::Edit;
+pub use edit_note::EditNote;
 pub use laws::elements_beside_a_change_stay;
 pub use lengths::{element_len, printed_len_after};
-pub use moves::{moved, through};
-pub use rebuilding::{rebuilt, tag_of};
-pub use staged::{Staged, make_staged, stage};
+pub use lent_notes::Notes;
+pub use moved_paths::{moved, through};
+pub use rebuild_tree::{rebuilt, without_children};
+pub use recorded_tree::RecordedTree;
+pub use staged_change::{Staged, apply_staged, stage};
 pub use std::alloc::AllocError as NoMemory;

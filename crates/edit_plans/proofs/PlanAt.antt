@@ -1,8 +1,8 @@
--- A plan seen from the parent of a selected element is that of the whole document.
+-- A plan decided from the parent of a selected element is the plan of the whole document.
 use Rattle.std.proofs.Common.{◌≡◌, ◌↔◌, inl, inr, ◌-◌, ◌<◌, ◌≤◌, ℕ, List, [], ◌∷◌, ◌++◌, length, get_or, take, Option, Some, None, IsSome, option_and_then, Result, remove, slice_get, refl, sym, ap, ◌∙◌, subst, arith}
 use Rattle.std.proofs.lemmas.Option.{same_Some}
 use Rattle.doc_names.specs.declared.usages.Usage.{Usage}
-use Rattle.xml_tree.specs.Tree.{Tree, at, kids_of}
+use Rattle.xml_tree.specs.Tree.{Tree, at, child_elements_of}
 use Rattle.xml_tree.specs.Edits.{cut_out, parent_path, own_number, put_over, take_in}
 use Rattle.xml_tree.specs.Scopes.{scope_at, inside}
 use Rattle.xml_tree.proofs.PlaceLaws.{at-append}
@@ -12,28 +12,28 @@ use Rattle.node_select.specs.declared.selector.End.TheVariants as ends
 use Rattle.node_select.specs.declared.selector.Selector.{Selector}
 use Rattle.node_select.specs.Selection.{SelectsAmong, SelectsChild, SelectsPath, Found, has_end}
 use Rattle.node_select.proofs.Along.{last_step_to, one_path, path_there}
-use Rattle.usage_docs.specs.declared.rows.Kind.{Kind}
-use Rattle.usage_docs.specs.declared.judging.Fault.TheVariants.{Invalid}
-use Rattle.usage_docs.specs.Judging.{Judged}
-use Rattle.usage_docs.specs.Rows.{Scope}
-use Rattle.usage_docs.specs.Clashes.{Unique}
-use Rattle.usage_docs.specs.Forms.{Constraints}
-use Rattle.usage_docs.specs.Validity.{Schema as IsValid}
+use Rattle.usage_docs.specs.declared.schema_table.ElementKind.{ElementKind}
+use Rattle.usage_docs.specs.declared.validation.Fault.TheVariants.{Invalid}
+use Rattle.usage_docs.specs.Validation.{HasFirstFault}
+use Rattle.usage_docs.specs.SchemaTable.{Scope}
+use Rattle.usage_docs.specs.UniqueKeys.{HasUniqueKeys}
+use Rattle.usage_docs.specs.Forms.{MeetsConstraints}
+use Rattle.usage_docs.specs.Validity.{IsValidDocument as IsValid}
 use Rattle.edit_ops.specs.declared.change.Change.{Change}
 use Rattle.edit_ops.specs.declared.change.Change.TheVariants.{Remove, Replace}
-use Rattle.plan_words.specs.declared.refusal.EditRefusal.{EditRefusal}
-use Rattle.plan_words.specs.declared.refusal.EditRefusal.TheVariants.{CannotInsert, CannotDelete}
-use Rattle.plan_words.specs.Deletions.{FindsNothingAfter, IsDeletePlan, IsPlanFor, IsRemoval}
+use Rattle.edit_rules.specs.declared.refusal.EditRefusal.{EditRefusal}
+use Rattle.edit_rules.specs.declared.refusal.EditRefusal.TheVariants.{CannotInsert, CannotDelete}
+use Rattle.edit_rules.specs.Deletions.{FindsNothingAfter, IsDeletePlan, IsPlanFor, IsRemoval}
 use Rattle.usage_docs.specs.Kinds.{kind_at}
-use Rattle.plan_words.specs.Lawful.{LawfulOver}
-use Rattle.plan_words.specs.Plans.{IsTested}
-use Rattle.plan_words.proofs.ClashesAt.{unique_there}
-use Rattle.plan_words.proofs.Exchanged.{first_over, foreign_over, formed_over}
-use Rattle.plan_words.proofs.Removed.{formed_without, unique_without, still_selected}
-use Rattle.plan_words.proofs.StaysSelected.{lawful_over}
-use Rattle.plan_words.proofs.ValidInside.{valid_over, valid_without}
-use Rattle.edit_plans.specs.inner.Asking.{FormedIn, IsExchangedIn, IsRemovedIn, IsSelected, NoClash}
-use Rattle.edit_plans.specs.inner.Tested.{IsTestedAs, made}
+use Rattle.edit_rules.specs.LawfulPlaces.{IsLawfulReplacement}
+use Rattle.edit_rules.specs.Plans.{IsTested}
+use Rattle.edit_rules.proofs.ClashesAt.{unique_there}
+use Rattle.edit_rules.proofs.Exchanged.{first_over, foreign_over, formed_over}
+use Rattle.edit_rules.proofs.Removed.{formed_without, unique_without, still_selected}
+use Rattle.edit_rules.proofs.StaysSelected.{lawful_over}
+use Rattle.edit_rules.proofs.ValidInside.{valid_over, valid_without}
+use Rattle.edit_plans.specs.inner.ChildChanges.{FormedIn, IsExchangedIn, IsRemovedIn, IsSelected, NoClash}
+use Rattle.edit_plans.specs.inner.CheckedChanges.{IsTestedAs, allowed_change}
 use Rattle.edit_plans.proofs.Judging.{judged_from, made_tested}
 use Rattle.edit_plans.proofs.PlanUnder.{last_step_is}
 use Rattle.edit_plans.proofs.SpotLemmas.{parts}
@@ -45,9 +45,9 @@ no_deeper c xs [] j h = h
 no_deeper c xs (n ∷ q) j h = h
 
 not_below : (s : Step) (t : Tree) (q : List ℕ) (j : ℕ) → SelectsPath (s ∷ []) t (q ++ j ∷ []) → ⊥
-not_below s t q j h = no_deeper (inside [] h.1.0) (kids_of h.1.0) q j h.1.2
+not_below s t q j h = no_deeper (inside [] h.1.0) (child_elements_of h.1.0) q j h.1.2
 
--- the steps before the last one are some, and the parent is there with the selected child
+-- the steps before the last one are not empty, and the parent exists with the selected child
 pub record HasParent (t : Tree) (all before : List Step) (s : Step) (q : List ℕ) (j : ℕ) : Type 0 where
   pub first : Step
   pub steps : List Step
@@ -55,7 +55,7 @@ pub record HasParent (t : Tree) (all before : List Step) (s : Step) (q : List �
   pub select : SelectsPath (first ∷ steps) t q
   pub parent : Tree
   pub there : at q t ≡ Some parent
-  pub selects : SelectsChild (scope_at q t) s (kids_of parent) j
+  pub selects : SelectsChild (scope_at q t) s (child_elements_of parent) j
 
 pub parent_of : (t : Tree) (all before : List Step) (s : Step) (q : List ℕ) (j : ℕ) → all ≡ before ++ s ∷ [] → SelectsPath all t (q ++ j ∷ []) → HasParent t all before s q j
 parent_of t all [] s q j are h = absurd (not_below s t q j (subst (λ (l : List Step). SelectsPath l t (q ++ j ∷ [])) are h))
@@ -67,21 +67,21 @@ parent_of t all (first ∷ steps) s q j are h =
       select = l.0;
       parent = l.1.element;
       there = l.1.there;
-      selects = subst (λ (d : Scope). SelectsChild d s (kids_of l.1.element) j) (sym (scope_at-below q t)) l.1.selects;
+      selects = subst (λ (d : Scope). SelectsChild d s (child_elements_of l.1.element) j) (sym (scope_at-below q t)) l.1.selects;
     }
 
--- the children of an element of a unique document don't clash
-pub none_clash : (u : Usage) (t parent : Tree) (q : List ℕ) → Unique u t → at q t ≡ Some parent → NoClash (kind_at u t q) (scope_at q t) parent
+-- the children of an element of a document with unique keys don't clash
+pub none_clash : (u : Usage) (t parent : Tree) (q : List ℕ) → HasUniqueKeys u t → at q t ≡ Some parent → NoClash (kind_at u t q) (scope_at q t) parent
 none_clash u t parent q unique there kind is r key h = unique_there u t parent q kind there is unique r key h
 
--- a selected child is there
-pub child_at : (t parent kid : Tree) (q : List ℕ) (j : ℕ) → at q t ≡ Some parent → slice_get (kids_of parent) j ≡ Some kid → at (q ++ j ∷ []) t ≡ Some kid
-child_at t parent kid q j there is = at-append q (j ∷ []) t ∙ ap (option_and_then (at (j ∷ []))) there ∙ ap (option_and_then (at [])) is
+-- a selected child exists
+pub child_at : (t parent child_element : Tree) (q : List ℕ) (j : ℕ) → at q t ≡ Some parent → slice_get (child_elements_of parent) j ≡ Some child_element → at (q ++ j ∷ []) t ≡ Some child_element
+child_at t parent child_element q j there is = at-append q (j ∷ []) t ∙ ap (option_and_then (at (j ∷ []))) there ∙ ap (option_and_then (at [])) is
 
--- ---- an exchange
+-- ---- a replacement
 
-module _ (u : Usage) (t new : Tree) (all before : List Step) (s : Step) (q : List ℕ) (j : ℕ) (p : HasParent t all before s q j) (faultless : Judged u t None) where
-  abbrev row : Option Kind
+module _ (u : Usage) (t new : Tree) (all before : List Step) (s : Step) (q : List ℕ) (j : ℕ) (p : HasParent t all before s q j) (faultless : HasFirstFault u t None) where
+  abbrev row : Option ElementKind
   row = kind_at u t q
 
   abbrev c : Scope
@@ -90,25 +90,25 @@ module _ (u : Usage) (t new : Tree) (all before : List Step) (s : Step) (q : Lis
   abbrev after : Tree
   after = put_over (q ++ j ∷ []) new t
 
-  abbrev kid : Tree
-  kid = p.selects.this.kid
+  abbrev child_element : Tree
+  child_element = p.selects.this.child_element
 
-  pub exchange_is : (r : Result ℕ EditRefusal) → IsExchangedIn row c s p.parent j new q r → SelectsPath all t (q ++ j ∷ []) → IsTestedAs CannotInsert (LawfulOver all t new (q ++ j ∷ [])) u after r
+  pub exchange_is : (r : Result ℕ EditRefusal) → IsExchangedIn row c s p.parent j new q r → SelectsPath all t (q ++ j ∷ []) → IsTestedAs CannotInsert (IsLawfulReplacement all t new (q ++ j ∷ [])) u after r
   exchange_is r h sel = by (subst (λ (l : List Step). SelectsPath l t (q ++ j ∷ [])) p.are sel) h
     where
-      by : SelectsPath (p.first ∷ (p.steps ++ s ∷ [])) t (q ++ j ∷ []) → IsExchangedIn row c s p.parent j new q r → IsTestedAs CannotInsert (LawfulOver all t new (q ++ j ∷ [])) u after r
+      by : SelectsPath (p.first ∷ (p.steps ++ s ∷ [])) t (q ++ j ∷ []) → IsExchangedIn row c s p.parent j new q r → IsTestedAs CannotInsert (IsLawfulReplacement all t new (q ++ j ∷ [])) u after r
       by sel' h' =
           let lawful = lawful_over p.first p.steps s t new q j sel' in
-          let to : LawfulOver all t new (q ++ j ∷ []) → LawfulOver (p.first ∷ (p.steps ++ s ∷ [])) t new (q ++ j ∷ []) = λ l. subst (λ (x : List Step). LawfulOver x t new (q ++ j ∷ [])) p.are l in
-          let from : LawfulOver (p.first ∷ (p.steps ++ s ∷ [])) t new (q ++ j ∷ []) → LawfulOver all t new (q ++ j ∷ []) = λ l. subst (λ (x : List Step). LawfulOver x t new (q ++ j ∷ [])) (sym p.are) l in
-          let valid = valid_over u t p.parent kid new q j p.there p.selects.this.there faultless.0 in
+          let to : IsLawfulReplacement all t new (q ++ j ∷ []) → IsLawfulReplacement (p.first ∷ (p.steps ++ s ∷ [])) t new (q ++ j ∷ []) = λ l. subst (λ (x : List Step). IsLawfulReplacement x t new (q ++ j ∷ [])) p.are l in
+          let from : IsLawfulReplacement (p.first ∷ (p.steps ++ s ∷ [])) t new (q ++ j ∷ []) → IsLawfulReplacement all t new (q ++ j ∷ []) = λ l. subst (λ (x : List Step). IsLawfulReplacement x t new (q ++ j ∷ [])) (sym p.are) l in
+          let valid = valid_over u t p.parent child_element new q j p.there p.selects.this.there faultless.0 in
           elim h' [
             | inl x ↦ inl (x.0, λ l. x.1 (lawful.0 (to l)))
             | inr (inl x) ↦ inr (from (lawful.1 x.1), (Some Invalid, ((λ v. x.2 (valid.0 v)), x.0)))
             | inr (inr x) ↦ inr (
               from (lawful.1 x.0),
-              judged_from (FormedIn row c new) row c (remove (kids_of p.parent) j) new q j u after r (valid.1 x.1) (formed_over u t p.parent kid new q j p.there p.selects.this.there faultless.1)
-                  (λ kind is found. (first_over u t p.parent kid new q j p.there p.selects.this.there faultless.2 kind is found).0) (foreign_over u t p.parent kid new q j p.there p.selects.this.there faultless.2) x.2,
+              judged_from (FormedIn row c new) row c (remove (child_elements_of p.parent) j) new q j u after r (valid.1 x.1) (formed_over u t p.parent child_element new q j p.there p.selects.this.there faultless.1)
+                  (λ kind is found. (first_over u t p.parent child_element new q j p.there p.selects.this.there faultless.2 kind is found).0) (foreign_over u t p.parent child_element new q j p.there p.selects.this.there faultless.2) x.2,
             )
           ]
 
@@ -134,9 +134,9 @@ found_some t selector p ends_so sel = by (at p t) refl (path_there selector.step
     by None is h = cc
     by (Some e) is h = record { path = p; element = e; selects = sel; there = is; has = ap (λ x. has_end x (scope_at p t) e) ends_so }
 
-module _ (u : Usage) (t : Tree) (selector : Selector) (before : List Step) (s : Step) (q : List ℕ) (j : ℕ) (p : HasParent t selector.steps before s q j) (ends_so : selector.end ≡ ends.Element) (faultless : Judged u t None) where
+module _ (u : Usage) (t : Tree) (selector : Selector) (before : List Step) (s : Step) (q : List ℕ) (j : ℕ) (p : HasParent t selector.steps before s q j) (ends_so : selector.end ≡ ends.Element) (faultless : HasFirstFault u t None) where
   abbrev Still : Type 0
-  Still = (i : ℕ) × SelectsChild (scope_at q t) s (remove (kids_of p.parent) j) i
+  Still = (i : ℕ) × SelectsChild (scope_at q t) s (remove (child_elements_of p.parent) j) i
 
   still_finds : Still → Found (cut_out (q ++ j ∷ []) t) selector
   still_finds h =
@@ -152,16 +152,16 @@ module _ (u : Usage) (t : Tree) (selector : Selector) (before : List Step) (s : 
   pub removal_is : (r : Result ℕ EditRefusal) → IsRemovedIn (kind_at u t q) (scope_at q t) s p.parent j r → IsTestedAs CannotDelete (FindsNothingAfter selector t (Remove (q ++ j ∷ []))) u (cut_out (q ++ j ∷ []) t) r
   removal_is r (inl h) = inl (h.0, λ nothing. nothing (still_finds h.1))
   removal_is r (inr (inl h)) =
-      inr ((λ f. h.1 (found_still f)), (Some Invalid, ((λ v. h.2 ((valid_without u t p.parent p.selects.this.kid q j p.there p.selects.this.there faultless.0).0 (subst (λ (z : Tree). IsValid u z) (taken_out q j t) v))), h.0)))
+      inr ((λ f. h.1 (found_still f)), (Some Invalid, ((λ v. h.2 ((valid_without u t p.parent p.selects.this.child_element q j p.there p.selects.this.there faultless.0).0 (subst (λ (z : Tree). IsValid u z) (taken_out q j t) v))), h.0)))
   removal_is r (inr (inr h)) = inr (
     (λ f. h.1 (found_still f)),
     (
       None,
       (
         (
-          subst (λ (z : Tree). IsValid u z) (sym (taken_out q j t)) ((valid_without u t p.parent p.selects.this.kid q j p.there p.selects.this.there faultless.0).1 h.2),
-          subst (λ (z : Tree). Constraints u z) (sym (taken_out q j t)) (formed_without u t p.parent q j p.there faultless.1),
-          subst (λ (z : Tree). Unique u z) (sym (taken_out q j t)) (unique_without u t p.parent q j p.there faultless.2),
+          subst (λ (z : Tree). IsValid u z) (sym (taken_out q j t)) ((valid_without u t p.parent p.selects.this.child_element q j p.there p.selects.this.there faultless.0).1 h.2),
+          subst (λ (z : Tree). MeetsConstraints u z) (sym (taken_out q j t)) (formed_without u t p.parent q j p.there faultless.1),
+          subst (λ (z : Tree). HasUniqueKeys u z) (sym (taken_out q j t)) (unique_without u t p.parent q j p.there faultless.2),
         ),
         (j, h.0),
       ),
@@ -173,7 +173,7 @@ removal_at : (u : Usage) (t : Tree) (selector : Selector) (q : List ℕ) (j : �
 removal_at u t selector [] j result h = h
 removal_at u t selector (n ∷ q) j result h = h
 
--- the plan for a path is that for what is found there
+-- the plan for a path is the plan for what is found there
 pub delete_by : (u : Usage) (t : Tree) (selector : Selector) (p : List ℕ) (result : Result Change EditRefusal) → selector.end ≡ ends.Element → SelectsPath selector.steps t p → IsRemoval u t selector p result → IsDeletePlan u t selector result
 delete_by u t selector p result ends_so sel h =
     let f = found_some t selector p ends_so sel in
@@ -207,30 +207,30 @@ empty_path o (n ∷ p) below none = absurd (some_none o (below.1 (omega arith)) 
 some_there : (t parent : Tree) (q : List ℕ) → at q t ≡ Some parent → IsSome (at q t)
 some_there t parent q there = subst (λ (o : Option Tree). IsSome o) (sym there) refl
 
--- the parent of a selected element is there, and may be asked of the child that the last step selects
+-- the parent of a selected element exists, and the last step selects its child
 pub parent_there : (t : Tree) (all before : List Step) (s : Step) (q : List ℕ) (j : ℕ) → HasParent t all before s q j → IsSome (at q t)
 parent_there t all before s q j p = some_there t p.parent q p.there
 
-pub may_select : (u : Usage) (t : Tree) (all before : List Step) (s : Step) (q : List ℕ) (j : ℕ) → HasParent t all before s q j → Unique u t → (parent : Tree) → at q t ≡ Some parent → IsSelected (kind_at u t q) (scope_at q t) s parent j
+pub may_select : (u : Usage) (t : Tree) (all before : List Step) (s : Step) (q : List ℕ) (j : ℕ) → HasParent t all before s q j → HasUniqueKeys u t → (parent : Tree) → at q t ≡ Some parent → IsSelected (kind_at u t q) (scope_at q t) s parent j
 may_select u t all before s q j p unique parent there =
-    (none_clash u t parent q unique there, subst (λ (x : Tree). SelectsChild (scope_at q t) s (kids_of x) j) (same_Some p.parent parent (sym p.there ∙ there)) p.selects)
+    (none_clash u t parent q unique there, subst (λ (x : Tree). SelectsChild (scope_at q t) s (child_elements_of x) j) (same_Some p.parent parent (sym p.there ∙ there)) p.selects)
 
--- ---- by what is answered at the parent
+-- ---- by the result at the parent
 
-pub over_by : (u : Usage) (t new : Tree) (all before : List Step) (s : Step) (q : List ℕ) (j : ℕ) (p : HasParent t all before s q j) → Judged u t None → SelectsPath all t (q ++ j ∷ []) → (found : Result ℕ EditRefusal) (result : Result Change EditRefusal)
-    → ((parent : Tree) → at q t ≡ Some parent → IsExchangedIn (kind_at u t q) (scope_at q t) s parent j new q found) → result ≡ made (Replace (q ++ j ∷ []) new) found
-    → IsTested CannotInsert (LawfulOver all t new (q ++ j ∷ [])) u t (Replace (q ++ j ∷ []) new) result
+pub over_by : (u : Usage) (t new : Tree) (all before : List Step) (s : Step) (q : List ℕ) (j : ℕ) (p : HasParent t all before s q j) → HasFirstFault u t None → SelectsPath all t (q ++ j ∷ []) → (found : Result ℕ EditRefusal) (result : Result Change EditRefusal)
+    → ((parent : Tree) → at q t ≡ Some parent → IsExchangedIn (kind_at u t q) (scope_at q t) s parent j new q found) → result ≡ allowed_change (Replace (q ++ j ∷ []) new) found
+    → IsTested CannotInsert (IsLawfulReplacement all t new (q ++ j ∷ [])) u t (Replace (q ++ j ∷ []) new) result
 over_by u t new all before s q j p faultless sel found result h is =
     let change = Replace (q ++ j ∷ []) new in
-    let lawful = LawfulOver all t new (q ++ j ∷ []) in
+    let lawful = IsLawfulReplacement all t new (q ++ j ∷ []) in
     subst (λ (r : Result Change EditRefusal). IsTested CannotInsert lawful u t change r) (sym is)
     (made_tested CannotInsert lawful u t change found (exchange_is u t new all before s q j p faultless found (h p.parent p.there) sel))
 
-pub removal_by : (u : Usage) (t : Tree) (selector : Selector) (before : List Step) (s : Step) (q : List ℕ) (j : ℕ) (p : HasParent t selector.steps before s q j) → selector.end ≡ ends.Element → Judged u t None → SelectsPath selector.steps t (q ++ j ∷ []) → (found : Result ℕ EditRefusal) (result : Result Change EditRefusal)
-    → ((parent : Tree) → at q t ≡ Some parent → IsRemovedIn (kind_at u t q) (scope_at q t) s parent j found) → result ≡ made (Remove (q ++ j ∷ [])) found
+pub removal_by : (u : Usage) (t : Tree) (selector : Selector) (before : List Step) (s : Step) (q : List ℕ) (j : ℕ) (p : HasParent t selector.steps before s q j) → selector.end ≡ ends.Element → HasFirstFault u t None → SelectsPath selector.steps t (q ++ j ∷ []) → (found : Result ℕ EditRefusal) (result : Result Change EditRefusal)
+    → ((parent : Tree) → at q t ≡ Some parent → IsRemovedIn (kind_at u t q) (scope_at q t) s parent j found) → result ≡ allowed_change (Remove (q ++ j ∷ [])) found
     → IsDeletePlan u t selector result
 removal_by u t selector before s q j p ends_so faultless sel found result h is =
     let change = Remove (q ++ j ∷ []) in
     let nothing = FindsNothingAfter selector t change in
     let tested = made_tested CannotDelete nothing u t change found (removal_is u t selector before s q j p ends_so faultless found (h p.parent p.there)) in
-    subst (λ (r : Result Change EditRefusal). IsDeletePlan u t selector r) (sym is) (removal_plan u t selector q j (made change found) ends_so sel tested)
+    subst (λ (r : Result Change EditRefusal). IsDeletePlan u t selector r) (sym is) (removal_plan u t selector q j (allowed_change change found) ends_so sel tested)

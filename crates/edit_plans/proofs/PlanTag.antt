@@ -1,9 +1,9 @@
--- The plans of attributes: what is asked of a new tag is asked of the whole document.
+-- The plans of attributes: the conditions on a new start tag are those on the whole document.
 use Rattle.std.proofs.Common.{arith, length-append, ◌≤◌, ◌≡◌, ◌↔◌, inl, inr, ℕ, List, [], ◌∷◌, ◌++◌, Option, Some, None, IsSome, IsTrue, find, Result, Err, remove, slice_get, refl, sym, ap, ◌∙◌, subst}
 use Rattle.std.specs.Option.{option_copied}
 use Rattle.std.proofs.lemmas.Option.{same_Some}
 use Rattle.doc_names.specs.declared.usages.Usage.{Usage}
-use Rattle.xml_tree.specs.Tree.{Tree, at, height, kids_of}
+use Rattle.xml_tree.specs.Tree.{Tree, at, height, child_elements_of}
 use Rattle.xml_tree.proofs.PlaceLaws.{height-at}
 use Rattle.xml_tree.specs.Attributes.{with_attr, without_attr}
 use Rattle.xml_tree.specs.Edits.{drop_at, drop_attr, put_over, set_at, write_attr}
@@ -15,33 +15,33 @@ use Rattle.node_select.specs.declared.selector.End.TheVariants as ends
 use Rattle.node_select.specs.declared.selector.Selector.{Selector}
 use Rattle.node_select.specs.Selection.{has_end, is_attr, is_tested, Found, SelectsPath}
 use Rattle.node_select.proofs.Along.{one_path, path_there}
-use Rattle.usage_docs.specs.declared.judging.Fault.TheVariants.{Invalid}
-use Rattle.usage_docs.specs.Judging.{Judged}
-use Rattle.usage_docs.specs.Rows.{Scope}
+use Rattle.usage_docs.specs.declared.validation.Fault.TheVariants.{Invalid}
+use Rattle.usage_docs.specs.Validation.{HasFirstFault}
+use Rattle.usage_docs.specs.SchemaTable.{Scope}
 use Rattle.edit_ops.specs.declared.change.Change.{Change}
 use Rattle.edit_ops.specs.declared.change.Change.TheVariants.{DropAttr, Replace, SetAttr}
-use Rattle.plan_words.specs.declared.refusal.EditRefusal.{EditRefusal}
-use Rattle.plan_words.specs.declared.refusal.EditRefusal.TheVariants.{CannotInsert, CannotDelete, NotFound}
-use Rattle.plan_words.specs.Attributes.{FindsValue, IsValuePlan, IsWriting, written_name}
-use Rattle.plan_words.specs.Deletions.{FindsNothingAfter, IsDeletePlan, IsPlanFor}
+use Rattle.edit_rules.specs.declared.refusal.EditRefusal.{EditRefusal}
+use Rattle.edit_rules.specs.declared.refusal.EditRefusal.TheVariants.{CannotInsert, CannotDelete, NotFound}
+use Rattle.edit_rules.specs.Attributes.{FindsValue, IsValuePlan, IsWriting, written_name}
+use Rattle.edit_rules.specs.Deletions.{FindsNothingAfter, IsDeletePlan, IsPlanFor}
 use Rattle.usage_docs.specs.Kinds.{kind_at}
-use Rattle.plan_words.specs.Lawful.{LawfulOver}
-use Rattle.plan_words.specs.Plans.{IsTested}
-use Rattle.plan_words.specs.Tags.{AttrsFormed, tag_with, with_attrs}
-use Rattle.plan_words.specs.inner.Tags.{value_in}
-use Rattle.plan_words.proofs.Places.{as_exchange}
-use Rattle.plan_words.proofs.Removed.{no_shorter}
-use Rattle.plan_words.proofs.Reselected.{any_found, found_any, finds, found_from, found_to, only_retag, only_root, scope_retag, selected_retag, selected_root, there_retag}
-use Rattle.plan_words.proofs.Retagged.{first_retag, foreign_retag, formed_retag, valid_retag, valid_root}
-use Rattle.edit_plans.specs.declared.retagging.Sought.{Sought}
-use Rattle.edit_plans.specs.inner.Asking.{HasRoom, IsRetaggedIn, IsRootRetagged, unfound}
-use Rattle.edit_plans.specs.inner.Tested.{AsSought, IsRetaggedAt, IsTestedAs, made}
+use Rattle.edit_rules.specs.LawfulPlaces.{IsLawfulReplacement}
+use Rattle.edit_rules.specs.Plans.{IsTested}
+use Rattle.edit_rules.specs.Tags.{AttrsFormed, tag_with, with_attrs}
+use Rattle.edit_rules.specs.inner.Tags.{value_in}
+use Rattle.edit_rules.proofs.Places.{as_exchange}
+use Rattle.edit_rules.proofs.Removed.{no_shorter}
+use Rattle.edit_rules.proofs.Reselected.{any_found, found_any, finds, found_from, found_to, only_retag, only_root, scope_retag, selected_retag, selected_root, there_retag}
+use Rattle.edit_rules.proofs.Retagged.{first_retag, foreign_retag, formed_retag, valid_retag, valid_root}
+use Rattle.edit_plans.specs.declared.child_attributes.AttributeEdit.{AttributeEdit}
+use Rattle.edit_plans.specs.inner.ChildChanges.{HasRoom, IsRetaggedIn, IsRootRetagged, not_found_refusal}
+use Rattle.edit_plans.specs.inner.CheckedChanges.{AsSought, IsRetaggedAt, IsTestedAs, allowed_change}
 use Rattle.edit_plans.proofs.Judging.{judged_from, made_tested}
 use Rattle.edit_plans.proofs.PlanAt.{HasParent, child_at}
 
--- ---- what is found as it is sought
+-- ---- what is found as it should be
 
--- the steps select the element with the new tag, and it alone, if its parent's step tests it
+-- the steps select exactly the element with the new start tag, if its parent's step tests it
 module _ (selector : Selector) (after new : Tree) (p : List ℕ) (c : Scope) (s : Step) (uri local : List ℕ) (selected : SelectsPath selector.steps after p ↔ IsTrue (is_tested c s new)) (only : (p' : List ℕ) → SelectsPath selector.steps after p' → p' ≡ p) (there : at p after ≡ Some new)
     (scope : scope_at p after ≡ inside c new) (ends_so : selector.end ≡ ends.Attribute uri local) where
   pub as_sought : (wanted : Option (List ℕ)) → AsSought selector uri local after p wanted ↔ (value_in c s uri local new ≡ wanted)
@@ -57,8 +57,8 @@ module _ (selector : Selector) (after new : Tree) (p : List ℕ) (c : Scope) (s 
 
 -- ---- below the root
 
-module _ (u : Usage) (t e : Tree) (selector : Selector) (before : List Step) (s : Step) (q : List ℕ) (j : ℕ) (p : HasParent t selector.steps before s q j) (at_p : at (q ++ j ∷ []) t ≡ Some e) (ats : List Attr) (sought : Sought)
-    (ends_so : selector.end ≡ ends.Attribute sought.uri.now sought.local.now) (faultless : Judged u t None) (is_kid : slice_get (kids_of p.parent) j ≡ Some e) (sel : SelectsPath (p.first ∷ (p.steps ++ s ∷ [])) t (q ++ j ∷ [])) where
+module _ (u : Usage) (t e : Tree) (selector : Selector) (before : List Step) (s : Step) (q : List ℕ) (j : ℕ) (p : HasParent t selector.steps before s q j) (at_p : at (q ++ j ∷ []) t ≡ Some e) (ats : List Attr) (sought : AttributeEdit)
+    (ends_so : selector.end ≡ ends.Attribute sought.uri.now sought.local.now) (faultless : HasFirstFault u t None) (is_kid : slice_get (child_elements_of p.parent) j ≡ Some e) (sel : SelectsPath (p.first ∷ (p.steps ++ s ∷ [])) t (q ++ j ∷ [])) where
   abbrev c : Scope
   c = scope_at q t
 
@@ -81,20 +81,20 @@ module _ (u : Usage) (t e : Tree) (selector : Selector) (before : List Step) (s 
       let row = kind_at u t q in
       inr (
         (sought_is (option_copied sought.value)).1 h.0,
-        judged_from (AttrsFormed row c (tag_with ats e)) row c (remove (kids_of p.parent) j) (tag_with ats e) q j u after r ((valid_retag u t p.parent e q j ats p.there is_kid at_p faultless.0).1 h.1) (formed_retag u t p.parent e q j ats p.there is_kid at_p faultless.1)
+        judged_from (AttrsFormed row c (tag_with ats e)) row c (remove (child_elements_of p.parent) j) (tag_with ats e) q j u after r ((valid_retag u t p.parent e q j ats p.there is_kid at_p faultless.0).1 h.1) (formed_retag u t p.parent e q j ats p.there is_kid at_p faultless.1)
             (λ kind is found. (first_retag u t p.parent e q j ats p.there is_kid at_p faultless.2 kind is found).0) (foreign_retag u t p.parent e q j ats p.there is_kid at_p faultless.2) h.2,
       )
 
--- the same by what is answered at the parent
-pub retag_by : (u : Usage) (t e : Tree) (selector : Selector) (before : List Step) (s : Step) (q : List ℕ) (j : ℕ) (p : HasParent t selector.steps before s q j) (ats : List Attr) (sought : Sought) → selector.end ≡ ends.Attribute sought.uri.now sought.local.now → Judged u t None → at (q ++ j ∷ []) t ≡ Some e → SelectsPath selector.steps t (q ++ j ∷ [])
+-- below the root, by the result at the parent
+pub retag_by : (u : Usage) (t e : Tree) (selector : Selector) (before : List Step) (s : Step) (q : List ℕ) (j : ℕ) (p : HasParent t selector.steps before s q j) (ats : List Attr) (sought : AttributeEdit) → selector.end ≡ ends.Attribute sought.uri.now sought.local.now → HasFirstFault u t None → at (q ++ j ∷ []) t ≡ Some e → SelectsPath selector.steps t (q ++ j ∷ [])
     → (found : Result ℕ EditRefusal) → ((parent : Tree) → at q t ≡ Some parent → IsRetaggedIn (kind_at u t q) (scope_at q t) s parent j (tag_with ats e) sought q found) → IsRetaggedAt u t selector (q ++ j ∷ []) e ats sought found
 retag_by u t e selector before s q j p ats sought ends_so faultless at_p sel found h =
-    let kid = p.selects.this.kid in
-    let same : kid ≡ e = same_Some kid e (sym (child_at t p.parent kid q j p.there p.selects.this.there) ∙ at_p) in
+    let child_element = p.selects.this.child_element in
+    let same : child_element ≡ e = same_Some child_element e (sym (child_at t p.parent child_element q j p.there p.selects.this.there) ∙ at_p) in
     let is_kid = p.selects.this.there ∙ ap (λ (x : Tree). Some x) same in
     retag_is u t e selector before s q j p at_p ats sought ends_so faultless is_kid (subst (λ (l : List Step). SelectsPath l t (q ++ j ∷ [])) p.are sel) found (h p.parent p.there)
 
--- the new tag is as low as an element with no child
+-- the new start tag has the levels of an element without children
 pub tag_room : (t e tag : Tree) (q : List ℕ) (j : ℕ) (ats : List Attr) → height t ≤ 64 → at (q ++ j ∷ []) t ≡ Some e → tag ≡ tag_with ats e → HasRoom q tag
 tag_room t e tag q j ats low at_p is =
     let deep = height-at (q ++ j ∷ []) e t at_p in
@@ -115,13 +115,13 @@ only_the_root t new all before s are h p h' = by p (subst (λ (l : List Step). S
     by [] x = refl
     by (n ∷ p) x = absurd x.1.2
 
--- another root, by what is answered of it
-pub root_over : (u : Usage) (t new : Tree) (all : List Step) (found : Result ℕ EditRefusal) (result : Result Change EditRefusal) → IsTestedAs CannotInsert (SelectsPath all new []) u new found → result ≡ made (Replace [] new) found
-    → IsTested CannotInsert (LawfulOver all t new []) u t (Replace [] new) result
+-- another root, by its result
+pub root_over : (u : Usage) (t new : Tree) (all : List Step) (found : Result ℕ EditRefusal) (result : Result Change EditRefusal) → IsTestedAs CannotInsert (SelectsPath all new []) u new found → result ≡ allowed_change (Replace [] new) found
+    → IsTested CannotInsert (IsLawfulReplacement all t new []) u t (Replace [] new) result
 root_over u t new all found result h is =
-    subst (λ (r : Result Change EditRefusal). IsTested CannotInsert (LawfulOver all t new []) u t (Replace [] new) r) (sym is) (made_tested CannotInsert (LawfulOver all t new []) u t (Replace [] new) found h)
+    subst (λ (r : Result Change EditRefusal). IsTested CannotInsert (IsLawfulReplacement all t new []) u t (Replace [] new) r) (sym is) (made_tested CannotInsert (IsLawfulReplacement all t new []) u t (Replace [] new) found h)
 
-pub root_retag_is : (u : Usage) (t : Tree) (selector : Selector) (s : Step) (ats : List Attr) (sought : Sought) (r : Result ℕ EditRefusal) → selector.steps ≡ s ∷ [] → SelectsPath selector.steps t [] → selector.end ≡ ends.Attribute sought.uri.now sought.local.now → Judged u t None
+pub root_retag_is : (u : Usage) (t : Tree) (selector : Selector) (s : Step) (ats : List Attr) (sought : AttributeEdit) (r : Result ℕ EditRefusal) → selector.steps ≡ s ∷ [] → SelectsPath selector.steps t [] → selector.end ≡ ends.Attribute sought.uri.now sought.local.now → HasFirstFault u t None
     → IsRootRetagged u s (tag_with ats t) sought r → IsRetaggedAt u t selector [] t ats sought r
 root_retag_is u t selector s ats sought r are sel ends_so faultless h = by h
   where
@@ -144,31 +144,31 @@ root_retag_is u t selector s ats sought r are sel ends_so faultless h = by h
 
 -- ---- the plans
 
--- what the steps select is there
+-- what the steps select exists
 pub selected_there : (steps : List Step) (t : Tree) (p : List ℕ) → SelectsPath steps t p → None ≡ at p t → ⊥
 selected_there steps t p sel none = let there = subst (λ (o : Option Tree). IsSome o) (sym none) (path_there steps t p sel) in cc
 
 -- the writing of an attribute
 pub writing_is : (u : Usage) (t e : Tree) (selector : Selector) (p : List ℕ) (uri local value : List ℕ) (name : Name) (found : Result ℕ EditRefusal) → at p t ≡ Some e
     → IsTestedAs CannotInsert (FindsValue selector.steps uri local (put_over p (with_attrs (with_attr name value e.attrs) e) t) p value) u (put_over p (with_attrs (with_attr name value e.attrs) e) t) found
-    → IsWriting u t selector.steps uri local p value (Some name) (made (SetAttr p name value) found)
+    → IsWriting u t selector.steps uri local p value (Some name) (allowed_change (SetAttr p name value) found)
 writing_is u t e selector p uri local value name found there h =
     let same : set_at p name value t ≡ put_over p (write_attr name value e) t = as_exchange p (write_attr name value) e t there in
     made_tested CannotInsert (FindsValue selector.steps uri local (set_at p name value t) p value) u t (SetAttr p name value) found
     (subst (λ (x : Tree). IsTestedAs CannotInsert (FindsValue selector.steps uri local x p value) u x found) (sym same) h)
 
--- the same by what is answered of the new tag
+-- the writing of an attribute, by the result for the new start tag
 as_value : (u : Usage) (after : Tree) (selector : Selector) (p : List ℕ) (uri uri' local local' value : List ℕ) (wanted : Option (List ℕ)) (found : Result ℕ EditRefusal) → uri' ≡ uri → local' ≡ local → wanted ≡ Some value
-    → IsTestedAs (unfound wanted) (AsSought selector uri' local' after p wanted) u after found → IsTestedAs CannotInsert (FindsValue selector.steps uri local after p value) u after found
+    → IsTestedAs (not_found_refusal wanted) (AsSought selector uri' local' after p wanted) u after found → IsTestedAs CannotInsert (FindsValue selector.steps uri local after p value) u after found
 as_value u after selector p uri uri' local local' value wanted found same_uri same_local is h =
     subst (λ (x : List ℕ). IsTestedAs CannotInsert (FindsValue selector.steps x local after p value) u after found) same_uri
     (subst (λ (x : List ℕ). IsTestedAs CannotInsert (FindsValue selector.steps uri' x after p value) u after found) same_local
-    (subst (λ (o : Option (List ℕ)). IsTestedAs (unfound o) (AsSought selector uri' local' after p o) u after found) is h))
+    (subst (λ (o : Option (List ℕ)). IsTestedAs (not_found_refusal o) (AsSought selector uri' local' after p o) u after found) is h))
 
 module _ (u : Usage) (t e : Tree) (selector : Selector) (p : List ℕ) (uri local value : List ℕ) (there : at p t ≡ Some e) where
-  pub value_plan : (name : Name) (ats : List Attr) (sought : Sought) (found : Result ℕ EditRefusal) (result : Result Change EditRefusal) → written_name (scope_at p t) uri local e.attrs ≡ Some name → ats ≡ with_attr name value e.attrs
+  pub value_plan : (name : Name) (ats : List Attr) (sought : AttributeEdit) (found : Result ℕ EditRefusal) (result : Result Change EditRefusal) → written_name (scope_at p t) uri local e.attrs ≡ Some name → ats ≡ with_attr name value e.attrs
       → sought.uri.now ≡ uri → sought.local.now ≡ local → option_copied sought.value ≡ Some value
-      → IsRetaggedAt u t selector p e ats sought found → result ≡ made (SetAttr p name value) found → IsValuePlan u t selector.steps uri local p value result
+      → IsRetaggedAt u t selector p e ats sought found → result ≡ allowed_change (SetAttr p name value) found → IsValuePlan u t selector.steps uri local p value result
   value_plan name ats sought found result has_name ats_are same_uri same_local wanted h is =
       let after = put_over p (with_attrs ats e) t in
       let tested = as_value u after selector p uri sought.uri.now local sought.local.now value (option_copied sought.value) found same_uri same_local wanted h in
@@ -181,10 +181,10 @@ module _ (u : Usage) (t e : Tree) (selector : Selector) (p : List ℕ) (uri loca
             (subst (λ (r : Result Change EditRefusal). IsWriting u t selector.steps uri local p value (Some name) r) (sym is) plan);
       }
 
--- the dropping of one
+-- the removal of an attribute
 pub dropping_is : (u : Usage) (t e : Tree) (selector : Selector) (p : List ℕ) (name : Name) (found : Result ℕ EditRefusal) → at p t ≡ Some e
     → IsTestedAs CannotDelete (Found (put_over p (with_attrs (without_attr name e.attrs) e) t) selector → ⊥) u (put_over p (with_attrs (without_attr name e.attrs) e) t) found
-    → IsTested CannotDelete (FindsNothingAfter selector t (DropAttr p name)) u t (DropAttr p name) (made (DropAttr p name) found)
+    → IsTested CannotDelete (FindsNothingAfter selector t (DropAttr p name)) u t (DropAttr p name) (allowed_change (DropAttr p name) found)
 dropping_is u t e selector p name found there h =
     let same : drop_at p name t ≡ put_over p (drop_attr name e) t = as_exchange p (drop_attr name) e t there in
     made_tested CannotDelete (FindsNothingAfter selector t (DropAttr p name)) u t (DropAttr p name) found

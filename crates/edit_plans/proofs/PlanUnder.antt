@@ -1,77 +1,78 @@
--- The plan of an insertion seen from the parent is that of the whole document, in which every gap is tried and selected again.
+-- The plan of an insertion decided from the parent is the plan of the whole document, in which
+-- every insertion point is tried and selected again.
 use Rattle.std.proofs.Common.{◌≡◌, inl, inr, ◌+◌, ◌≤◌, ℕ, List, [], ◌∷◌, ◌++◌, length, length-append, get_or, Option, Some, None, IsSome, Result, Ok, Err, refl, sym, ap, ◌∙◌, subst, arith}
-use Rattle.step_laws.specs.Places.{Lawful, PlanIs}
-use Rattle.step_laws.proofs.Planned.{plan_alike}
+use Rattle.node_select.specs.InsertionPoints.{IsLawfulInsertion, PlanIs}
+use Rattle.node_select.proofs.Planned.{plan_alike}
 use Rattle.doc_names.specs.declared.usages.Usage.{Usage}
-use Rattle.xml_tree.specs.Tree.{Tree, at, kids_of}
+use Rattle.xml_tree.specs.Tree.{Tree, at, child_elements_of}
 use Rattle.xml_tree.specs.Edits.{put_in}
 use Rattle.xml_tree.specs.Scopes.{scope_at}
 use Rattle.node_select.specs.declared.selector.Step.{Step}
 use Rattle.node_select.specs.Selection.{SelectsPath, is_named, is_tested}
 use Rattle.node_select.proofs.Along.{path_there}
-use Rattle.usage_docs.specs.declared.rows.Kind.{Kind}
-use Rattle.usage_docs.specs.declared.judging.Fault.{Fault}
-use Rattle.usage_docs.specs.Judging.{Judged}
-use Rattle.usage_docs.specs.Rows.{Scope}
+use Rattle.usage_docs.specs.declared.schema_table.ElementKind.{ElementKind}
+use Rattle.usage_docs.specs.declared.validation.Fault.{Fault}
+use Rattle.usage_docs.specs.Validation.{HasFirstFault}
+use Rattle.usage_docs.specs.SchemaTable.{Scope}
 use Rattle.usage_docs.specs.Validity as usage
 use Rattle.edit_ops.specs.declared.change.Change.{Change}
 use Rattle.edit_ops.specs.declared.change.Change.TheVariants.{Insert}
-use Rattle.usage_docs.specs.declared.judging.Fault.TheVariants.{Invalid}
-use Rattle.plan_words.specs.declared.refusal.EditRefusal.{EditRefusal}
-use Rattle.plan_words.specs.declared.refusal.EditRefusal.TheVariants.{CannotInsert, Faulty}
+use Rattle.usage_docs.specs.declared.validation.Fault.TheVariants.{Invalid}
+use Rattle.edit_rules.specs.declared.refusal.EditRefusal.{EditRefusal}
+use Rattle.edit_rules.specs.declared.refusal.EditRefusal.TheVariants.{CannotInsert, Faulty}
 use Rattle.usage_docs.specs.Kinds.{kind_at}
-use Rattle.plan_words.specs.Lawful.{LawfulGap}
-use Rattle.plan_words.specs.Plans.{IsJudged, by_fault}
-use Rattle.plan_words.specs.Puts.{FromGap, IsInsertion}
-use Rattle.plan_words.proofs.FirstBeside.{first_put, foreign_put}
-use Rattle.plan_words.proofs.FormedBeside.{formed_beside}
-use Rattle.plan_words.proofs.StaysSelected.{lawful_gap}
-use Rattle.plan_words.proofs.ValidBeside.{valid_beside}
-use Rattle.edit_plans.specs.inner.Asking.{FormedIn, FromGapIn, IsJudgedIn, IsPlacedIn}
-use Rattle.edit_plans.specs.inner.Sides.{FitsIn}
-use Rattle.edit_plans.specs.inner.Tested.{IsTold, inserted}
+use Rattle.edit_rules.specs.LawfulPlaces.{IsLawfulGap}
+use Rattle.edit_rules.specs.Plans.{IsJudged, by_fault}
+use Rattle.edit_rules.specs.Puts.{FromGap, IsInsertion}
+use Rattle.edit_rules.proofs.FirstBeside.{first_put, foreign_put}
+use Rattle.edit_rules.proofs.FormedBeside.{formed_beside}
+use Rattle.edit_rules.proofs.StaysSelected.{lawful_gap}
+use Rattle.edit_rules.proofs.ValidBeside.{valid_beside}
+use Rattle.edit_plans.specs.inner.ChildChanges.{FormedIn, FromGapIn, IsJudgedIn, IsPlacedIn}
+use Rattle.edit_plans.specs.inner.Neighbours.{FitsIn}
+use Rattle.edit_plans.specs.inner.CheckedChanges.{IsTold, element_insertion}
 use Rattle.edit_plans.proofs.Judging.{judged_from}
 
 same_number : (gap n : ℕ) → ◌≡◌ {A = Result ℕ EditRefusal} (Ok gap) (Ok n) → n ≡ gap
 same_number gap n h = cc
 
--- what is judged is a refusal or the gap
-judged_number : (formed : Type 0) (row : Option Kind) (c : Scope) (kids : List Tree) (new : Tree) (q : List ℕ) (gap : ℕ) (placed : Result ℕ EditRefusal) → IsJudgedIn formed row c kids new q gap placed → (n : ℕ) → placed ≡ Ok n → n ≡ gap
-judged_number formed row c kids new q gap placed (inl h) n is = let z = sym h.0 ∙ is in cc
-judged_number formed row c kids new q gap placed (inr (inl h)) n is = let z = sym h.1.0 ∙ is in cc
-judged_number formed row c kids new q gap placed (inr (inr h)) n is = same_number gap n (sym h.0 ∙ is)
+-- the result is a refusal or the insertion point
+judged_number : (formed : Type 0) (row : Option ElementKind) (c : Scope) (child_elements : List Tree) (new : Tree) (q : List ℕ) (gap : ℕ) (placed : Result ℕ EditRefusal) → IsJudgedIn formed row c child_elements new q gap placed → (n : ℕ) → placed ≡ Ok n → n ≡ gap
+judged_number formed row c child_elements new q gap placed (inl h) n is = let z = sym h.0 ∙ is in cc
+judged_number formed row c child_elements new q gap placed (inr (inl h)) n is = let z = sym h.1.0 ∙ is in cc
+judged_number formed row c child_elements new q gap placed (inr (inr h)) n is = same_number gap n (sym h.0 ∙ is)
 
-inserted_told : (q : List ℕ) (new : Tree) (gap : ℕ) (fault : Option Fault) (placed : Result ℕ EditRefusal) → ((n : ℕ) → placed ≡ Ok n → n ≡ gap) → IsTold fault placed → inserted q new placed ≡ by_fault (Insert q gap new) fault
-inserted_told q new gap None placed one h = ap (inserted q new) h.1 ∙ ap (λ (n : ℕ). Ok (Insert q n new)) (one h.0 h.1)
-inserted_told q new gap (Some fault) placed one h = ap (inserted q new) h
+inserted_told : (q : List ℕ) (new : Tree) (gap : ℕ) (fault : Option Fault) (placed : Result ℕ EditRefusal) → ((n : ℕ) → placed ≡ Ok n → n ≡ gap) → IsTold fault placed → element_insertion q new placed ≡ by_fault (Insert q gap new) fault
+inserted_told q new gap None placed one h = ap (element_insertion q new) h.1 ∙ ap (λ (n : ℕ). Ok (Insert q n new)) (one h.0 h.1)
+inserted_told q new gap (Some fault) placed one h = ap (element_insertion q new) h
 
-module _ (u : Usage) (t parent new : Tree) (q : List ℕ) (there : at q t ≡ Some parent) (faultless : Judged u t None) where
-  judged : (gap : ℕ) → gap ≤ length (kids_of parent) → usage.Schema u (put_in q gap new t) → (placed : Result ℕ EditRefusal) → IsJudgedIn (FormedIn (kind_at u t q) (scope_at q t) new) (kind_at u t q) (scope_at q t) (kids_of parent) new q gap placed → IsJudged u t (Insert q gap new) (inserted q new placed)
-  judged gap le valid placed h =
+module _ (u : Usage) (t parent new : Tree) (q : List ℕ) (there : at q t ≡ Some parent) (faultless : HasFirstFault u t None) where
+  check_insertion : (gap : ℕ) → gap ≤ length (child_elements_of parent) → usage.IsValidDocument u (put_in q gap new t) → (placed : Result ℕ EditRefusal) → IsJudgedIn (FormedIn (kind_at u t q) (scope_at q t) new) (kind_at u t q) (scope_at q t) (child_elements_of parent) new q gap placed → IsJudged u t (Insert q gap new) (element_insertion q new placed)
+  check_insertion gap le valid placed h =
       let row = kind_at u t q in
       let c = scope_at q t in
-      let j = judged_from (FormedIn row c new) row c (kids_of parent) new q gap u (put_in q gap new t) placed valid (formed_beside u t parent new q gap there le faultless.1)
+      let j = judged_from (FormedIn row c new) row c (child_elements_of parent) new q gap u (put_in q gap new t) placed valid (formed_beside u t parent new q gap there le faultless.1)
       (λ kind is found. (first_put u t parent new q gap there le faultless.2 kind is found).0) (foreign_put u t parent new q gap there le faultless.2) h in
-      (j.0, (j.1.0, inserted_told q new gap j.0 placed (judged_number (FormedIn row c new) row c (kids_of parent) new q gap placed h) j.1.1))
+      (j.0, (j.1.0, inserted_told q new gap j.0 placed (judged_number (FormedIn row c new) row c (child_elements_of parent) new q gap placed h) j.1.1))
 
-  from_gap : (gap placed : Result ℕ EditRefusal) → ((j : ℕ) → gap ≡ Ok j → (j ≤ length (kids_of parent)) × usage.Schema u (put_in q j new t)) → FromGapIn (kind_at u t q) (scope_at q t) (kids_of parent) new q gap placed → FromGap u t q new gap (inserted q new placed)
-  from_gap (Ok gap) placed within h = let w = within gap refl in judged gap w.0 w.1 placed h
-  from_gap (Err why) placed within h = ap (inserted q new) h
+  from_gap : (gap placed : Result ℕ EditRefusal) → ((j : ℕ) → gap ≡ Ok j → (j ≤ length (child_elements_of parent)) × usage.IsValidDocument u (put_in q j new t)) → FromGapIn (kind_at u t q) (scope_at q t) (child_elements_of parent) new q gap placed → FromGap u t q new gap (element_insertion q new placed)
+  from_gap (Ok gap) placed within h = let w = within gap refl in check_insertion gap w.0 w.1 placed h
+  from_gap (Err why) placed within h = ap (element_insertion q new) h
 
--- the chosen gap is there, and valid
+-- the chosen insertion point exists, and is valid
 within_plan : {E : Type 0} (unlawful invalid : E) (L V : ℕ → Type 0) (many j : ℕ) (r : Result ℕ E) → PlanIs unlawful invalid L V (many + 1) r → r ≡ Ok j → (j ≤ many) × V j
 within_plan unlawful invalid L V many j (Ok gap) h is = let same : gap ≡ j = cc in let lt = h.within in (omega arith, subst V same h.is_valid)
 within_plan unlawful invalid L V many j (Err e) h is = cc
 
-insertion_is : (u : Usage) (t parent new : Tree) (q : List ℕ) (first : Step) (steps : List Step) (s : Step) (placed : Result ℕ EditRefusal) → at q t ≡ Some parent → Judged u t None → SelectsPath (first ∷ steps) t q
-    → IsPlacedIn (kind_at u t q) (scope_at q t) s parent new q placed → IsInsertion u t (first ∷ (steps ++ s ∷ [])) q new (inserted q new placed)
+insertion_is : (u : Usage) (t parent new : Tree) (q : List ℕ) (first : Step) (steps : List Step) (s : Step) (placed : Result ℕ EditRefusal) → at q t ≡ Some parent → HasFirstFault u t None → SelectsPath (first ∷ steps) t q
+    → IsPlacedIn (kind_at u t q) (scope_at q t) s parent new q placed → IsInsertion u t (first ∷ (steps ++ s ∷ [])) q new (element_insertion q new placed)
 insertion_is u t parent new q first steps s placed there faultless selects h =
-    let many = length (kids_of parent) in
-    let L = Lawful (is_named (scope_at q t) s) (is_tested (scope_at q t) s) s.position (kids_of parent) new in
+    let many = length (child_elements_of parent) in
+    let L = IsLawfulInsertion (is_named (scope_at q t) s) (is_tested (scope_at q t) s) s.position (child_elements_of parent) new in
     let V = FitsIn (kind_at u t q) (scope_at q t) parent.content new in
     let all = first ∷ (steps ++ s ∷ []) in
-    let V' : ℕ → Type 0 = λ j. usage.Schema u (put_in q j new t) in
-    let chosen = plan_alike CannotInsert (Faulty Invalid) L (LawfulGap all t new q) V V' (many + 1) h.gap
+    let V' : ℕ → Type 0 = λ j. usage.IsValidDocument u (put_in q j new t) in
+    let chosen = plan_alike CannotInsert (Faulty Invalid) L (IsLawfulGap all t new q) V V' (many + 1) h.gap
     (λ j lt. let x = lawful_gap first steps s t parent new q j selects there (omega arith) in (λ a. x.1 a, λ a. x.0 a))
     (λ j lt. let x = valid_beside u t parent new q j there (omega arith) faultless.0 in (λ a. x.1 a, λ a. x.0 a))
     h.is_chosen in
@@ -80,15 +81,15 @@ insertion_is u t parent new q first steps s placed there faultless selects h =
       there = there;
       gap = h.gap;
       is_chosen = chosen;
-      then = from_gap u t parent new q there faultless h.gap placed (λ j is. within_plan CannotInsert (Faulty Invalid) (LawfulGap all t new q) V' many j h.gap chosen is) h.then;
+      then = from_gap u t parent new q there faultless h.gap placed (λ j is. within_plan CannotInsert (Faulty Invalid) (IsLawfulGap all t new q) V' many j h.gap chosen is) h.then;
     }
 
--- as the selector's spot says it
-insertion_by_steps : (u : Usage) (t parent new : Tree) (q : List ℕ) (all before : List Step) (s : Step) (placed : Result ℕ EditRefusal) → all ≡ before ++ s ∷ [] → at q t ≡ Some parent → Judged u t None → SelectsPath before t q
-    → IsPlacedIn (kind_at u t q) (scope_at q t) s parent new q placed → IsInsertion u t all q new (inserted q new placed)
+-- as the edit target of the selector states it
+insertion_by_steps : (u : Usage) (t parent new : Tree) (q : List ℕ) (all before : List Step) (s : Step) (placed : Result ℕ EditRefusal) → all ≡ before ++ s ∷ [] → at q t ≡ Some parent → HasFirstFault u t None → SelectsPath before t q
+    → IsPlacedIn (kind_at u t q) (scope_at q t) s parent new q placed → IsInsertion u t all q new (element_insertion q new placed)
 insertion_by_steps u t parent new q all [] s placed are there faultless selects h = absurd selects
 insertion_by_steps u t parent new q all (first ∷ steps) s placed are there faultless selects h =
-    subst (λ (l : List Step). IsInsertion u t l q new (inserted q new placed)) (sym are) (insertion_is u t parent new q first steps s placed there faultless selects h)
+    subst (λ (l : List Step). IsInsertion u t l q new (element_insertion q new placed)) (sym are) (insertion_is u t parent new q first steps s placed there faultless selects h)
 
 pub some_of : (o : Option Tree) → IsSome o → (x : Tree) × (o ≡ Some x)
 some_of None h = cc
@@ -97,8 +98,8 @@ some_of (Some x) h = (x, refl)
 pub parent_is_there : (t : Tree) (q : List ℕ) (before : List Step) → SelectsPath before t q → IsSome (at q t)
 parent_is_there t q before h = path_there before t q h
 
-pub planned : (u : Usage) (t new : Tree) (q : List ℕ) (all before : List Step) (s : Step) (placed : Result ℕ EditRefusal) (result : Result Change EditRefusal) → all ≡ before ++ s ∷ [] → SelectsPath before t q → Judged u t None
-    → ((parent : Tree) → at q t ≡ Some parent → IsPlacedIn (kind_at u t q) (scope_at q t) s parent new q placed) → result ≡ inserted q new placed → IsInsertion u t all q new result
+pub planned : (u : Usage) (t new : Tree) (q : List ℕ) (all before : List Step) (s : Step) (placed : Result ℕ EditRefusal) (result : Result Change EditRefusal) → all ≡ before ++ s ∷ [] → SelectsPath before t q → HasFirstFault u t None
+    → ((parent : Tree) → at q t ≡ Some parent → IsPlacedIn (kind_at u t q) (scope_at q t) s parent new q placed) → result ≡ element_insertion q new placed → IsInsertion u t all q new result
 planned u t new q all before s placed result are selects faultless h is =
     let p = some_of (at q t) (parent_is_there t q before selects) in
     subst (λ (r : Result Change EditRefusal). IsInsertion u t all q new r) (sym is) (insertion_by_steps u t p.0 new q all before s placed are p.1 faultless selects (h p.0 p.1))

@@ -1,21 +1,21 @@
--- The next match behind a removed child, and its neighbours.
+-- The next match after a removed child, and its neighbours.
 use Rattle.std.proofs.Common.{◌≡◌, ◌↔◌, ◌⊎◌, inl, inr, ℕ, zero, suc, ◌+◌, ◌<◌, ◌≤◌, Bool, true, false, List, length, remove, Option, Some, None, slice_get, IsTrue, refl, sym, ap, ◌∙◌, subst, arith}
 use Rattle.std.proofs.lemmas.Bool.{cases_lt, cases_order}
 use Rattle.std.proofs.lemmas.Option.{same_Some, slice_get_within}
 use Rattle.std.specs.Option.{ForSome}
-use Rattle.step_laws.specs.Edits.{IsNextMatch}
-use Rattle.step_laws.specs.Selection.{Matches, Selects}
-use Rattle.step_laws.proofs.Edited.{removed_none, removed_next}
-use Rattle.xml_tree.specs.Tree.{Content, Tree, kids}
+use Rattle.node_select.specs.Edits.{IsNextMatch}
+use Rattle.node_select.specs.StepSelection.{Matches, Selects}
+use Rattle.node_select.proofs.Edited.{removed_none, removed_next}
+use Rattle.xml_tree.specs.Tree.{Content, Tree, child_elements}
 use Rattle.node_select.specs.declared.selector.Step.{Step}
 use Rattle.node_select.specs.Selection.{SelectsChild, is_named, is_tested}
-use Rattle.usage_docs.specs.declared.rows.Kind.{Kind}
-use Rattle.usage_docs.specs.Rows.{Scope}
+use Rattle.usage_docs.specs.declared.schema_table.ElementKind.{ElementKind}
+use Rattle.usage_docs.specs.SchemaTable.{Scope}
 use Rattle.usage_docs.specs.readers.Parts.{follows, end}
 use Rattle.usage_docs.specs.readers.Gaps.{part_before, part_after}
-use Rattle.plan_words.specs.Removals.{StillSelects, ClosesUp}
-use Rattle.edit_plans.specs.inner.Sides.{part_in}
-use Rattle.plan_words.proofs.Removed.{get_removed}
+use Rattle.edit_rules.specs.Removals.{StillSelects, ClosesUp}
+use Rattle.edit_plans.specs.inner.Neighbours.{part_in}
+use Rattle.edit_rules.proofs.Removed.{get_removed}
 use Rattle.edit_plans.proofs.Judging.{true_false}
 use Rattle.edit_plans.proofs.SideLemmas.{after_end, after_kid}
 
@@ -29,7 +29,7 @@ module _ {A : Type 0} (named tested : A → Bool) (xs : List A) (j : ℕ) where
   pub no_next : (i : ℕ) → length xs ≤ i → NoneNamed i → (n : ℕ) × IsNextMatch named tested (remove xs j) j n → ⊥
   no_next i end_is none (n, m) =
       let there = sym ((get_removed xs j n).1 m.not_before) ∙ m.there in
-      true_false (named m.kid) m.is_named (none (suc n) m.kid (let le = m.not_before in omega arith) (let lt = slice_get_within xs (suc n) m.kid there in omega arith) there)
+      true_false (named m.child_element) m.is_named (none (suc n) m.child_element (let le = m.not_before in omega arith) (let lt = slice_get_within xs (suc n) m.child_element there in omega arith) there)
 
   -- the i-th is the first that has the name
   module _ (i : ℕ) (x : A) (behind : j < i) (there : slice_get xs i ≡ Some x) (is_named : IsTrue (named x)) (none : NoneNamed i) where
@@ -49,7 +49,7 @@ module _ {A : Type 0} (named tested : A → Bool) (xs : List A) (j : ℕ) where
     next_is t = (
       here.0,
       record {
-        kid = x;
+        child_element = x;
         there = there_now;
         not_before = here.1.1;
         is_named = is_named;
@@ -63,36 +63,36 @@ module _ {A : Type 0} (named tested : A → Bool) (xs : List A) (j : ℕ) where
     next_tested (n, m) = by (cases_order n here.0)
       where
         by : (n ≡ here.0) ⊎ ((n < here.0) ⊎ (here.0 < n)) → IsTrue (tested x)
-        by (inl same) = let kid : m.kid ≡ x = same_Some _ _ (sym m.there ∙ ap (slice_get (remove xs j)) same ∙ there_now) in ap tested (sym kid) ∙ m.is_tested
+        by (inl same) = let child_element : m.child_element ≡ x = same_Some _ _ (sym m.there ∙ ap (slice_get (remove xs j)) same ∙ there_now) in ap tested (sym child_element) ∙ m.is_tested
         by (inr (inl lt)) =
             let at = sym ((get_removed xs j n).1 m.not_before) ∙ m.there in
-            absurd (true_false (named m.kid) m.is_named (none (suc n) m.kid (let le = m.not_before in omega arith) (let e = here.1.0 in omega arith) at))
+            absurd (true_false (named m.child_element) m.is_named (none (suc n) m.child_element (let le = m.not_before in omega arith) (let e = here.1.0 in omega arith) at))
         by (inr (inr lt)) = absurd (true_false (named x) is_named (m.first here.0 x here.1.1 lt there_now))
 
 -- ---- what is still selected
 
-pub none_still : (c : Scope) (step : Step) (kids : List Tree) (j : ℕ) → step.position ≡ None → SelectsChild c step kids j → StillSelects c step kids j → ⊥
-none_still c step kids j none s h =
-    let was = subst (λ (p : Option ℕ). Selects (is_named c step) (is_tested c step) p kids j) none s in
-    let now = subst (λ (p : Option ℕ). Selects (is_named c step) (is_tested c step) p (remove kids j) h.0) none h.1 in
-    removed_none (is_named c step) (is_tested c step) kids j h.0 was now.this
+pub none_still : (c : Scope) (step : Step) (child_elements : List Tree) (j : ℕ) → step.position ≡ None → SelectsChild c step child_elements j → StillSelects c step child_elements j → ⊥
+none_still c step child_elements j none s h =
+    let was = subst (λ (p : Option ℕ). Selects (is_named c step) (is_tested c step) p child_elements j) none s in
+    let now = subst (λ (p : Option ℕ). Selects (is_named c step) (is_tested c step) p (remove child_elements j) h.0) none h.1 in
+    removed_none (is_named c step) (is_tested c step) child_elements j h.0 was now.this
 
 one_next : {A : Type 0} (named tested : A → Bool) (xs : List A) (j i k : ℕ) → IsNextMatch named tested xs j i → IsNextMatch named tested xs j k → k ≡ i
 one_next named tested xs j i k a b = by (cases_order k i)
   where
     by : (k ≡ i) ⊎ ((k < i) ⊎ (i < k)) → k ≡ i
     by (inl same) = same
-    by (inr (inl lt)) = absurd (true_false (named b.kid) b.is_named (a.first k b.kid b.not_before lt b.there))
-    by (inr (inr lt)) = absurd (true_false (named a.kid) a.is_named (b.first i a.kid a.not_before lt a.there))
+    by (inr (inl lt)) = absurd (true_false (named b.child_element) b.is_named (a.first k b.child_element b.not_before lt b.there))
+    by (inr (inr lt)) = absurd (true_false (named a.child_element) a.is_named (b.first i a.child_element a.not_before lt a.there))
 
-pub still_by_next : (c : Scope) (step : Step) (kids : List Tree) (j n : ℕ) → step.position ≡ Some n → SelectsChild c step kids j → StillSelects c step kids j ↔ ((i : ℕ) × IsNextMatch (is_named c step) (is_tested c step) (remove kids j) j i)
-still_by_next c step kids j n is s = (
-  λ h. (h.0, (next h.0).0 (subst (λ (p : Option ℕ). Selects N T p (remove kids j) h.0) is h.1).this),
+pub still_by_next : (c : Scope) (step : Step) (child_elements : List Tree) (j n : ℕ) → step.position ≡ Some n → SelectsChild c step child_elements j → StillSelects c step child_elements j ↔ ((i : ℕ) × IsNextMatch (is_named c step) (is_tested c step) (remove child_elements j) j i)
+still_by_next c step child_elements j n is s = (
+  λ h. (h.0, (next h.0).0 (subst (λ (p : Option ℕ). Selects N T p (remove child_elements j) h.0) is h.1).this),
   λ h. (
     h.0,
-    subst (λ (p : Option ℕ). Selects N T p (remove kids j) h.0) (sym is) (record {
+    subst (λ (p : Option ℕ). Selects N T p (remove child_elements j) h.0) (sym is) (record {
       this = (next h.0).1 h.1;
-      alone = λ k m. one_next N T (remove kids j) j h.0 k h.1 ((next k).0 m);
+      alone = λ k m. one_next N T (remove child_elements j) j h.0 k h.1 ((next k).0 m);
     }),
   ),
 )
@@ -103,36 +103,36 @@ still_by_next c step kids j n is s = (
     T : Tree → Bool
     T = is_tested c step
 
-    next : (i : ℕ) → Matches (is_named c step) (is_tested c step) (Some n) (remove kids j) i ↔ IsNextMatch (is_named c step) (is_tested c step) (remove kids j) j i
-    next i = removed_next (is_named c step) (is_tested c step) n kids j i (subst (λ (p : Option ℕ). Selects (is_named c step) (is_tested c step) p kids j) is s)
+    next : (i : ℕ) → Matches (is_named c step) (is_tested c step) (Some n) (remove child_elements j) i ↔ IsNextMatch (is_named c step) (is_tested c step) (remove child_elements j) j i
+    next i = removed_next (is_named c step) (is_tested c step) n child_elements j i (subst (λ (p : Option ℕ). Selects (is_named c step) (is_tested c step) p child_elements j) is s)
 
 -- ---- the neighbours
 
-pub right_kid : (row : Option Kind) (c : Scope) (content : Content) (j i : ℕ) (kid : Tree) (next : ℕ) → i ≡ suc j → slice_get (kids content) i ≡ Some kid → next ≡ part_in row c kid → ForSome row (λ kind. next ≡ part_after kind c (suc j) content)
-right_kid row c content j i kid next same there is =
-    subst (λ (k : ℕ). ForSome row (λ kind. next ≡ part_after kind c k content)) same (after_kid row c content i kid next there is)
+pub right_kid : (row : Option ElementKind) (c : Scope) (content : Content) (j i : ℕ) (child_element : Tree) (next : ℕ) → i ≡ suc j → slice_get (child_elements content) i ≡ Some child_element → next ≡ part_in row c child_element → ForSome row (λ kind. next ≡ part_after kind c (suc j) content)
+right_kid row c content j i child_element next same there is =
+    subst (λ (k : ℕ). ForSome row (λ kind. next ≡ part_after kind c k content)) same (after_kid row c content i child_element next there is)
 
-pub right_end : (row : Option Kind) (c : Scope) (content : Content) (j : ℕ) → length (kids content) ≤ suc j → ForSome row (λ kind. end ≡ part_after kind c (suc j) content)
+pub right_end : (row : Option ElementKind) (c : Scope) (content : Content) (j : ℕ) → length (child_elements content) ≤ suc j → ForSome row (λ kind. end ≡ part_after kind c (suc j) content)
 right_end row c content j le kind is = sym (after_end kind c content (suc j) le)
 
-pub closes_by : (row : Option Kind) (c : Scope) (content : Content) (j : ℕ) (kind : Kind) (left right : ℕ) (b : Bool) → row ≡ Some kind → ForSome row (λ k. left ≡ part_before k c 0 j content) → ForSome row (λ k. right ≡ part_after k c (suc j) content)
+pub closes_by : (row : Option ElementKind) (c : Scope) (content : Content) (j : ℕ) (kind : ElementKind) (left right : ℕ) (b : Bool) → row ≡ Some kind → ForSome row (λ k. left ≡ part_before k c 0 j content) → ForSome row (λ k. right ≡ part_after k c (suc j) content)
     → b ≡ follows kind left right → IsTrue b ↔ ClosesUp row c content j
 closes_by row c content j kind left right b is low high test =
     let same : b ≡ follows kind (part_before kind c 0 j content) (part_after kind c (suc j) content) =
     test ∙ ap (λ (n : ℕ). follows kind n right) (low kind is) ∙ ap (follows kind (part_before kind c 0 j content)) (high kind is) in (
-      λ h k at. subst (λ (x : Kind). IsTrue (follows x (part_before x c 0 j content) (part_after x c (suc j) content))) (same_Some kind k (sym is ∙ at)) (sym same ∙ h),
+      λ h k at. subst (λ (x : ElementKind). IsTrue (follows x (part_before x c 0 j content) (part_after x c (suc j) content))) (same_Some kind k (sym is ∙ at)) (sym same ∙ h),
       λ h. same ∙ h kind is,
     )
 
--- one child more that isn't the next one
+-- one more child that isn't the next match
 pub none_more_named : {A : Type 0} (named tested : A → Bool) (xs : List A) (j i i' : ℕ) (x : A) (b : Bool) → i' ≡ i + 1 → slice_get xs i ≡ Some x → IsTrue b ↔ ((j < i) × IsTrue (named x)) → b ≡ false → NoneNamed named tested xs j i → NoneNamed named tested xs j i'
 none_more_named named tested xs j i i' x b next there test fails none k y low lt at =
     elim (cases_lt k i) [
       | inl below ↦ none k y low below at
       | inr from ↦ (
           let same : k ≡ i = omega arith in
-          let kid : y ≡ x = same_Some _ _ (sym at ∙ ap (slice_get xs) same ∙ there) in
-          ap named kid ∙ not_named (named x) (λ n. true_false b (test.1 ((omega arith), n)) fails))
+          let child_element : y ≡ x = same_Some _ _ (sym at ∙ ap (slice_get xs) same ∙ there) in
+          ap named child_element ∙ not_named (named x) (λ n. true_false b (test.1 ((omega arith), n)) fails))
     ]
   where
     not_named : (p : Bool) → (IsTrue p → ⊥) → p ≡ false

@@ -1,54 +1,55 @@
--- The two sides of a gap, told from the children there; and when no gap is lawful.
+-- The two sides of an insertion point, computed from the existing children; and when no insertion
+-- point is lawful.
 use Rattle.std.specs.Prelude.{◌&&◌, not}
 use Rattle.std.proofs.Common.{◌≡◌, ◌↔◌, ◌≤◌, ◌<◌, ◌+◌, inl, inr, ℕ, zero, suc, Bool, true, false, List, length, take, count_by, Option, Some, None, Result, Ok, Err, slice_get, IsTrue, refl, sym, ap, ◌∙◌, subst, arith}
 use Rattle.std.specs.Option.{ForSome}
 use Rattle.std.proofs.lemmas.Option.{same_Some, none-some, slice_get_within}
 use Rattle.std.proofs.lemmas.Bool.{cases_lt}
-use Rattle.step_laws.specs.Selection.{IsAtPosition, Matches, is_at_position}
-use Rattle.step_laws.specs.Places.{IsFree, Lawful, PlanIs}
-use Rattle.step_laws.proofs.Selecting.{is_at_position_is}
-use Rattle.step_laws.proofs.GapLaws.{lawful_by_count, lawful_free}
-use Rattle.xml_tree.specs.Tree.{Content, last, more, note, Tree, tree_of, kids}
-use Rattle.usage_docs.specs.declared.rows.Kind.{Kind}
-use Rattle.usage_docs.specs.Rows.{Scope}
+use Rattle.node_select.specs.StepSelection.{IsAtPosition, Matches, is_at_position}
+use Rattle.node_select.specs.InsertionPoints.{IsFree, IsLawfulInsertion, PlanIs}
+use Rattle.node_select.proofs.Selecting.{is_at_position_is}
+use Rattle.node_select.proofs.GapLaws.{lawful_by_count, lawful_free}
+use Rattle.xml_tree.specs.Tree.{Content, last, more, comment_node, Tree, tree_of, child_elements}
+use Rattle.usage_docs.specs.declared.schema_table.ElementKind.{ElementKind}
+use Rattle.usage_docs.specs.SchemaTable.{Scope}
 use Rattle.usage_docs.specs.readers.Parts.{follows, end}
 use Rattle.usage_docs.specs.Validity.{ValidChild}
-use Rattle.usage_docs.specs.readers.Gaps.{FollowsGap, part_of_kid, part_before, part_after}
-use Rattle.edit_plans.specs.inner.Sides.{part_in, fits_between, FitsIn, FitsOver, FitsPlace}
+use Rattle.usage_docs.specs.readers.Gaps.{FollowsGap, part_of_child, part_before, part_after}
+use Rattle.edit_plans.specs.inner.Neighbours.{part_in, fits_between, FitsIn, FitsOver, FitsPlace}
 use Rattle.edit_plans.proofs.Judging.{true_false}
 
--- ---- the children beside a gap
+-- ---- the children beside an insertion point
 
-module _ (row : Kind) (c : Scope) where
-  after_is : (content : Content) (j : ℕ) (kid : Tree) → slice_get (kids content) j ≡ Some kid → part_after row c j content ≡ part_of_kid row c kid
-  after_is (last t) j kid h = cc
-  after_is (more t n ds ats k rest) zero kid h = ap (part_of_kid row c) (same_Some (tree_of n ds ats k) kid h)
-  after_is (more t n ds ats k rest) (suc j) kid h = after_is rest j kid h
-  after_is (note t x rest) zero kid h = after_is rest zero kid h
-  after_is (note t x rest) (suc j) kid h = after_is rest (suc j) kid h
+module _ (row : ElementKind) (c : Scope) where
+  after_is : (content : Content) (j : ℕ) (child_element : Tree) → slice_get (child_elements content) j ≡ Some child_element → part_after row c j content ≡ part_of_child row c child_element
+  after_is (last t) j child_element h = cc
+  after_is (more t n ds ats k rest) zero child_element h = ap (part_of_child row c) (same_Some (tree_of n ds ats k) child_element h)
+  after_is (more t n ds ats k rest) (suc j) child_element h = after_is rest j child_element h
+  after_is (comment_node t x rest) zero child_element h = after_is rest zero child_element h
+  after_is (comment_node t x rest) (suc j) child_element h = after_is rest (suc j) child_element h
 
-  pub after_end : (content : Content) (j : ℕ) → length (kids content) ≤ j → part_after row c j content ≡ end
+  pub after_end : (content : Content) (j : ℕ) → length (child_elements content) ≤ j → part_after row c j content ≡ end
   after_end (last t) zero h = refl
   after_end (last t) (suc j) h = refl
   after_end (more t n ds ats k rest) zero h = absurd (omega arith)
   after_end (more t n ds ats k rest) (suc j) h = after_end rest j (omega arith)
-  after_end (note t x rest) zero h = after_end rest zero h
-  after_end (note t x rest) (suc j) h = after_end rest (suc j) h
+  after_end (comment_node t x rest) zero h = after_end rest zero h
+  after_end (comment_node t x rest) (suc j) h = after_end rest (suc j) h
 
-  before_is : (content : Content) (b j : ℕ) (kid : Tree) → slice_get (kids content) j ≡ Some kid → part_before row c b (suc j) content ≡ part_of_kid row c kid
-  before_is (last t) b j kid h = cc
-  before_is (more t n ds ats k rest) b zero kid h = ap (part_of_kid row c) (same_Some (tree_of n ds ats k) kid h)
-  before_is (more t n ds ats k rest) b (suc j) kid h = before_is rest (part_of_kid row c (tree_of n ds ats k)) j kid h
-  before_is (note t x rest) b j kid h = before_is rest b j kid h
+  before_is : (content : Content) (b j : ℕ) (child_element : Tree) → slice_get (child_elements content) j ≡ Some child_element → part_before row c b (suc j) content ≡ part_of_child row c child_element
+  before_is (last t) b j child_element h = cc
+  before_is (more t n ds ats k rest) b zero child_element h = ap (part_of_child row c) (same_Some (tree_of n ds ats k) child_element h)
+  before_is (more t n ds ats k rest) b (suc j) child_element h = before_is rest (part_of_child row c (tree_of n ds ats k)) j child_element h
+  before_is (comment_node t x rest) b j child_element h = before_is rest b j child_element h
 
-pub after_kid : (row : Option Kind) (c : Scope) (content : Content) (j : ℕ) (kid : Tree) (next : ℕ) → slice_get (kids content) j ≡ Some kid → next ≡ part_in row c kid → ForSome row (λ kind. next ≡ part_after kind c j content)
-after_kid row c content j kid next there h kind is = h ∙ ap (λ (o : Option Kind). part_in o c kid) is ∙ sym (after_is kind c content j kid there)
+pub after_kid : (row : Option ElementKind) (c : Scope) (content : Content) (j : ℕ) (child_element : Tree) (next : ℕ) → slice_get (child_elements content) j ≡ Some child_element → next ≡ part_in row c child_element → ForSome row (λ kind. next ≡ part_after kind c j content)
+after_kid row c content j child_element next there h kind is = h ∙ ap (λ (o : Option ElementKind). part_in o c child_element) is ∙ sym (after_is kind c content j child_element there)
 
-pub before_kid : (row : Option Kind) (c : Scope) (content : Content) (j j' : ℕ) (kid : Tree) (next : ℕ) → j' ≡ suc j → slice_get (kids content) j ≡ Some kid → next ≡ part_in row c kid → ForSome row (λ kind. next ≡ part_before kind c 0 j' content)
-before_kid row c content j j' kid next step there h kind is =
-    h ∙ ap (λ (o : Option Kind). part_in o c kid) is ∙ sym (before_is kind c content 0 j kid there) ∙ ap (λ (n : ℕ). part_before kind c 0 n content) (sym step)
+pub before_kid : (row : Option ElementKind) (c : Scope) (content : Content) (j j' : ℕ) (child_element : Tree) (next : ℕ) → j' ≡ suc j → slice_get (child_elements content) j ≡ Some child_element → next ≡ part_in row c child_element → ForSome row (λ kind. next ≡ part_before kind c 0 j' content)
+before_kid row c content j j' child_element next step there h kind is =
+    h ∙ ap (λ (o : Option ElementKind). part_in o c child_element) is ∙ sym (before_is kind c content 0 j child_element there) ∙ ap (λ (n : ℕ). part_before kind c 0 n content) (sym step)
 
-pub end_behind : (row : Option Kind) (c : Scope) (content : Content) (j : ℕ) → j ≡ length (kids content) → ForSome row (λ kind. end ≡ part_after kind c j content)
+pub end_behind : (row : Option ElementKind) (c : Scope) (content : Content) (j : ℕ) → j ≡ length (child_elements content) → ForSome row (λ kind. end ≡ part_after kind c j content)
 end_behind row c content j same kind is = sym (after_end kind c content j (omega arith))
 
 three : (a b c : Bool) → IsTrue (a && (b && c)) ↔ (IsTrue a × IsTrue b × IsTrue c)
@@ -56,7 +57,7 @@ three true true c = (λ h. (refl, refl, h), λ h. h.2)
 three true false c = (λ h. cc, λ h. let f : false ≡ true = h.1 in cc)
 three false b c = (λ h. cc, λ h. let f : false ≡ true = h.0 in cc)
 
-fits_by : (kind : Kind) (itself : Bool) (V : Type 0) (b b' p p' a a' : ℕ) → (IsTrue itself ↔ V) → b ≡ b' → p ≡ p' → a ≡ a' → IsTrue (itself && (follows kind b p && follows kind p a)) ↔ (V × IsTrue (follows kind b' p') × IsTrue (follows kind p' a'))
+fits_by : (kind : ElementKind) (itself : Bool) (V : Type 0) (b b' p p' a a' : ℕ) → (IsTrue itself ↔ V) → b ≡ b' → p ≡ p' → a ≡ a' → IsTrue (itself && (follows kind b p && follows kind p a)) ↔ (V × IsTrue (follows kind b' p') × IsTrue (follows kind p' a'))
 fits_by kind itself V b b' p p' a a' valid sb sp sa =
     let t = three itself (follows kind b p) (follows kind p a) in
     let low : follows kind b p ≡ follows kind b' p' = ap (λ (n : ℕ). follows kind n p) sb ∙ ap (follows kind b') sp in
@@ -65,49 +66,49 @@ fits_by kind itself V b b' p p' a a' valid sb sp sa =
       λ h. t.1 (valid.1 h.0, low ∙ h.1, high ∙ h.2),
     )
 
-pub fits_is : (row : Option Kind) (c : Scope) (content : Content) (new : Tree) (j : ℕ) (itself valid : Bool) (before part after : ℕ)
+pub fits_is : (row : Option ElementKind) (c : Scope) (content : Content) (new : Tree) (j : ℕ) (itself valid : Bool) (before part after : ℕ)
     → ForSome row (λ kind. IsTrue itself ↔ ValidChild kind c new) → part ≡ part_in row c new → ForSome row (λ kind. before ≡ part_before kind c 0 j content) → ForSome row (λ kind. after ≡ part_after kind c j content)
     → valid ≡ fits_between row itself before part after → IsTrue valid ↔ FitsIn row c content new j
 fits_is None c content new j itself valid before part after v p b a is = (λ h kind some. absurd (none-some kind some), λ h. is)
 fits_is (Some kind) c content new j itself valid before part after v p b a is =
-    let f = fits_by kind itself (ValidChild kind c new) before (part_before kind c 0 j content) part (part_of_kid kind c new) after (part_after kind c j content) (v kind refl) (b kind refl) p (a kind refl) in (
-      λ h k some. subst (λ (x : Kind). FollowsGap x c content new j) (same_Some kind k some) (f.0 (sym is ∙ h)),
+    let f = fits_by kind itself (ValidChild kind c new) before (part_before kind c 0 j content) part (part_of_child kind c new) after (part_after kind c j content) (v kind refl) (b kind refl) p (a kind refl) in (
+      λ h k some. subst (λ (x : ElementKind). FollowsGap x c content new j) (same_Some kind k some) (f.0 (sym is ∙ h)),
       λ h. is ∙ f.1 (h kind refl),
     )
 
--- the same in the place of a child
-pub over_is : (row : Option Kind) (c : Scope) (content : Content) (new : Tree) (i : ℕ) (itself valid : Bool) (before part after : ℕ)
+-- the children beside a replaced one
+pub over_is : (row : Option ElementKind) (c : Scope) (content : Content) (new : Tree) (i : ℕ) (itself valid : Bool) (before part after : ℕ)
     → ForSome row (λ kind. IsTrue itself ↔ ValidChild kind c new) → part ≡ part_in row c new → ForSome row (λ kind. before ≡ part_before kind c 0 i content) → ForSome row (λ kind. after ≡ part_after kind c (suc i) content)
     → valid ≡ fits_between row itself before part after → IsTrue valid ↔ FitsOver row c content new i
 over_is None c content new i itself valid before part after v p b a is = (λ h kind some. absurd (none-some kind some), λ h. is)
 over_is (Some kind) c content new i itself valid before part after v p b a is =
-    let f = fits_by kind itself (ValidChild kind c new) before (part_before kind c 0 i content) part (part_of_kid kind c new) after (part_after kind c (suc i) content) (v kind refl) (b kind refl) p (a kind refl) in (
-      λ h k some. subst (λ (x : Kind). FitsPlace x c content new i) (same_Some kind k some) (f.0 (sym is ∙ h)),
+    let f = fits_by kind itself (ValidChild kind c new) before (part_before kind c 0 i content) part (part_of_child kind c new) after (part_after kind c (suc i) content) (v kind refl) (b kind refl) p (a kind refl) in (
+      λ h k some. subst (λ (x : ElementKind). FitsPlace x c content new i) (same_Some kind k some) (f.0 (sym is ∙ h)),
       λ h. is ∙ f.1 (h kind refl),
     )
 
--- ---- the number before a gap decides, where the rest is known
+-- ---- the number before an insertion point decides, where the rest is known
 
 pub lawful_here : (named tested : Tree → Bool) (position : Option ℕ) (xs : List Tree) (e : Tree) (gap before : ℕ) (lawful : Bool) → gap ≤ length xs → IsTrue (named e) → IsTrue (tested e) → IsFree named tested position xs → before ≡ count_by named (take gap xs)
-    → lawful ≡ is_at_position position before → IsTrue lawful ↔ Lawful named tested position xs e gap
+    → lawful ≡ is_at_position position before → IsTrue lawful ↔ IsLawfulInsertion named tested position xs e gap
 lawful_here named tested position xs e gap before lawful le n t free counted is =
     let p = is_at_position_is position before in
     let l = lawful_by_count named tested position xs e gap before le n t free counted in
     (λ h. l.0 (p.0 (sym is ∙ h)), λ h. is ∙ p.1 (l.1 h))
 
--- ---- no gap is lawful
+-- ---- no insertion point is lawful
 
 none_planned : {E : Type 0} (unlawful invalid : E) (L V : ℕ → Type 0) (many : ℕ) → ((k : ℕ) → k < many + 1 → L k → ⊥) → PlanIs unlawful invalid L V (many + 1) (Err unlawful)
 none_planned unlawful invalid L V many h = inl (refl, record { none = h })
 
 module _ {E : Type 0} (unlawful invalid : E) (named tested : Tree → Bool) (position : Option ℕ) (xs : List Tree) (e : Tree) (V : ℕ → Type 0) where
-  pub not_free : (IsFree named tested position xs → ⊥) → PlanIs unlawful invalid (Lawful named tested position xs e) V (length xs + 1) (Err unlawful)
-  not_free no_room = none_planned unlawful invalid (Lawful named tested position xs e) V (length xs) (λ k lt l. no_room (lawful_free named tested position xs e k (omega arith) l))
+  pub not_free : (IsFree named tested position xs → ⊥) → PlanIs unlawful invalid (IsLawfulInsertion named tested position xs e) V (length xs + 1) (Err unlawful)
+  not_free no_room = none_planned unlawful invalid (IsLawfulInsertion named tested position xs e) V (length xs) (λ k lt l. no_room (lawful_free named tested position xs e k (omega arith) l))
 
--- ---- the last gap of all, where there is no position
+-- ---- the last insertion point of all, where the step has no position
 
 pub last_of_all : {E : Type 0} (unlawful invalid : E) (named tested : Tree → Bool) (position : Option ℕ) (xs : List Tree) (e : Tree) (V : ℕ → Type 0) (many : ℕ) → many ≡ length xs → position ≡ None → IsTrue (named e) → IsTrue (tested e) → IsFree named tested position xs → V many
-    → PlanIs unlawful invalid (Lawful named tested position xs e) V (length xs + 1) (Ok many)
+    → PlanIs unlawful invalid (IsLawfulInsertion named tested position xs e) V (length xs + 1) (Ok many)
 last_of_all unlawful invalid named tested position xs e V many same none n t free fits =
     let before = count_by named (take many xs) in
     let l = lawful_by_count named tested position xs e many before (omega arith) n t free refl in
@@ -121,9 +122,9 @@ last_of_all unlawful invalid named tested position xs e V many same none n t fre
 -- ---- whether some child passes both tests
 
 pub match_of : {A : Type 0} (named tested : A → Bool) (xs : List A) (i : ℕ) (x : A) → slice_get xs i ≡ Some x → IsTrue (named x) → IsTrue (tested x) → Matches named tested None xs i
-match_of named tested xs i x there n t = record { kid = x; there = there; is_named = n; at_position = tt; is_tested = t }
+match_of named tested xs i x there n t = record { child_element = x; there = there; is_named = n; at_position = tt; is_tested = t }
 
--- none of so many first ones
+-- none of the first n
 abbrev pub NoneUpTo : {A : Type 0} → (A → Bool) → (A → Bool) → List A → ℕ → Type 0
 NoneUpTo named tested xs n = (k : ℕ) → k < n → Matches named tested None xs k → ⊥
 
@@ -133,18 +134,18 @@ none_more named tested xs i i' x next there fails none k lt m =
       | inl below ↦ none k below m
       | inr from ↦ (
           let same : k ≡ i = omega arith in
-          let kid : m.kid ≡ x = same_Some _ _ (sym m.there ∙ ap (slice_get xs) same ∙ there) in
-          fails (ap named (sym kid) ∙ m.is_named, ap tested (sym kid) ∙ m.is_tested))
+          let child_element : m.child_element ≡ x = same_Some _ _ (sym m.there ∙ ap (slice_get xs) same ∙ there) in
+          fails (ap named (sym child_element) ∙ m.is_named, ap tested (sym child_element) ∙ m.is_tested))
     ]
 
 pub none_at_all : {A : Type 0} (named tested : A → Bool) (xs : List A) (n : ℕ) → n ≡ length xs → NoneUpTo named tested xs n → (k : ℕ) × Matches named tested None xs k → ⊥
-none_at_all named tested xs n end none (k, m) = none k (let lt = slice_get_within xs k m.kid m.there in omega arith) m
+none_at_all named tested xs n end none (k, m) = none k (let lt = slice_get_within xs k m.child_element m.there in omega arith) m
 
--- a plan at numbers and answers that are the same
+-- a plan at equal numbers and results
 pub plan_at : {E : Type 0} (unlawful invalid : E) (L V : ℕ → Type 0) (n n' : ℕ) (r r' : Result ℕ E) → n' ≡ n → r' ≡ r → PlanIs unlawful invalid L V n r → PlanIs unlawful invalid L V n' r'
 plan_at {E = E} unlawful invalid L V n n' r r' sn sr h = subst (λ (k : ℕ). PlanIs unlawful invalid L V k r') (sym sn) (subst (λ (x : Result ℕ E). PlanIs unlawful invalid L V n x) (sym sr) h)
 
--- the test of a way that is free
+-- the test that no other child keeps the new one from being selected
 pub free_none : (named tested : Tree → Bool) (position : Option ℕ) (xs : List Tree) (some free : Bool) → position ≡ None → free ≡ not some → IsTrue some ↔ ((k : ℕ) × Matches named tested None xs k) → IsTrue free ↔ IsFree named tested position xs
 free_none named tested position xs true free none is found =
     subst (λ (p : Option ℕ). IsTrue free ↔ IsFree named tested p xs) (sym none) (

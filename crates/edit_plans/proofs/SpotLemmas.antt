@@ -1,4 +1,4 @@
--- The spots of a selector, by how far its steps lead.
+-- The edit targets of a selector, by how far its steps select.
 use Rattle.std.specs.Prelude.{is_some, not}
 use Rattle.std.proofs.Common.{◌≡◌, ◌⊎◌, inl, inr, ℕ, zero, suc, ◌<◌, ◌≤◌, ◌+◌, ◌-◌, Bool, true, false, IsTrue, List, [], ◌∷◌, ◌++◌, length, length-append, take, Option, None, Some, refl, sym, ap, ◌∙◌, subst, arith}
 use Rattle.std.proofs.lemmas.Bool.{cases_lt}
@@ -10,11 +10,11 @@ use Rattle.node_select.specs.declared.selector.Step.{Step}
 use Rattle.node_select.specs.declared.selector.End.{End}
 use Rattle.node_select.specs.declared.selector.End.TheVariants as ends
 use Rattle.node_select.specs.declared.selector.Selector.{Selector}
-use Rattle.plan_words.specs.declared.spot.Spot.{Spot}
-use Rattle.plan_words.specs.declared.spot.Spot.TheVariants.{Over, Under, Beside, Value}
-use Rattle.plan_words.specs.Spots.{EndsInAttribute, IsSpotOf, SelectNothing, SelectsParent}
-use Rattle.node_select.specs.declared.leading.Reached.{Reached}
-use Rattle.edit_plans.specs.inner.Reaching.{Reaches}
+use Rattle.edit_rules.specs.declared.spot.Spot.{Spot}
+use Rattle.edit_rules.specs.declared.spot.Spot.TheVariants.{Over, Under, Beside, Value}
+use Rattle.edit_rules.specs.Spots.{EndsInAttribute, IsSpotOf, SelectNothing, SelectsParent}
+use Rattle.node_select.specs.declared.descent.Reached.{Reached}
+use Rattle.edit_plans.specs.inner.LongestMatches.{Reaches}
 
 whole : {A : Type 0} (xs : List A) → take (length xs) xs ≡ xs
 whole [] = refl
@@ -36,7 +36,7 @@ some_step : (steps : List Step) (t : Tree) (p : List ℕ) → SelectsPath steps 
 some_step [] t p h = absurd h
 some_step (s ∷ steps) t p h = omega arith
 
--- steps that select are some, the last of them apart
+-- steps that select are not empty, and end in a last one
 pub last_parts : (steps : List Step) (t : Tree) (p : List ℕ) → SelectsPath steps t p → (before : List Step) × ((s : Step) × (steps ≡ before ++ s ∷ []))
 last_parts steps t p h =
     let some = some_step steps t p h in
@@ -51,7 +51,7 @@ all_reached steps t k p m h = by (cases_lt k (length steps))
     by (inl lt) = absurd (m.longest (length steps) p lt (omega arith) (subst (λ (l : List Step). SelectsPath l t p) (sym (whole steps)) h))
     by (inr le) = let w = m.within in omega arith
 
--- those that select a parent lead to it
+-- steps that select a parent lead to it
 parent_reached : (steps : List Step) (t : Tree) (k : ℕ) (q : List ℕ) → IsLongestMatch steps t k → SelectsParent steps t q → (0 < k) × (length steps ≤ k + 1)
 parent_reached steps t k q m s = by (cases_lt k (length s.before))
   where
@@ -68,7 +68,7 @@ parent_reached steps t k q m s = by (cases_lt k (length s.before))
 not_both : (end : End) → end ≡ ends.Element → EndsInAttribute end → ⊥
 not_both end is a = let e = a.1.1 in cc
 
--- ---- which spot
+-- ---- which edit target
 
 pub nothing_selected : (steps : List Step) (t : Tree) (k : ℕ) → IsLongestMatch steps t k → (k ≡ length steps → ⊥) → SelectNothing steps t
 nothing_selected steps t k m ne p h = ne (all_reached steps t k p m h)
@@ -76,7 +76,8 @@ nothing_selected steps t k m ne p h = ne (all_reached steps t k p m h)
 pub parent_selected : (steps : List Step) (t : Tree) (k : ℕ) (q : List ℕ) → length steps ≡ suc k → SelectsPath (take k steps) t q → SelectsParent steps t q
 parent_selected steps t k q is h = let r = parts steps k is in record { before = take k steps; step = r.0; are = r.1; selects = h }
 
--- none of an element: the steps lead neither to their end nor to a parent, and aren't one
+-- no target of an element: the steps lead neither to their end nor to a parent, and there isn't
+-- just one
 pub no_element_spot : (t : Tree) (selector : Selector) (k : ℕ) → selector.end ≡ ends.Element → IsLongestMatch selector.steps t k → (k ≡ length selector.steps → 0 < k → ⊥) → (0 < k → length selector.steps ≤ k + 1 → ⊥) → (length selector.steps ≡ 1 → ⊥) → (spot : Spot) → IsSpotOf t selector spot → ⊥
 no_element_spot t selector k ends_so m not_all not_parent not_one (Over p) h = let e = all_reached selector.steps t k p m h.1 in let some = some_step selector.steps t p h.1 in not_all e (omega arith)
 no_element_spot t selector k ends_so m not_all not_parent not_one (Under q) h = let r = parent_reached selector.steps t k q m h.2 in not_parent r.0 r.1
@@ -95,14 +96,14 @@ some_by o b h f none = let e : false ≡ true = sym (ap is_some none) ∙ h ∙ 
 pub nothing : (steps : List Step) (t : Tree) (o : Option (List ℕ)) → o ≡ selected_in steps t → o ≡ None → SelectNothing steps t
 nothing steps t o is none p h = none-some p (sym none ∙ is ∙ (path_is steps t p).1 h)
 
--- where something is selected, and it can be the root alone
+-- where something is selected, and only the root can be
 pub selected_some : (steps : List Step) (t : Tree) (o : Option (List ℕ)) → o ≡ selected_in steps t → (o ≡ None → ⊥) → ((p : List ℕ) → SelectsPath steps t p → p ≡ []) → SelectsPath steps t []
 selected_some steps t None is some alone = absurd (some refl)
 selected_some steps t (Some p) is some alone =
     let h = (path_is steps t p).0 (sym is) in
     subst (λ (l : List ℕ). SelectsPath steps t l) (alone p h) h
 
--- ---- as the code finds it: which spot there is, by how far the steps lead
+-- ---- as the code finds it: the edit target, by how far the steps select
 
 some_number : (n : ℕ) → (n ≡ 0 → ⊥) → 0 < n
 some_number zero h = absurd (h refl)
@@ -112,7 +113,7 @@ module _ (t : Tree) (selector : Selector) (many : ℕ) (reached : Reached) (is_m
   abbrev k : ℕ
   k = reached.steps
 
-  -- one of so many steps at most
+  -- one of at most n steps
   within : k ≤ many
   within = let w = r.longest.within in let m = is_many in omega arith
 

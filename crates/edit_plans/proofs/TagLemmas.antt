@@ -1,4 +1,4 @@
--- What is asked of a tag and its attributes, as the code asks it.
+-- The conditions on a start tag and its attributes, as the code tests them.
 use Rattle.std.proofs.Common.{◌≡◌, ◌↔◌, ℕ, suc, ◌+◌, ◌≤◌, Bool, true, false, cond, not, List, [], ◌∷◌, length, Option, Some, None, find, position, get_or, slice_get, refl, sym, ap, ◌∙◌, subst, arith}
 use Rattle.std.proofs.lemmas.Grind.{common_steps}
 use Rattle.std.specs.List.{position_or_len}
@@ -8,12 +8,12 @@ use Rattle.std.proofs.lemmas.List.Quantifiers.{position-Some}
 use Rattle.std.proofs.lemmas.Option.{same_Some, slice_get-get_or}
 use Rattle.xml_tree.specs.Tree.{Content}
 use Rattle.xml_tree.specs.declared.names.Attr.{Attr}
-use Rattle.usage_docs.specs.declared.rows.Kind.{Kind}
-use Rattle.usage_docs.specs.declared.rows.Kind.TheVariants.{ResourceLists, EntryList, Entry, EntryRef, External, DisplayName, RlsServices, Service, ResourceList, Packages, Package}
+use Rattle.usage_docs.specs.declared.schema_table.ElementKind.{ElementKind}
+use Rattle.usage_docs.specs.declared.schema_table.ElementKind.TheVariants.{ResourceLists, EntryList, Entry, EntryRef, External, DisplayName, RlsServices, Service, ResourceList, Packages, Package}
 use Rattle.usage_docs.specs.Forms.{is_formed}
-use Rattle.plan_words.specs.Tags.{attrs_formed}
+use Rattle.edit_rules.specs.Tags.{attrs_formed}
 
--- ---- an element whose parent has a row, and which has a kind
+-- ---- an element that has a kind, and whose parent has one
 
 pub by_kind : {A B : Type 0} (P : B → Type 0) (asked : Type 0) (row : Option A) (f : A → Option B) (x : A) (y : B) → row ≡ Some x → f x ≡ Some y → asked ↔ P y → asked ↔ ForSome row (λ a. ForSome (f a) P)
 by_kind P asked row f x y at_row at_kind same = (
@@ -23,9 +23,10 @@ by_kind P asked row f x y at_row at_kind same = (
   λ all. same.1 (all x at_row y at_kind),
 )
 
--- ---- the form of references: only that of a resource-list depends on what an element holds
+-- ---- the form of references: only the form of a resource-list depends on what an element
+-- contains
 
-pub attrs_decide_form : (kind : Kind) (ats : List Attr) (content : Content) → (kind ≡ ResourceList → ⊥) → is_formed kind ats content ≡ attrs_formed kind ats
+pub attrs_decide_form : (kind : ElementKind) (ats : List Attr) (content : Content) → (kind ≡ ResourceList → ⊥) → is_formed kind ats content ≡ attrs_formed kind ats
 unfolding is_formed attrs_formed
 attrs_decide_form ResourceList ats content other = absurd (other refl)
 attrs_decide_form ResourceLists ats content other = refl
@@ -39,7 +40,7 @@ attrs_decide_form Service ats content other = refl
 attrs_decide_form Packages ats content other = refl
 attrs_decide_form Package ats content other = refl
 
-pub list_formed : (ats : List Attr) (kind : Kind) → kind ≡ ResourceList → true ≡ attrs_formed kind ats
+pub list_formed : (ats : List Attr) (kind : ElementKind) → kind ≡ ResourceList → true ≡ attrs_formed kind ats
 unfolding attrs_formed
 list_formed ats kind is = rw is refl
 

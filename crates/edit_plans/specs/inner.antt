@@ -1,6 +1,6 @@
--- What private functions and proofs speak of. No clause of a public call needs it.
-pub mod Asking
+-- Definitions for private functions and proofs. No clause of a public call needs them.
+pub mod CheckedChanges
+pub mod ChildChanges
+pub mod LongestMatches
+pub mod Neighbours
 pub mod Parents
-pub mod Reaching
-pub mod Sides
-pub mod Tested

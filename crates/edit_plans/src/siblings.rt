@@ -1,25 +1,23 @@
-//! What a new element is beside its siblings (RFC 4826, sections 3.2 and 4.2): the first clash that
-//! it makes.
+//! The first clash of a new element with its siblings (RFC 4826, sections 3.2 and 4.2).
 ghost use Rattle.std.specs.Prelude.{◌≡◌, ◌↔◌, ◌<◌, ◌≤◌, ◌+◌, ◌++◌, ◌∷◌, ◌^◌, ℕ, List, [], chars, length, IsTrue, IfSome, Some, None};
-ghost use Rattle.xml_tree.specs.Limits.{most_levels};
+ghost use Rattle.xml_tree.specs.Limits.{max_levels};
 ghost use Rattle.xml_tree.specs.declared.path.TheConstants.{PATH_LIMIT};
-ghost use Rattle.xml_tree.specs.Tree.{height, kids_of};
-ghost use Rattle.usage_docs.specs.declared.rows.Key.{Key};
+ghost use Rattle.xml_tree.specs.Tree.{height, child_elements_of};
+ghost use Rattle.usage_docs.specs.declared.schema_table.Key.{Key};
 ghost use Rattle.usage_docs.specs.Keys.{key_of, value_of};
-ghost use Rattle.usage_docs.specs.Clashes.{RepeatsAt, mark, mark_at, mark_of};
+ghost use Rattle.usage_docs.specs.UniqueKeys.{RepeatsAt, mark, mark_at, mark_of};
 ghost use Rattle.usage_docs.specs.readers.Siblings.{IsFirst};
-ghost use Rattle.plan_words.specs.Beside.{ClashesBeside, ClashesInside, IsTwin, NoTwin};
-ghost use Rattle.usage_docs.specs.Kinds.{kind_of_kid};
-ghost use Rattle.edit_plans.specs.inner.Asking.{HasRoom, among, others};
-ghost use Rattle.edit_plans.specs.declared.siblings.Twin.{Twin};
+ghost use Rattle.edit_rules.specs.NewElements.{ClashesBeside, ClashesInside, IsDuplicate, NoDuplicate};
+ghost use Rattle.usage_docs.specs.Kinds.{kind_of_child};
+ghost use Rattle.edit_plans.specs.inner.ChildChanges.{HasRoom, among, others};
+ghost use Rattle.edit_plans.specs.declared.siblings.DuplicateKey.{DuplicateKey};
 
 use node_select::same_text;
 use std::alloc::Global;
-use usage_docs::{Clash, Key, Kind, clash_below, key_of, kind_of, value_of};
-use xml_tree::{Around, Declared, Element, Node, Path, declared_in};
+use usage_docs::{Clash, ElementKind, Key, clash_below, key_of, kind_of, value_of};
+use xml_tree::{Element, IndexedDecls, LinkedScope, Node, Path, declared_in};
 
-/// The siblings of a new element: the children of its parent, but for the one that it is exchanged
-/// for.
+/// The siblings of a new element: the children of its parent, except the one that it replaces.
 #[derive(Drop)]
 pub(crate) struct Siblings<'a> {
     pub(crate) parent: &'a Element,
@@ -29,7 +27,7 @@ pub(crate) struct Siblings<'a> {
 impl<'a> Siblings<'a> {
     /// All children.
     pub(crate) fn all(parent: &'a Element) -> Siblings<'a>
-        ensures has_the_parent { result.parent.now ≡ parent.now }
+        ensures same_parent { result.parent.now ≡ parent.now }
         ensures leaves_out_none { result.left_out ≡ None }
     {
         Siblings {
@@ -40,8 +38,8 @@ impl<'a> Siblings<'a> {
 
     /// All but one.
     pub(crate) fn without(parent: &'a Element, child: usize) -> Siblings<'a>
-        ensures has_the_parent { result.parent.now ≡ parent.now }
-        ensures but_one { result.left_out ≡ Some child }
+        ensures same_parent { result.parent.now ≡ parent.now }
+        ensures leaves_out_child { result.left_out ≡ Some child }
     {
         Siblings {
             parent,
@@ -50,56 +48,63 @@ impl<'a> Siblings<'a> {
     }
 }
 
-/// A sibling that has the kind and the key of a new element, by its number among the siblings.
+/// A sibling with the element kind and the key of a new element, by its number among the siblings.
 #[derive(Clone, Copy, Drop)]
-pub(crate) struct Twin {
+pub(crate) struct DuplicateKey {
     pub(crate) child: usize,
     pub(crate) key: Key,
 }
 
-// The kind of a child, by the row of its parent.
-fn kind_of_kid(alloc: Global, row: Kind, scope: &Around<'_>, kid: &Element) -> Option<Kind>
-    ensures kind_of_the_child { result ≡ kind_of_kid row scope.now kid.now }
+// The element kind of a child, by its parent's kind.
+fn kind_of_child(
+    alloc: Global,
+    row: ElementKind,
+    scope: &LinkedScope<'_>,
+    child_element: &Element,
+) -> Option<ElementKind>
+    ensures child_kind { result ≡ kind_of_child row scope.now child_element.now }
 {
-    let declared = Declared::new(alloc, kid.decls());
-    kind_of(row, &(&*scope).inside(&declared), kid.name())
+    let declared = IndexedDecls::new(alloc, child_element.decls());
+    kind_of(row, &(&*scope).inside(&declared), child_element.name())
 }
 
-// Whether two kinds are one.
-fn is_kind(a: Kind, b: Kind) -> bool
-    ensures tells_whether_they_are_one { IsTrue result ↔ (a ≡ b) }
+// Whether two element kinds are equal.
+fn is_kind(a: ElementKind, b: ElementKind) -> bool
+    ensures exact { IsTrue result ↔ (a ≡ b) }
 {
     a == b
 }
 
 // Whether an element has this value of a key.
-fn has_value(key: Key, value: &str, kid: &Element) -> bool
-    ensures tells_whether_it_has_the_value { IsTrue result ↔ (value_of key kid.now.attrs ≡ Some (chars value.now)) }
+fn has_value(key: Key, value: &str, child_element: &Element) -> bool
+    ensures exact { IsTrue result
+        ↔ (value_of key child_element.now.attrs ≡ Some (chars value.now)) }
 {
-    match value_of(key, kid.attrs()) {
+    match value_of(key, child_element.attrs()) {
         Some(own) => same_text(own, value),
         None => false,
     }
 }
 
-// Whether a child has this kind and this value of its key. The value is looked at first, since few
-// children have it, and it takes less than the kind.
+// Whether a child has this element kind and this value of its key. The value is compared first,
+// since few children have it and that is cheaper than finding the kind.
 fn has_mark(
     alloc: Global,
-    row: Kind,
-    scope: &Around<'_>,
-    kind: Kind,
+    row: ElementKind,
+    scope: &LinkedScope<'_>,
+    kind: ElementKind,
     key: Key,
     value: &str,
-    kid: &Element,
+    child_element: &Element,
 ) -> bool
     requires { key_of kind ≡ Some key }
-    ensures tells_whether_it_has_the_mark { IsTrue result ↔ (mark_of row scope.now kid.now ≡ Some (mark kind (chars value.now))) }
+    ensures exact { IsTrue result
+        ↔ (mark_of row scope.now child_element.now ≡ Some (mark kind (chars value.now))) }
 {
-    if !has_value(key, value, kid) {
+    if !has_value(key, value, child_element) {
         return false;
     }
-    let Some(own) = kind_of_kid(alloc, row, scope, kid) else {
+    let Some(own) = kind_of_child(alloc, row, scope, child_element) else {
         return false;
     };
     is_kind(own, kind)
@@ -107,7 +112,7 @@ fn has_mark(
 
 // Whether it is the child that is left out.
 fn is_left_out(left_out: Option<usize>, child: usize) -> bool
-    ensures tells_whether_it_is_left_out { IsTrue result ↔ (left_out ≡ Some child) }
+    ensures exact { IsTrue result ↔ (left_out ≡ Some child) }
 {
     match left_out {
         None => false,
@@ -115,45 +120,53 @@ fn is_left_out(left_out: Option<usize>, child: usize) -> bool
     }
 }
 
-// Whether a child isn't left out and has this kind and this value of its key.
+// Whether a child isn't left out and has this element kind and this value of its key.
 fn is_marked(
     alloc: Global,
-    row: Kind,
-    scope: &Around<'_>,
-    kind: Kind,
+    row: ElementKind,
+    scope: &LinkedScope<'_>,
+    kind: ElementKind,
     key: Key,
     value: &str,
     left_out: Option<usize>,
     child: usize,
-    kid: &Element,
+    child_element: &Element,
 ) -> bool
     requires { key_of kind ≡ Some key }
-    ensures tells_whether_it_is_marked { IsTrue result ↔ ((left_out ≡ Some child → ⊥) × (mark_of row scope.now kid.now ≡ Some (mark kind (chars value.now)))) }
+    ensures exact { IsTrue result
+        ↔ ((left_out ≡ Some child → ⊥)
+        × (mark_of row scope.now child_element.now ≡ Some (mark kind (chars value.now)))) }
 {
     if is_left_out(left_out, child) {
         return false;
     }
-    has_mark(alloc, row, scope, kind, key, value, kid)
+    has_mark(alloc, row, scope, kind, key, value, child_element)
 }
 
-// The first sibling that has this kind and this value of its key, by its number among all children.
+// The first sibling with this element kind and this value of its key, by its number among all
+// children.
 fn marked_child(
     alloc: Global,
-    row: Kind,
-    scope: &Around<'_>,
-    kind: Kind,
+    row: ElementKind,
+    scope: &LinkedScope<'_>,
+    kind: ElementKind,
     key: Key,
     value: &str,
     siblings: &Siblings<'_>,
 ) -> Option<usize>
     requires { key_of kind ≡ Some key }
-    ensures what_is_found_is_there { IfSome result (λ i. (siblings.now.left_out ≡ Some i → ⊥) × (mark_at row scope.now (kids_of siblings.now.parent.now) i ≡ Some (mark kind (chars value.now)))) }
-    ensures number_fits_in_64_bits { IfSome result (λ i. i + 1 < 2 ^ 64) }
-    ensures none_where_none_is_found { result ≡ None → (i : ℕ) → (siblings.now.left_out ≡ Some i → ⊥) → mark_at row scope.now (kids_of siblings.now.parent.now) i ≡ Some (mark kind (chars value.now)) → ⊥ }
+    ensures some_is_marked { IfSome result
+        (λ i. (siblings.now.left_out ≡ Some i → ⊥)
+        × (mark_at row scope.now (child_elements_of siblings.now.parent.now) i
+        ≡ Some (mark kind (chars value.now)))) }
+    ensures fits_u64 { IfSome result (λ i. i + 1 < 2 ^ 64) }
+    ensures none_is_marked { result ≡ None → (i : ℕ) → (siblings.now.left_out ≡ Some i → ⊥)
+        → mark_at row scope.now (child_elements_of siblings.now.parent.now) i
+        ≡ Some (mark kind (chars value.now)) → ⊥ }
 {
     let mut i: usize = 0;
     for node in siblings.parent.nodes() {
-        if let Node::Elem(kid) = node {
+        if let Node::Elem(child_element) = node {
             if is_marked(
                 alloc,
                 row,
@@ -163,7 +176,7 @@ fn marked_child(
                 value,
                 siblings.left_out,
                 i,
-                kid,
+                child_element,
             ) {
                 return Some(i);
             }
@@ -175,7 +188,7 @@ fn marked_child(
 
 // The number of a child among the others, once one is left out.
 fn among(left_out: Option<usize>, child: usize) -> usize
-    ensures number_among_the_others { result ≡ among left_out child }
+    ensures exact { result ≡ among left_out child }
 {
     match left_out {
         None => child,
@@ -183,19 +196,24 @@ fn among(left_out: Option<usize>, child: usize) -> usize
     }
 }
 
-// A sibling that has the kind and the key of a new element, if there is one.
-fn twin_of(
+// A sibling with the element kind and the key of a new element, if there is one.
+fn find_duplicate(
     alloc: Global,
-    row: Kind,
-    scope: &Around<'_>,
+    row: ElementKind,
+    scope: &LinkedScope<'_>,
     siblings: &Siblings<'_>,
     new: &Element,
-) -> Option<Twin>
-    ensures what_is_found_is_there { IfSome result (λ twin. IsTwin row scope.now (others siblings.now.left_out (kids_of siblings.now.parent.now)) new.now twin.child twin.key) }
-    ensures number_fits_in_64_bits { IfSome result (λ twin. twin.child + 1 < 2 ^ 64) }
-    ensures none_where_none_is_found { result ≡ None → NoTwin row scope.now (others siblings.now.left_out (kids_of siblings.now.parent.now)) new.now }
+) -> Option<DuplicateKey>
+    ensures some_is_marked { IfSome result
+        (λ duplicate. IsDuplicate row scope.now
+        (others siblings.now.left_out (child_elements_of siblings.now.parent.now)) new.now
+        duplicate.child duplicate.key) }
+    ensures fits_u64 { IfSome result (λ duplicate. duplicate.child + 1 < 2 ^ 64) }
+    ensures none_is_marked { result ≡ None
+        → NoDuplicate row scope.now
+        (others siblings.now.left_out (child_elements_of siblings.now.parent.now)) new.now }
 {
-    let Some(kind) = kind_of_kid(alloc, row, scope, new) else {
+    let Some(kind) = kind_of_child(alloc, row, scope, new) else {
         return None;
     };
     let Some(key) = key_of(kind) else {
@@ -207,22 +225,23 @@ fn twin_of(
     let Some(child) = marked_child(alloc, row, scope, kind, key, value, siblings) else {
         return None;
     };
-    Some(Twin {
+    Some(DuplicateKey {
         child: among(siblings.left_out, child),
         key,
     })
 }
 
-// The key of a twin that stands before the gap.
-fn key_before(twin: Option<Twin>, gap: usize) -> Option<Key>
-    ensures what_is_found_is_there { IfSome result (λ key. (t : Twin) × ((twin ≡ Some t) × (t.child < gap) × (t.key ≡ key))) }
-    ensures none_where_none_is_found { result ≡ None → (t : Twin) → twin ≡ Some t → gap ≤ t.child }
+// The key of a duplicate before the insertion point.
+fn key_before(duplicate: Option<DuplicateKey>, gap: usize) -> Option<Key>
+    ensures some_is_marked { IfSome result
+        (λ key. (t : DuplicateKey) × ((duplicate ≡ Some t) × (t.child < gap) × (t.key ≡ key))) }
+    ensures none_is_marked { result ≡ None → (t : DuplicateKey) → duplicate ≡ Some t → gap ≤ t.child }
 {
-    match twin {
+    match duplicate {
         None => None,
-        Some(twin) => {
-            if twin.child < gap {
-                return Some(twin.key);
+        Some(duplicate) => {
+            if duplicate.child < gap {
+                return Some(duplicate.key);
             }
             None
         }
@@ -232,7 +251,7 @@ fn key_before(twin: Option<Twin>, gap: usize) -> Option<Key>
 // The path of a child.
 fn below(place: &Path, child: usize) -> Path
     requires { length place.now < PATH_LIMIT }
-    ensures leads_to_the_child { result ≡ place.now ++ child ∷ [] }
+    ensures exact { result ≡ place.now ++ child ∷ [] }
 {
     match place.child(child) {
         Some(path) => path,
@@ -240,16 +259,16 @@ fn below(place: &Path, child: usize) -> Path
     }
 }
 
-// The first clash in a new element that stands at this place.
+// The first clash within a new element at this path.
 fn first_in_new(
     alloc: Global,
-    row: Kind,
-    scope: &Around<'_>,
+    row: ElementKind,
+    scope: &LinkedScope<'_>,
     new: &Element,
     here: &Path,
 ) -> Option<Clash>
-    requires { length here.now + height new.now ≤ most_levels }
-    ensures finds_the_first_in_the_new { IsFirst (ClashesInside row scope.now new.now) here.now result }
+    requires { length here.now + height new.now ≤ max_levels }
+    ensures first_of_clashes { IsFirst (ClashesInside row scope.now new.now) here.now result }
 {
     let declared = declared_in(alloc, new.decls());
     let inside = (&*scope).inside(&declared);
@@ -257,34 +276,40 @@ fn first_in_new(
     clash_below(alloc, kind, &inside, new, here)
 }
 
-/// The first clash that a new element makes in a gap among its siblings, which don't clash: their
-/// parent is at this place.
-pub(crate) fn first_beside(
+/// The first clash that a new element makes at an insertion point among its siblings, which don't
+/// clash; their parent is at this path.
+pub(crate) fn first_clash_beside(
     alloc: Global,
-    row: Kind,
-    scope: &Around<'_>,
+    row: ElementKind,
+    scope: &LinkedScope<'_>,
     siblings: &Siblings<'_>,
     new: &Element,
     gap: usize,
     place: &Path,
 ) -> Option<Clash>
-    requires room { HasRoom place.now new.now }
-    requires gap { gap ≤ length (others siblings.now.left_out (kids_of siblings.now.parent.now)) }
-    requires unique { (r : List ℕ) (key : Key) → RepeatsAt row scope.now (others siblings.now.left_out (kids_of siblings.now.parent.now)) r key → ⊥ }
-    ensures finds_the_first_beside_the_new { IsFirst (ClashesBeside row scope.now (others siblings.now.left_out (kids_of siblings.now.parent.now)) new.now gap) place.now result }
+    requires room_left { HasRoom place.now new.now }
+    requires gap_in_range { gap ≤ length
+        (others siblings.now.left_out (child_elements_of siblings.now.parent.now)) }
+    requires no_clash { (r : List ℕ) (key : Key)
+        → RepeatsAt row scope.now
+        (others siblings.now.left_out (child_elements_of siblings.now.parent.now)) r key → ⊥ }
+    ensures first_of_clashes { IsFirst
+        (ClashesBeside row scope.now
+        (others siblings.now.left_out (child_elements_of siblings.now.parent.now)) new.now gap)
+        place.now result }
 {
-    let twin = twin_of(alloc, row, scope, siblings, new);
+    let duplicate = find_duplicate(alloc, row, scope, siblings, new);
     let here = below(place, gap);
-    if let Some(key) = key_before(twin, gap) {
+    if let Some(key) = key_before(duplicate, gap) {
         return Some(Clash { path: here, key });
     }
     if let Some(clash) = first_in_new(alloc, row, scope, new, &here) {
         return Some(clash);
     }
-    match twin {
-        Some(twin) => Some(Clash {
-            path: below(place, twin.child + 1),
-            key: twin.key,
+    match duplicate {
+        Some(duplicate) => Some(Clash {
+            path: below(place, duplicate.child + 1),
+            key: duplicate.key,
         }),
         None => None,
     }

@@ -1,4 +1,4 @@
--- The test of key addresses answers what they are.
+-- The test of key addresses holds exactly for them.
 use Rattle.std.proofs.Common.{◌≡◌, ◌↔◌, ℕ, Bool, true, false, List, [], ◌∷◌, Option, None, Some, is_none, slice_get, IsTrue, refl, sym, ap, ◌∙◌, subst}
 use Rattle.std.specs.Prelude.{◌&&◌}
 use Rattle.std.specs.List.{AllByRecursion}
@@ -6,7 +6,7 @@ use Rattle.std.specs.Option.{option_map_or}
 use Rattle.std.specs.Str.{bytes_eq}
 use Rattle.std.proofs.lemmas.Option.{same_Some}
 use Rattle.std.proofs.lemmas.Slice.Eq.{bytes_eq-Decides}
-use Rattle.xml_tree.specs.Tree.{Tree, kids_of}
+use Rattle.xml_tree.specs.Tree.{Tree, child_elements_of}
 use Rattle.xml_tree.specs.Expanded.{element_name}
 use Rattle.node_select.specs.Names.{uri_of}
 use Rattle.node_select.specs.Selection.{is_named, SelectsAmong, SelectsChild, SelectsPath}
@@ -18,15 +18,15 @@ use Rattle.node_select.specs.declared.selector.End.TheVariants as ends
 use Rattle.node_select.specs.declared.selector.Selector.{Selector}
 use Rattle.node_select.specs.declared.selector.Step.{Step}
 use Rattle.doc_names.specs.declared.usages.Usage.{Usage}
-use Rattle.usage_docs.specs.declared.rows.Kind.{Kind}
-use Rattle.usage_docs.specs.declared.rows.Key.{Key}
-use Rattle.usage_docs.specs.Rows.{Scope, kind_by, kind_of, root_kind}
+use Rattle.usage_docs.specs.declared.schema_table.ElementKind.{ElementKind}
+use Rattle.usage_docs.specs.declared.schema_table.Key.{Key}
+use Rattle.usage_docs.specs.SchemaTable.{Scope, kind_by, kind_of, root_kind}
 use Rattle.usage_docs.specs.Keys.{key_of, word}
 use Rattle.xml_tree.specs.Scopes.{inside}
-use Rattle.key_laws.specs.KeyAddresses.{AreKeySteps, HaveKinds, IsKeyAddressOf, IsKeyStep, root_step}
-use Rattle.element_watch.specs.inner.Keyed.{are_key_steps, are_steps_along, ends_in_element, has_name, is_key_address, is_name_alone, is_step_of, tests_key, tests_key_of}
-use Rattle.key_laws.proofs.KindWords.{kind_is_by, one_kind}
-use Rattle.key_laws.proofs.StepMarks.{passed_name}
+use Rattle.edit_rules.specs.KeyAddresses.{AreKeySteps, HaveKinds, IsKeyAddressOf, IsKeyStep, root_step}
+use Rattle.element_watch.specs.inner.KeyAddresses.{are_key_steps, are_steps_along, ends_in_element, has_name, is_key_address, is_name_alone, is_step_of, tests_key, tests_key_of}
+use Rattle.edit_rules.proofs.KindWords.{kind_is_by, one_kind}
+use Rattle.edit_rules.proofs.StepMarks.{passed_name}
 
 both : (a b : Bool) → (a && b) ≡ true → (a ≡ true) × (b ≡ true)
 both true b h = (refl, h)
@@ -59,7 +59,7 @@ none_of (Some x) h = cc
 -- ---- one step
 
 -- a test of the key of a kind
-key_tested : (kind : Kind) (o : Option AttrTest) → tests_key_of kind o ≡ true → (key : Key) × ((value : List ℕ) × ((key_of kind ≡ Some key) × (o ≡ Some (record { uri = []; local = word key; value = value }))))
+key_tested : (kind : ElementKind) (o : Option AttrTest) → tests_key_of kind o ≡ true → (key : Key) × ((value : List ℕ) × ((key_of kind ≡ Some key) × (o ≡ Some (record { uri = []; local = word key; value = value }))))
 key_tested kind None h = cc
 key_tested kind (Some test) h = by (key_of kind) refl h
   where
@@ -73,17 +73,17 @@ key_tested kind (Some test) h = by (key_of kind) refl h
     by None e g = cc
     by (Some key) e g = (key, (test.value, (e, tested key g)))
 
-tests_it : (kind : Kind) (key : Key) (value : List ℕ) (o : Option AttrTest) → key_of kind ≡ Some key → o ≡ Some (record { uri = []; local = word key; value = value }) → tests_key_of kind o ≡ true
+tests_it : (kind : ElementKind) (key : Key) (value : List ℕ) (o : Option AttrTest) → key_of kind ≡ Some key → o ≡ Some (record { uri = []; local = word key; value = value }) → tests_key_of kind o ≡ true
 tests_it kind key value o k is =
     ap (tests_key_of kind) is ∙ ap (λ x. option_map_or (λ y. tests_key y (record { uri = []; local = word key; value = value })) x false) k
     ∙ and_true (bytes_eq [] []) (bytes_eq (word key) (word key)) refl ((bytes_eq-Decides (word key) (word key)).1 refl)
 
-module _ (row : Kind) (c : Scope) (kid : Tree) (kind : Kind) (step : Step) (of_kind : kind_of row (inside c kid) kid.name ≡ Some kind) (named : IsTrue (is_named c step kid)) where
-  -- a name that the kid has is that of its kind
+module _ (row : ElementKind) (c : Scope) (child_element : Tree) (kind : ElementKind) (step : Step) (of_kind : kind_of row (inside c child_element) child_element.name ≡ Some kind) (named : IsTrue (is_named c step child_element)) where
+  -- a name that the child has is its kind's
   its_kind : (uri local : List ℕ) → step.name ≡ Named uri local → kind_by row uri local ≡ Some kind
   its_kind uri local is =
-      let name = passed_name c step kid uri local is named in
-      sym (ap (λ s. kind_by row s kid.name.local) name.0 ∙ ap (kind_by row uri) name.1) ∙ sym (kind_is_by row (inside c kid) kid.name) ∙ of_kind
+      let name = passed_name c step child_element uri local is named in
+      sym (ap (λ s. kind_by row s child_element.name.local) name.0 ∙ ap (kind_by row uri) name.1) ∙ sym (kind_is_by row (inside c child_element) child_element.name) ∙ of_kind
 
   step_to : is_step_of kind step ≡ true → IsKeyStep step
   step_to h =
@@ -110,45 +110,45 @@ module _ (row : Kind) (c : Scope) (kid : Tree) (kind : Kind) (step : Step) (of_k
 
 -- ---- the steps along a path
 
-there_if : (o : Option Tree) (F : Tree → Bool) → option_map_or F o false ≡ true → (kid : Tree) × ((o ≡ Some kid) × (F kid ≡ true))
+there_if : (o : Option Tree) (F : Tree → Bool) → option_map_or F o false ≡ true → (child_element : Tree) × ((o ≡ Some child_element) × (F child_element ≡ true))
 there_if None F h = cc
-there_if (Some kid) F h = (kid, (refl, h))
+there_if (Some child_element) F h = (child_element, (refl, h))
 
-kind_if : (o : Option Kind) (F : Kind → Bool) → option_map_or F o false ≡ true → (kind : Kind) × ((o ≡ Some kind) × (F kind ≡ true))
+kind_if : (o : Option ElementKind) (F : ElementKind → Bool) → option_map_or F o false ≡ true → (kind : ElementKind) × ((o ≡ Some kind) × (F kind ≡ true))
 kind_if None F h = cc
 kind_if (Some kind) F h = (kind, (refl, h))
 
 -- the child that a step selects passes its name test
-selected_named : (c : Scope) (step : Step) (kids : List Tree) (i : ℕ) (kid : Tree) → SelectsChild c step kids i → slice_get kids i ≡ Some kid → IsTrue (is_named c step kid)
-selected_named c step kids i kid h there = let one = h.this in subst (λ (x : Tree). IsTrue (is_named c step x)) (same_Some one.kid kid (sym one.there ∙ there)) one.is_named
+selected_named : (c : Scope) (step : Step) (child_elements : List Tree) (i : ℕ) (child_element : Tree) → SelectsChild c step child_elements i → slice_get child_elements i ≡ Some child_element → IsTrue (is_named c step child_element)
+selected_named c step child_elements i child_element h there = let one = h.this in subst (λ (x : Tree). IsTrue (is_named c step x)) (same_Some one.child_element child_element (sym one.there ∙ there)) one.is_named
 
-rest_selected : (c : Scope) (kids : List Tree) (i : ℕ) (kid : Tree) (step : Step) (steps : List Step) (p : List ℕ) → SelectsAmong c kids (step ∷ steps) (i ∷ p) → slice_get kids i ≡ Some kid → SelectsAmong (inside c kid) (kids_of kid) steps p
-rest_selected c kids i kid step steps p h there = subst (λ (x : Tree). SelectsAmong (inside c x) (kids_of x) steps p) (same_Some h.1.0 kid (sym h.1.1 ∙ there)) h.1.2
+rest_selected : (c : Scope) (child_elements : List Tree) (i : ℕ) (child_element : Tree) (step : Step) (steps : List Step) (p : List ℕ) → SelectsAmong c child_elements (step ∷ steps) (i ∷ p) → slice_get child_elements i ≡ Some child_element → SelectsAmong (inside c child_element) (child_elements_of child_element) steps p
+rest_selected c child_elements i child_element step steps p h there = subst (λ (x : Tree). SelectsAmong (inside c x) (child_elements_of x) steps p) (same_Some h.1.0 child_element (sym h.1.1 ∙ there)) h.1.2
 
-along_to : (p : List ℕ) (row : Kind) (c : Scope) (kids : List Tree) (steps : List Step) → SelectsAmong c kids steps p → are_steps_along row c kids steps p ≡ true → AllByRecursion IsKeyStep steps × HaveKinds row c kids p
-along_to [] row c kids [] sel h = (tt, tt)
-along_to [] row c kids (s ∷ steps) sel h = absurd sel
-along_to (i ∷ p) row c kids [] sel h = absurd sel
-along_to (i ∷ p) row c kids (s ∷ steps) sel h =
-    let k = there_if (slice_get kids i) _ h in
-    let kid = k.0 in
-    let n = kind_if (kind_of row (inside c kid) kid.name) _ k.1.1 in
+along_to : (p : List ℕ) (row : ElementKind) (c : Scope) (child_elements : List Tree) (steps : List Step) → SelectsAmong c child_elements steps p → are_steps_along row c child_elements steps p ≡ true → AllByRecursion IsKeyStep steps × HaveKinds row c child_elements p
+along_to [] row c child_elements [] sel h = (tt, tt)
+along_to [] row c child_elements (s ∷ steps) sel h = absurd sel
+along_to (i ∷ p) row c child_elements [] sel h = absurd sel
+along_to (i ∷ p) row c child_elements (s ∷ steps) sel h =
+    let k = there_if (slice_get child_elements i) _ h in
+    let child_element = k.0 in
+    let n = kind_if (kind_of row (inside c child_element) child_element.name) _ k.1.1 in
     let kind = n.0 in
-    let b = both (is_step_of kind s) (are_steps_along kind (inside c kid) (kids_of kid) steps p) n.1.1 in
-    let rest = along_to p kind (inside c kid) (kids_of kid) steps (rest_selected c kids i kid s steps p sel k.1.0) b.1 in
-    ((step_to row c kid kind s n.1.0 (selected_named c s kids i kid sel.0 k.1.0) b.0, rest.0), (kid, (kind, (k.1.0, n.1.0, rest.1))))
+    let b = both (is_step_of kind s) (are_steps_along kind (inside c child_element) (child_elements_of child_element) steps p) n.1.1 in
+    let rest = along_to p kind (inside c child_element) (child_elements_of child_element) steps (rest_selected c child_elements i child_element s steps p sel k.1.0) b.1 in
+    ((step_to row c child_element kind s n.1.0 (selected_named c s child_elements i child_element sel.0 k.1.0) b.0, rest.0), (child_element, (kind, (k.1.0, n.1.0, rest.1))))
 
-along_from : (p : List ℕ) (row : Kind) (c : Scope) (kids : List Tree) (steps : List Step) → SelectsAmong c kids steps p → AllByRecursion IsKeyStep steps → HaveKinds row c kids p → are_steps_along row c kids steps p ≡ true
-along_from [] row c kids steps sel are kinds = refl
-along_from (i ∷ p) row c kids [] sel are kinds = refl
-along_from (i ∷ p) row c kids (s ∷ steps) sel are kinds =
-    let kid = kinds.0 in
+along_from : (p : List ℕ) (row : ElementKind) (c : Scope) (child_elements : List Tree) (steps : List Step) → SelectsAmong c child_elements steps p → AllByRecursion IsKeyStep steps → HaveKinds row c child_elements p → are_steps_along row c child_elements steps p ≡ true
+along_from [] row c child_elements steps sel are kinds = refl
+along_from (i ∷ p) row c child_elements [] sel are kinds = refl
+along_from (i ∷ p) row c child_elements (s ∷ steps) sel are kinds =
+    let child_element = kinds.0 in
     let kind = kinds.1.0 in
     let k = kinds.1.1 in
-    ap (λ o. option_map_or (λ x. option_map_or (λ y. is_step_of y s && are_steps_along y (inside c x) (kids_of x) steps p) (kind_of row (inside c x) x.name) false) o false) k.0
-    ∙ ap (λ o. option_map_or (λ y. is_step_of y s && are_steps_along y (inside c kid) (kids_of kid) steps p) o false) k.1
-    ∙ and_true (is_step_of kind s) (are_steps_along kind (inside c kid) (kids_of kid) steps p) (step_from row c kid kind s k.1 (selected_named c s kids i kid sel.0 k.0) are.0)
-    (along_from p kind (inside c kid) (kids_of kid) steps (rest_selected c kids i kid s steps p sel k.0) are.1 k.2)
+    ap (λ o. option_map_or (λ x. option_map_or (λ y. is_step_of y s && are_steps_along y (inside c x) (child_elements_of x) steps p) (kind_of row (inside c x) x.name) false) o false) k.0
+    ∙ ap (λ o. option_map_or (λ y. is_step_of y s && are_steps_along y (inside c child_element) (child_elements_of child_element) steps p) o false) k.1
+    ∙ and_true (is_step_of kind s) (are_steps_along kind (inside c child_element) (child_elements_of child_element) steps p) (step_from row c child_element kind s k.1 (selected_named c s child_elements i child_element sel.0 k.0) are.0)
+    (along_from p kind (inside c child_element) (child_elements_of child_element) steps (rest_selected c child_elements i child_element s steps p sel k.0) are.1 k.2)
 
 -- ---- the root
 
@@ -161,18 +161,18 @@ root_is t step sel h =
     ∙ ap (λ (o : Option AttrTest). record { name = step.name; position = None; test = o }) (none_of step.test r.2)
     ∙ ap (λ (n : NameTest). record { name = n; position = None; test = None }) (name.1.1 ∙ ap (λ x. Named x name.1.0) (sym passed.0) ∙ ap (Named (uri_of (element_name (t.decls ∷ []) t.name))) (sym passed.1))
 
-steps_to : (u : Usage) (t : Tree) (steps : List Step) (p : List ℕ) → SelectsPath steps t p → are_key_steps u t steps p ≡ true → AreKeySteps t steps × HaveKinds (root_kind u) (t.decls ∷ []) (kids_of t) p
+steps_to : (u : Usage) (t : Tree) (steps : List Step) (p : List ℕ) → SelectsPath steps t p → are_key_steps u t steps p ≡ true → AreKeySteps t steps × HaveKinds (root_kind u) (t.decls ∷ []) (child_elements_of t) p
 steps_to u t [] p sel h = cc
 steps_to u t (first ∷ later) p sel h =
-    let b = both (is_name_alone first) (are_steps_along (root_kind u) (t.decls ∷ []) (kids_of t) later p) h in
-    let r = along_to p (root_kind u) (t.decls ∷ []) (kids_of t) later (rest_selected [] (t ∷ []) 0 t first later p sel refl) b.1 in
+    let b = both (is_name_alone first) (are_steps_along (root_kind u) (t.decls ∷ []) (child_elements_of t) later p) h in
+    let r = along_to p (root_kind u) (t.decls ∷ []) (child_elements_of t) later (rest_selected [] (t ∷ []) 0 t first later p sel refl) b.1 in
     ((root_is t first sel.0 b.0, r.0), r.1)
 
-steps_from : (u : Usage) (t : Tree) (steps : List Step) (p : List ℕ) → SelectsPath steps t p → AreKeySteps t steps → HaveKinds (root_kind u) (t.decls ∷ []) (kids_of t) p → are_key_steps u t steps p ≡ true
+steps_from : (u : Usage) (t : Tree) (steps : List Step) (p : List ℕ) → SelectsPath steps t p → AreKeySteps t steps → HaveKinds (root_kind u) (t.decls ∷ []) (child_elements_of t) p → are_key_steps u t steps p ≡ true
 steps_from u t [] p sel are kinds = absurd are
 steps_from u t (first ∷ later) p sel are kinds =
-    and_true (is_name_alone first) (are_steps_along (root_kind u) (t.decls ∷ []) (kids_of t) later p) (ap is_name_alone are.0)
-    (along_from p (root_kind u) (t.decls ∷ []) (kids_of t) later (rest_selected [] (t ∷ []) 0 t first later p sel refl) are.1 kinds)
+    and_true (is_name_alone first) (are_steps_along (root_kind u) (t.decls ∷ []) (child_elements_of t) later p) (ap is_name_alone are.0)
+    (along_from p (root_kind u) (t.decls ∷ []) (child_elements_of t) later (rest_selected [] (t ∷ []) 0 t first later p sel refl) are.1 kinds)
 
 ends_to : (end : End) → ends_in_element end ≡ true → end ≡ ends.Element
 ends_to ends.Element h = refl

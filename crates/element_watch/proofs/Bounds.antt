@@ -1,4 +1,4 @@
--- Traces as the code goes.
+-- Former paths as the code computes them, and bounds of their numbers.
 use Rattle.std.proofs.Common.{◌≡◌, ◌↔◌, ◌-◌, ◌≤◌, ◌+◌, ℕ, suc, Bool, true, false, cond, not, is_some, List, [], ◌∷◌, ◌++◌, length, All, Option, None, Some, option_map, option_and_then, refl, sym, ap, ◌∙◌, subst, arith}
 use Rattle.std.specs.Prelude.{◌&&◌, ◌==◌, nat_le}
 use Rattle.std.specs.List.{AllByRecursion}
@@ -6,15 +6,15 @@ use Rattle.std.proofs.lemmas.List.Elements.{All-from_recursion, recursion_from_A
 use Rattle.std.proofs.lemmas.Option.{same_Some}
 use Rattle.xml_tree.specs.Edits.{own_number, parent_path}
 use Rattle.xml_tree.proofs.PathLemmas.{final-snoc, front-snoc}
-use Rattle.edit_ops.specs.Moves.{behind, closed_up, made_room, re_routed, under}
+use Rattle.edit_ops.specs.MovedPaths.{behind, closed_up, made_room, re_routed, under}
 use Rattle.edit_ops.specs.declared.change.Change.{Change}
 use Rattle.edit_ops.specs.declared.change.Change.TheVariants.{CreateDocument, Insert, Replace, Remove, SetAttr, DropAttr, RemoveDocument}
 use Rattle.edit_ops.proofs.WayLemmas.{behind-whole}
-use Rattle.notes.specs.Notes.{Note}
-use Rattle.notes.specs.Recorded.{all_notes}
-use Rattle.element_watch.specs.Touching.{PassesThrough}
+use Rattle.edit_ops.specs.Notes.{Note}
+use Rattle.edit_ops.specs.Recorded.{all_notes}
+use Rattle.element_watch.specs.TouchedElements.{PassesThrough}
 use Rattle.element_watch.proofs.Coming.{leads_is}
-use Rattle.element_watch.specs.inner.Back.{back, came_from, is_below_root, re_routed_if, without_gap}
+use Rattle.element_watch.specs.inner.PathHistory.{back, came_from, is_below_root, re_routed_if, without_gap}
 
 -- ---- a place by its parent and its number
 
@@ -135,7 +135,7 @@ pub middle_small : (older newer : List Note) (q p : List ℕ) (o : Option (List 
 middle_small older newer q p o was is few small =
     All-from_recursion (λ n. n ≤ 4294967359 - length older) p (more (4294967295 + length newer) (4294967359 - length older) p (omega arith) (back_within newer 4294967295 q p (sym is ∙ was) (recursion_from_All (λ n. n ≤ 4294967295) q small)))
 
--- ---- two pieces of a list of notes
+-- ---- two slices of a list of change records
 
 one_more_note : (o : Option (List ℕ)) (f : List ℕ → Option (List ℕ)) (g : List ℕ → Option (List ℕ)) → option_and_then g (option_and_then f o) ≡ option_and_then (λ m. option_and_then g (f m)) o
 one_more_note None f g = refl

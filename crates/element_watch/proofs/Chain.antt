@@ -9,19 +9,19 @@ use Rattle.node_select.specs.Selection.{SelectsPath}
 use Rattle.node_select.specs.declared.selector.Selector.{Selector}
 use Rattle.doc_names.specs.declared.usages.Usage.{Usage}
 use Rattle.edit_ops.specs.Changes.{Fits, edited, place}
-use Rattle.edit_ops.specs.Moves.{behind}
+use Rattle.edit_ops.specs.MovedPaths.{behind}
 use Rattle.edit_ops.specs.declared.change.Change.{Change}
 use Rattle.edit_ops.specs.declared.change.Change.TheVariants.{CreateDocument, Insert, Replace, Remove, SetAttr, DropAttr, RemoveDocument}
 use Rattle.edit_ops.proofs.MoveLaws.{others_stay}
-use Rattle.notes.specs.Notes.{Note}
-use Rattle.key_laws.specs.KeyAddresses.{IsKeyAddressOf, IsKeyed}
-use Rattle.key_laws.specs.KeyWrites.{WritesKeyOn}
-use Rattle.store_core.specs.Keeping.{FollowFrom, IsSound}
+use Rattle.edit_ops.specs.Notes.{Note}
+use Rattle.edit_rules.specs.KeyAddresses.{IsKeyAddressOf, IsKeyed}
+use Rattle.edit_rules.specs.KeyWrites.{WritesKeyOn}
+use Rattle.store_core.specs.ValidStates.{FollowFrom, IsSound}
 use Rattle.store_core.specs.State.{Version}
 use Rattle.store_core.proofs.Chains.{notes_of}
 use Rattle.element_watch.specs.Finding.{Finds}
-use Rattle.element_watch.specs.Touching.{Passes, PassesThrough, Touches, moved_through}
-use Rattle.key_laws.proofs.Stable.{before_change}
+use Rattle.element_watch.specs.TouchedElements.{Passes, PassesThrough, Touches, moved_through}
+use Rattle.edit_rules.proofs.Stable.{before_change}
 
 -- ---- a change that doesn't touch an element
 
@@ -49,7 +49,7 @@ no_key u t p (SetAttr w name value) free h = free (inr (h.on_path, h.unprefixed)
 no_key u t p (DropAttr w name) free h = free (inr (h.on_path, h.unprefixed))
 no_key u t p RemoveDocument free h = h
 
--- ---- notes of versions, the newest first
+-- ---- change records of versions, newest first
 
 none_noted : (v : Version) (vs : List Version) → v.note ≡ None → notes_of (v ∷ vs) ≡ notes_of vs
 none_noted v vs is = rw is refl
@@ -66,12 +66,12 @@ same_rest x y xs ys h = cc
 turned : (n : Note) (ns : List Note) → reverse (n ∷ ns) ≡ reverse ns ++ n ∷ []
 turned n ns = reverse-append (n ∷ []) ns
 
--- the last of the notes passes a place to the present one
+-- the last of the records moves a place to the present one
 last_passes : (ns : List Note) (n : Note) (p q : List ℕ) → PassesThrough p (ns ++ n ∷ []) q → (middle : List ℕ) × (PassesThrough p ns middle × Passes middle n.change q)
 last_passes [] n p q h = (p, (refl, subst (Passes p n.change) h.1.1 h.1.0))
 last_passes (m ∷ ns) n p q h = let r = last_passes ns n h.0 q h.1.1 in (r.0, ((h.0, (h.1.0, r.1.0)), r.1.1))
 
--- one more note behind those of the later versions
+-- one more record after those of the later versions
 one_more : (v : Version) (vs : List Version) (n : Note) (k : ℕ) (behind : List Note) → v.note ≡ Some n → reverse (notes_of (take k vs)) ++ n ∷ behind ≡ reverse (notes_of (take (suc k) (v ∷ vs))) ++ behind
 one_more v vs n k behind is =
     let xs = notes_of (take k vs) in
@@ -84,7 +84,8 @@ keyed : (u : Usage) (t : Tree) → IsSound u t → IsKeyed u t
 keyed u t sound = record { unique = sound.faultless.2; proper = sound.proper }
 
 module _ (u : Usage) (selector : Selector) (e : Tree) (p : List ℕ) where
-  -- what the address selects in a version, it selects in those before it as far as notes pass the place on
+  -- what the address selects in a version, it selects in the earlier ones as far as records move
+  -- the place
   pub found_in_each : (v : Version) (ws : List Version) (front rest behind : List Note) (q former : List ℕ) → AllByRecursion (λ x. IsSound u x.tree) (v ∷ ws) → FollowFrom v ws → notes_of (v ∷ ws) ≡ front ++ rest
       → SelectsPath selector.steps v.tree q → IsKeyAddressOf u v.tree selector q → at q v.tree ≡ Some e → moved_through q behind ≡ Some p → PassesThrough former (reverse front) q
       → (k : ℕ) (x : Version) → k ≤ length front → slice_get (v ∷ ws) k ≡ Some x → Finds selector.steps e x.tree (reverse (notes_of (take k (v ∷ ws))) ++ behind) p
@@ -111,7 +112,7 @@ module _ (u : Usage) (selector : Selector) (e : Tree) (p : List ℕ) where
       subst (λ (l : List Note). Finds selector.steps e x.tree l p) (one_more v (w ∷ ws) m k behind noted)
       (found_in_each w ws front rest (m ∷ behind) middle former sound.1 follows.2 others before.0 before.1 same goes split.1.0 k x (omega arith) found)
 
--- ---- the version that notes begin with
+-- ---- the version that the records begin with
 
 pub begins_with : (v : Version) (ws : List Version) (front rest : List Note) → FollowFrom v ws → notes_of (v ∷ ws) ≡ front ++ rest
     → (x : Version) × ((slice_get (v ∷ ws) (length front) ≡ Some x) × ((front ≡ [] → x ≡ v) × ((n : Note) (ns : List Note) → reverse front ≡ n ∷ ns → n.previous ≡ x.tag)))

@@ -1,4 +1,4 @@
--- Where an element stood before a change is the one place that the change moves to where it stands.
+-- Where an element was before a change is the only place that the change moves to its present one.
 use Rattle.std.proofs.Common.{◌≡◌, ◌↔◌, ◌-◌, ◌==◌, ℕ, suc, Bool, true, false, cond, not, is_some, List, [], ◌∷◌, ◌++◌, Option, None, Some, IsSome, option_map, option_and_then, refl, sym, ap, ◌∙◌, inl, inr, ⊎_elim, arith, append-nil, append_assoc}
 use Rattle.std.specs.Prelude.{◌&&◌, ◌||◌, nat_le}
 use Rattle.std.specs.Str.{bytes_eq}
@@ -7,14 +7,14 @@ use Rattle.std.proofs.lemmas.Option.{same_Some}
 use Rattle.std.proofs.lemmas.Slice.Eq.{bytes_eq-Decides}
 use Rattle.xml_tree.specs.Edits.{own_number, parent_path}
 use Rattle.xml_tree.specs.declared.names.Name.{Name}
-use Rattle.edit_ops.specs.Moves.{behind, closed_up, made_room, re_routed, under, unless}
+use Rattle.edit_ops.specs.MovedPaths.{behind, closed_up, made_room, re_routed, under, unless}
 use Rattle.edit_ops.specs.declared.change.Change.{Change}
 use Rattle.edit_ops.specs.declared.change.Change.TheVariants.{CreateDocument, Insert, Replace, Remove, SetAttr, DropAttr, RemoveDocument}
 use Rattle.edit_ops.proofs.WayLemmas.{behind-other, behind-same, behind-whole}
 use Rattle.element_watch.proofs.Ways.{above-none, behind-append, behind-common, behind-longer, parent-none}
-use Rattle.notes.specs.Notes.{Note}
-use Rattle.element_watch.specs.inner.Back.{back, came_from, is_touched, re_routed_if, without_gap}
-use Rattle.element_watch.specs.Touching.{PassesThrough, Passes, TouchesByAttr}
+use Rattle.edit_ops.specs.Notes.{Note}
+use Rattle.element_watch.specs.inner.PathHistory.{back, came_from, is_touched, re_routed_if, without_gap}
+use Rattle.element_watch.specs.TouchedElements.{PassesThrough, Passes, TouchesByAttr}
 
 -- ---- tests
 
@@ -70,7 +70,7 @@ some_unless : (o : Option (List ℕ)) {B : Type 0} (x y : B) → o ≡ None → 
 some_unless None x y h e = ap Some e
 some_unless (Some r) x y h e = cc
 
--- ---- the numbers behind an insertion and behind a removal
+-- ---- the numbers after an insertion and after a removal
 
 gap_filled : (j n : ℕ) (r : List ℕ) → without_gap j (made_room j (n ∷ r)) ≡ Some (n ∷ r)
 gap_filled j n r =
@@ -108,7 +108,7 @@ filled_hole i n r =
     (λ le. ap (λ b. closed_up i (cond b (suc n) n ∷ r)) (le-leb i n le) ∙ ap (λ b. cond b (suc n - 1) (suc n) ∷ r) (le-leb (suc i) (suc n) (omega arith)) ∙ ap (λ (k : ℕ). k ∷ r) (omega arith))
     (cases_lt n i)
 
--- the number that room is made for isn't the gap's
+-- a number moved by an insertion isn't the insertion point's
 room_number : (i n : ℕ) → cond (nat_le i n) (suc n) n ≡ i → ⊥
 room_number i n e =
     ⊎_elim
@@ -116,7 +116,7 @@ room_number i n e =
     (λ le. let f : cond (nat_le i n) (suc n) n ≡ suc n = ap (λ b. cond b (suc n) n) (le-leb i n le) in omega arith)
     (cases_lt n i)
 
--- ---- a path changed behind a place
+-- ---- a path changed after a place
 
 under_none : (f : List ℕ → List ℕ) (q p : List ℕ) → behind q p ≡ None → under f q p ≡ p
 under_none f q p h = ap (re_routed f q p) h
@@ -126,7 +126,7 @@ under_some f q r = ap (re_routed f q (q ++ r)) (behind-append q r)
 
 -- ---- an insertion
 
--- by what stands of the path behind the parent
+-- by the part of the path after the parent
 abbrev AtGap : List ℕ → ℕ → List ℕ → List ℕ → Type 0
 AtGap w j p q = (under (made_room j) w p ≡ q) × (behind p w ≡ None)
 
@@ -323,7 +323,7 @@ passes_from (DropAttr w name) p q h =
     record { goes_on = ap Some (sym same); untouched = untouched_from p w name (ap (λ x. is_touched x w name) (sym same) ∙ a.0) }
 passes_from RemoveDocument p q h = cc
 
--- ---- through notes
+-- ---- through change records
 
 later_some : (o : Option (List ℕ)) (f : List ℕ → Option (List ℕ)) (p : List ℕ) → option_and_then f o ≡ Some p → (m : List ℕ) × ((o ≡ Some m) × (f m ≡ Some p))
 later_some None f p h = cc
@@ -342,6 +342,6 @@ leads_from (n ∷ ns) p q h =
 pub leads_is : (ns : List Note) (p q : List ℕ) → (back q ns ≡ Some p) ↔ PassesThrough p ns q
 leads_is ns p q = (leads_from ns p q, leads_to ns p q)
 
--- at most one path is led to a path
+-- at most one path is moved to a path
 pub one_start : (ns : List Note) (p p' q : List ℕ) → PassesThrough p ns q → PassesThrough p' ns q → p ≡ p'
 one_start ns p p' q h g = same_Some p p' (sym (leads_to ns p q h) ∙ leads_to ns p' q g)

@@ -1,4 +1,4 @@
--- What is told since a tag, and the versions of the document from that tag on.
+-- What is returned since an etag, and the versions of the document from that etag on.
 use Rattle.std.proofs.Common.{◌≡◌, ℕ, ◌≤◌, Bool, true, false, cond, List, [], ◌∷◌, ◌++◌, length, map, reverse, Option, None, Some, IsSome, IsSomeAnd, option_map, find, slice_get, eqb-true, append_assoc, append-nil, refl, sym, ap, ◌∙◌, subst, inl, inr}
 use Rattle.std.specs.Prelude.{◌==◌}
 use Rattle.std.proofs.lemmas.List.{reverse-append, reverse-reverse}
@@ -6,31 +6,31 @@ use Rattle.std.proofs.lemmas.Option.{same_Some}
 use Rattle.std.specs.List.{AllByRecursion}
 use Rattle.xml_tree.specs.Tree.{Tree, at}
 use Rattle.doc_names.specs.Ids.{id_text}
-use Rattle.doc_names.specs.Same.{same_id}
+use Rattle.doc_names.specs.Equality.{same_id}
 use Rattle.doc_names.specs.Usages.{usage_of}
 use Rattle.doc_names.specs.declared.doc_id.DocId.{DocId}
 use Rattle.doc_names.specs.declared.usages.Usage.{Usage}
 use Rattle.node_select.specs.Selection.{SelectsPath}
 use Rattle.node_select.specs.declared.selector.Selector.{Selector}
 use Rattle.node_select.proofs.Along.{one_path, path_there}
-use Rattle.notes.specs.Notes.{Note}
-use Rattle.notes.specs.Operations.{weight}
-use Rattle.key_laws.specs.KeyAddresses.{IsKeyAddressOf}
-use Rattle.patch_text.specs.Elements.{element_notice}
-use Rattle.patch_text.specs.declared.elements.ElementState.{ElementState}
-use Rattle.patch_text.specs.declared.elements.ElementState.TheVariants.{Unchanged, Exists, Missing}
-use Rattle.store_core.specs.Changing.{document_in, document_name, held_name}
-use Rattle.store_core.specs.Held.{Held, Stands, Stock, held_of}
-use Rattle.store_core.specs.Keeping.{IsKept, IsSound, IsSoundFor, Kept}
-use Rattle.store_core.specs.Since.{Told, notes_from, since}
-use Rattle.store_core.specs.inner.Stories.{held_since, story_of}
+use Rattle.edit_ops.specs.Notes.{Note}
+use Rattle.edit_ops.specs.Operations.{weight}
+use Rattle.edit_rules.specs.KeyAddresses.{IsKeyAddressOf}
+use Rattle.patch_write.specs.Elements.{element_notice}
+use Rattle.patch_write.specs.declared.element_states.ElementState.{ElementState}
+use Rattle.patch_write.specs.declared.element_states.ElementState.TheVariants.{Unchanged, Exists, Missing}
+use Rattle.store_core.specs.DocumentChanges.{document_in, document_name, stored_name}
+use Rattle.store_core.specs.Contents.{StoredDocument, Represents, StoreContents, stored_of}
+use Rattle.store_core.specs.ValidStates.{IsKept, IsSound, IsSoundFor, IsValidState}
+use Rattle.store_core.specs.Since.{ReportedChanges, notes_from, since}
+use Rattle.store_core.specs.inner.ChangesSince.{held_since, changes_since_of}
 use Rattle.store_core.specs.State.{Document, State, Version, is_small, notes, retained, small_end, versions}
 use Rattle.store_core.proofs.Accepted.{find-map}
 use Rattle.store_core.proofs.Asked.{found-name}
 use Rattle.store_core.proofs.Chains.{notes_of}
 use Rattle.element_watch.specs.Finding.{FindFrom, FindSince, Finds, notes_behind}
-use Rattle.element_watch.specs.Touching.{PassesThrough}
-use Rattle.element_watch.specs.Watching.{IsElementNotice, IsQuiet, IsStateOf, silent_notice}
+use Rattle.element_watch.specs.TouchedElements.{PassesThrough}
+use Rattle.element_watch.specs.WatchedElements.{IsElementNotice, IsQuiet, IsStateOf, silent_notice}
 use Rattle.element_watch.proofs.Chain.{begins_with, found_in_each}
 
 -- ---- ends of lists
@@ -45,7 +45,7 @@ retained_end {A = A} w (x ∷ y ∷ xs) = by (is_small w (x ∷ y ∷ xs)) (reta
     by true r = ([], refl)
     by false r = (x ∷ r.0, ap (λ l. x ∷ l) r.1)
 
--- a list ends with notes of which the first goes on from the tag
+-- a list ends with records of which the first continues from the etag
 record EndsWith (tag : ℕ) (ns xs : List Note) : Type 0 where
   front : List Note
   whole : xs ≡ front ++ ns
@@ -54,34 +54,34 @@ record EndsWith (tag : ℕ) (ns xs : List Note) : Type 0 where
   parts : ns ≡ note ∷ later
   goes_on : note.previous ≡ tag
 
-from_tag : (tag : ℕ) (xs ns : List Note) → notes_from tag xs ≡ Some ns → EndsWith tag ns xs
-from_tag tag [] ns h = cc
-from_tag tag (x ∷ xs) ns h = by (x.previous == tag) refl h (from_tag tag xs ns)
+records_from_tag : (tag : ℕ) (xs ns : List Note) → notes_from tag xs ≡ Some ns → EndsWith tag ns xs
+records_from_tag tag [] ns h = cc
+records_from_tag tag (x ∷ xs) ns h = by (x.previous == tag) refl h (records_from_tag tag xs ns)
   where
     by : (b : Bool) → x.previous == tag ≡ b → cond b (Some (x ∷ xs)) (notes_from tag xs) ≡ Some ns → (notes_from tag xs ≡ Some ns → EndsWith tag ns xs) → EndsWith tag ns (x ∷ xs)
     by true e s f =
         let same : x ∷ xs ≡ ns = same_Some (x ∷ xs) ns s in record { front = []; whole = same; note = x; later = xs; parts = sym same; goes_on = eqb-true x.previous tag e }
     by false e s f = let r = f s in record { front = x ∷ r.front; whole = ap (λ l. x ∷ l) r.whole; note = r.note; later = r.later; parts = r.parts; goes_on = r.goes_on }
 
-told_notes : (o : Option (List Note)) (ns : List Note) → story_of o ≡ Told ns → o ≡ Some ns
+told_notes : (o : Option (List Note)) (ns : List Note) → changes_since_of o ≡ ReportedChanges ns → o ≡ Some ns
 told_notes None ns h = cc
 told_notes (Some xs) ns h = ap Some (cc)
 
 -- ---- a document that is found
 
--- its notes end with those that are told since the tag; where these are none, the tag is its own
+-- its records end with those returned since the etag; where these are none, the etag is its own
 record ToldSince (d : Document) (tag : ℕ) (ns : List Note) : Type 0 where
   front : List Note
   whole : notes d ≡ front ++ ns
   same_tag : ns ≡ [] → d.now.tag ≡ tag
   goes_on : (n : Note) (ms : List Note) → ns ≡ n ∷ ms → n.previous ≡ tag
 
-by_tag : (d : Document) (tag : ℕ) (ns : List Note) (b : Bool) → d.now.tag == tag ≡ b → cond b (Told []) (story_of (notes_from tag (retained (notes d)))) ≡ Told ns → ToldSince d tag ns
+by_tag : (d : Document) (tag : ℕ) (ns : List Note) (b : Bool) → d.now.tag == tag ≡ b → cond b (ReportedChanges []) (changes_since_of (notes_from tag (retained (notes d)))) ≡ ReportedChanges ns → ToldSince d tag ns
 by_tag d tag ns true e h =
     let none : [] ≡ ns = cc in
     subst (ToldSince d tag) none (record { front = notes d; whole = sym (append-nil (notes d)); same_tag = λ _. eqb-true d.now.tag tag e; goes_on = λ n ms is. cc })
 by_tag d tag ns false e h =
-    let f = from_tag tag (retained (notes d)) ns (told_notes (notes_from tag (retained (notes d))) ns h) in
+    let f = records_from_tag tag (retained (notes d)) ns (told_notes (notes_from tag (retained (notes d))) ns h) in
     let g = retained_end weight (notes d) in record {
       front = g.0 ++ f.front;
       whole = g.1 ∙ ap (λ (l : List Note). g.0 ++ l) f.whole ∙ sym (append_assoc g.0 f.front ns);
@@ -100,13 +100,13 @@ kept_found next id (x ∷ ds) d all h = by (same_id id x.id) h (kept_found next 
     by true s f = subst (IsKept next) (same_Some x d s) all.0
     by false s f = f s
 
-made_of : (o : Option Document) (h : Held) → option_map held_of o ≡ Some h → (d : Document) × ((o ≡ Some d) × (held_of d ≡ h))
+made_of : (o : Option Document) (h : StoredDocument) → option_map stored_of o ≡ Some h → (d : Document) × ((o ≡ Some d) × (stored_of d ≡ h))
 made_of None h is = cc
-made_of (Some d) h is = (d, (refl, same_Some (held_of d) h is))
+made_of (Some d) h is = (d, (refl, same_Some (stored_of d) h is))
 
 -- ---- the element in each version
 
--- where nothing is told of an element, the notes pass on a place of it
+-- where nothing is reported of an element, the records move a place to its own
 former_place : (u : Usage) (t : Tree) (selector : Selector) (ns : List Note) (p : List ℕ) → SelectsPath selector.steps t p → IsQuiet (Some u) t selector ns → (q : List ℕ) × PassesThrough q ns p
 former_place u t selector ns p selects (inl none) = (p, subst (λ (l : List Note). PassesThrough p l p) (sym none) refl)
 former_place u t selector ns p selects (inr h) =
@@ -121,7 +121,7 @@ sound_all : (usage : Option Usage) (u : Usage) (vs : List Version) → usage ≡
 sound_all usage u vs is all = subst (λ (x : Option Usage). AllByRecursion (λ v. IsSoundFor x v.tree) vs) is all
 
 module _ (u : Usage) (selector : Selector) (p : List ℕ) (d : Document) (next tag : ℕ) (ns : List Note) (kept : IsKept next d) (known : usage_of d.id.auid ≡ Some u) (told : ToldSince d tag ns) where
-  -- its notes, the newest first
+  -- its records, newest first
   turned : notes_of (versions d) ≡ reverse ns ++ reverse told.front
   turned = sym (reverse-reverse (notes_of (versions d))) ∙ ap reverse told.whole ∙ reverse-append told.front ns
 
@@ -154,22 +154,22 @@ module _ (u : Usage) (selector : Selector) (p : List ℕ) (d : Document) (next t
         finds = finds_in selects address q passes;
       }
 
-find_since : (c : Stock) (m : State) (id : DocId) (tag : ℕ) (ns : List Note) (held : Held) (u : Usage) (selector : Selector) (p : List ℕ) → Kept m → Stands c m → since c id tag ≡ Told ns → document_in held_name c.documents id ≡ Some held
+find_since : (c : StoreContents) (m : State) (id : DocId) (tag : ℕ) (ns : List Note) (held : StoredDocument) (u : Usage) (selector : Selector) (p : List ℕ) → IsValidState m → Represents c m → since c id tag ≡ ReportedChanges ns → document_in stored_name c.documents id ≡ Some held
     → usage_of id.auid ≡ Some u → IsQuiet (Some u) held.tree selector ns → SelectsPath selector.steps held.tree p → IsKeyAddressOf u held.tree selector p → FindSince m id tag selector.steps p
 find_since c m id tag ns held u selector p kept stands told there known quiet selects address =
-    let mapped : document_in held_name (map held_of m.documents) id ≡ Some held = ap (λ (x : Stock). document_in held_name x.documents id) (sym stands) ∙ there in
-    let r = made_of (document_in document_name m.documents id) held (sym (find-map held_of (λ (h : Held). same_id id h.id) m.documents) ∙ mapped) in
+    let mapped : document_in stored_name (map stored_of m.documents) id ≡ Some held = ap (λ (x : StoreContents). document_in stored_name x.documents id) (sym stands) ∙ there in
+    let r = made_of (document_in document_name m.documents id) held (sym (find-map stored_of (λ (h : StoredDocument). same_id id h.id) m.documents) ∙ mapped) in
     let d = r.0 in
-    let same : held ≡ held_of d = sym r.1.1 in
-    let story : held_since tag (Some (held_of d)) ≡ Told ns = ap (λ (h : Held). held_since tag (Some h)) r.1.1 ∙ ap (held_since tag) (sym there) ∙ told in
-    let in_state = by_tag d tag ns (d.now.tag == tag) refl story in
-    let known' : usage_of d.id.auid ≡ Some u = ap (λ (i : DocId). usage_of i.auid) (sym (found-name c id held there ∙ ap (λ (h : Held). h.id) same)) ∙ known in
-    let tree : held.tree ≡ d.now.tree = ap (λ (h : Held). h.tree) same in
+    let same : held ≡ stored_of d = sym r.1.1 in
+    let changes_since : held_since tag (Some (stored_of d)) ≡ ReportedChanges ns = ap (λ (h : StoredDocument). held_since tag (Some h)) r.1.1 ∙ ap (held_since tag) (sym there) ∙ told in
+    let in_state = by_tag d tag ns (d.now.tag == tag) refl changes_since in
+    let known' : usage_of d.id.auid ≡ Some u = ap (λ (i : DocId). usage_of i.auid) (sym (found-name c id held there ∙ ap (λ (h : StoredDocument). h.id) same)) ∙ known in
+    let tree : held.tree ≡ d.now.tree = ap (λ (h : StoredDocument). h.tree) same in
     let place = former_place u held.tree selector ns p selects quiet in
     since_found u selector p d m.next tag ns (kept_found m.next id m.documents d kept.documents r.1.0) known' in_state m id r.1.0 (subst (λ (t : Tree). SelectsPath selector.steps t p) tree selects)
     (subst (λ (t : Tree). IsKeyAddressOf u t selector p) tree address) place.0 place.1
 
--- ---- a notice that says nothing
+-- ---- a diff document that reports nothing
 
 silent_so : (root id raw : List ℕ) (state : ElementState) → silent_notice root ≡ element_notice root id raw state → state ≡ Unchanged
 silent_so root id raw Unchanged is = refl
@@ -179,9 +179,9 @@ silent_so root id raw Missing is = let contents = ap (λ (t : Tree). t.content) 
 quiet_so : (u : Usage) (t : Tree) (selector : Selector) (ns : List Note) (usage : Option Usage) (state : ElementState) → usage ≡ Some u → state ≡ Unchanged → IsStateOf usage t selector ns state → IsQuiet (Some u) t selector ns
 quiet_so u t selector ns usage state known unchanged is = subst (λ (x : Option Usage). IsQuiet x t selector ns) known (subst (IsStateOf usage t selector ns) unchanged is)
 
-pub find_unreported : (root : List ℕ) (c : Stock) (m : State) (id : DocId) (tag : ℕ) (ns : List Note) (held : Held) (u : Usage) (selector : Selector) (raw p : List ℕ) → Kept m → Stands c m → since c id tag ≡ Told ns → document_in held_name c.documents id ≡ Some held
+pub find_unreported : (root : List ℕ) (c : StoreContents) (m : State) (id : DocId) (tag : ℕ) (ns : List Note) (held : StoredDocument) (u : Usage) (selector : Selector) (raw p : List ℕ) → IsValidState m → Represents c m → since c id tag ≡ ReportedChanges ns → document_in stored_name c.documents id ≡ Some held
     → usage_of id.auid ≡ Some u → IsElementNotice root c id selector raw ns (silent_notice root) → SelectsPath selector.steps held.tree p → IsKeyAddressOf u held.tree selector p → FindSince m id tag selector.steps p
 find_unreported root c m id tag ns held u selector raw p kept stands told there known notice selects address =
     let same : notice.held ≡ held = same_Some notice.held held (sym notice.there ∙ there) in
     let quiet = quiet_so u notice.held.tree selector ns (usage_of id.auid) notice.state known (silent_so root (id_text id) raw notice.state notice.told) notice.is_state in
-    find_since c m id tag ns held u selector p kept stands told there known (subst (λ (h : Held). IsQuiet (Some u) h.tree selector ns) same quiet) selects address
+    find_since c m id tag ns held u selector p kept stands told there known (subst (λ (h : StoredDocument). IsQuiet (Some u) h.tree selector ns) same quiet) selects address

@@ -8,9 +8,9 @@ use Rattle.doc_names.specs.declared.usages.Usage.{Usage}
 use Rattle.node_select.specs.Selection.{SelectsPath}
 use Rattle.node_select.specs.declared.selector.Step.{Step}
 use Rattle.node_select.proofs.Along.{path_there}
-use Rattle.store_core.specs.Keeping.{IsSound, IsSoundFor}
-use Rattle.patch_laws.proofs.Changes.{path_positions}
-use Rattle.patch_laws.proofs.Lengths.{HasPositions-short}
+use Rattle.store_core.specs.ValidStates.{IsSound, IsSoundFor}
+use Rattle.patch_rules.proofs.Changes.{path_positions}
+use Rattle.patch_rules.proofs.Lengths.{HasPositions-short}
 
 weaker : (p : List ℕ) → AllByRecursion (λ n. n < 4294967295) p → AllByRecursion (λ n. n ≤ 4294967295) p
 weaker [] h = tt

@@ -1,4 +1,4 @@
--- What is told of an element is one thing, and it is what is computed.
+-- The state of an element is unique, and it is the computed one.
 use Rattle.std.proofs.Common.{◌≡◌, ℕ, Bool, true, false, List, [], ◌∷◌, is_some, Option, None, Some, refl, sym, ap, ◌∙◌, subst, inl, inr}
 use Rattle.std.specs.Prelude.{◌&&◌, ◌||◌}
 use Rattle.std.proofs.lemmas.Option.{same_Some}
@@ -11,19 +11,19 @@ use Rattle.node_select.specs.Selection.{SelectsPath, selected_in}
 use Rattle.node_select.specs.declared.selector.Selector.{Selector}
 use Rattle.node_select.proofs.Along.{one_path}
 use Rattle.node_select.proofs.Reaching.{path_is}
-use Rattle.notes.specs.Notes.{Note}
-use Rattle.patch_text.specs.Elements.{element_notice}
-use Rattle.patch_text.specs.inner.Lists.{is_none}
-use Rattle.patch_text.specs.declared.elements.ElementState.{ElementState}
-use Rattle.patch_text.specs.declared.elements.ElementState.TheVariants.{Unchanged, Exists, Missing}
-use Rattle.store_core.specs.Changing.{document_in, held_name}
-use Rattle.store_core.specs.Held.{Held, Stock}
-use Rattle.store_core.specs.Since.{Told, since}
-use Rattle.store_core.specs.inner.Stories.{held_since}
-use Rattle.element_watch.specs.Watching.{IsElementNotice, IsQuiet, IsStateOf, IsUntouched, IsUntouchedAt, SelectsSome}
-use Rattle.element_watch.specs.inner.Back.{back}
-use Rattle.element_watch.specs.inner.Keyed.{is_key_address}
-use Rattle.element_watch.specs.inner.Seen.{is_untouched, is_untouched_at, state_at, state_in}
+use Rattle.edit_ops.specs.Notes.{Note}
+use Rattle.patch_write.specs.Elements.{element_notice}
+use Rattle.patch_write.specs.inner.Lists.{is_none}
+use Rattle.patch_write.specs.declared.element_states.ElementState.{ElementState}
+use Rattle.patch_write.specs.declared.element_states.ElementState.TheVariants.{Unchanged, Exists, Missing}
+use Rattle.store_core.specs.DocumentChanges.{document_in, stored_name}
+use Rattle.store_core.specs.Contents.{StoredDocument, StoreContents}
+use Rattle.store_core.specs.Since.{ReportedChanges, since}
+use Rattle.store_core.specs.inner.ChangesSince.{held_since}
+use Rattle.element_watch.specs.WatchedElements.{IsElementNotice, IsQuiet, IsStateOf, IsUntouched, IsUntouchedAt, SelectsSome}
+use Rattle.element_watch.specs.inner.PathHistory.{back}
+use Rattle.element_watch.specs.inner.KeyAddresses.{is_key_address}
+use Rattle.element_watch.specs.inner.ElementStates.{is_untouched, is_untouched_at, state_at, state_in}
 use Rattle.element_watch.proofs.Addresses.{address_is}
 use Rattle.element_watch.proofs.Coming.{leads_is}
 
@@ -125,22 +125,22 @@ module _ (u : Option Usage) (t : Tree) (selector : Selector) (ns : List Note) wh
   one_state Missing Exists h g = absurd (h.1 g.1)
   one_state Missing Missing h g = refl
 
--- ---- the notice
+-- ---- the diff document
 
-pub one_notice : (root : List ℕ) (c : Stock) (id : DocId) (selector : Selector) (raw : List ℕ) (ns : List Note) (a b : Tree) → IsElementNotice root c id selector raw ns a → IsElementNotice root c id selector raw ns b → a ≡ b
+pub one_notice : (root : List ℕ) (c : StoreContents) (id : DocId) (selector : Selector) (raw : List ℕ) (ns : List Note) (a b : Tree) → IsElementNotice root c id selector raw ns a → IsElementNotice root c id selector raw ns b → a ≡ b
 one_notice root c id selector raw ns a b h g =
     let same : h.held ≡ g.held = same_Some h.held g.held (sym h.there ∙ g.there) in
-    let here : IsStateOf (usage_of id.auid) g.held.tree selector ns h.state = subst (λ (x : Held). IsStateOf (usage_of id.auid) x.tree selector ns h.state) same h.is_state in
+    let here : IsStateOf (usage_of id.auid) g.held.tree selector ns h.state = subst (λ (x : StoredDocument). IsStateOf (usage_of id.auid) x.tree selector ns h.state) same h.is_state in
     let state : h.state ≡ g.state = one_state (usage_of id.auid) g.held.tree selector ns h.state g.state here g.is_state in
     h.told ∙ ap (element_notice root (id_text id) raw) state ∙ sym g.told
 
-made_notice : (root : List ℕ) (c : Stock) (tag : ℕ) (id : DocId) (selector : Selector) (raw : List ℕ) (ns : List Note) (o : Option Held) → document_in held_name c.documents id ≡ o → held_since tag o ≡ Told ns
+made_notice : (root : List ℕ) (c : StoreContents) (tag : ℕ) (id : DocId) (selector : Selector) (raw : List ℕ) (ns : List Note) (o : Option StoredDocument) → document_in stored_name c.documents id ≡ o → held_since tag o ≡ ReportedChanges ns
     → (notice : Tree) × IsElementNotice root c id selector raw ns notice
 made_notice root c tag id selector raw ns None is told = cc
 made_notice root c tag id selector raw ns (Some h) is told =
     let state = state_in (usage_of id.auid) h.tree selector ns in
     (element_notice root (id_text id) raw state, record { held = h; there = is; state = state; is_state = state_is (usage_of id.auid) h.tree selector ns; told = refl })
 
--- where notes are told, there is one
-pub some_notice : (root : List ℕ) (c : Stock) (tag : ℕ) (id : DocId) (selector : Selector) (raw : List ℕ) (ns : List Note) → since c id tag ≡ Told ns → (notice : Tree) × IsElementNotice root c id selector raw ns notice
-some_notice root c tag id selector raw ns told = made_notice root c tag id selector raw ns (document_in held_name c.documents id) refl told
+-- where records are returned, there is one
+pub some_notice : (root : List ℕ) (c : StoreContents) (tag : ℕ) (id : DocId) (selector : Selector) (raw : List ℕ) (ns : List Note) → since c id tag ≡ ReportedChanges ns → (notice : Tree) × IsElementNotice root c id selector raw ns notice
+some_notice root c tag id selector raw ns told = made_notice root c tag id selector raw ns (document_in stored_name c.documents id) refl told

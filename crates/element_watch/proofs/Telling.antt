@@ -1,4 +1,4 @@
--- What the code finds of an element, by what its parts answer.
+-- What the code finds about an element, by the results of its parts.
 use Rattle.std.proofs.Common.{◌≡◌, ◌↔◌, ◌≤◌, ◌+◌, ℕ, Bool, true, false, List, length, is_some, IsTrue, Option, None, Some, option_map, Result, Ok, Err, IfOk, encode_utf8_all, length-append, refl, sym, ap, ◌∙◌, arith}
 use Rattle.std.specs.Prelude.{◌&&◌}
 use Rattle.std.proofs.lemmas.Option.{same_Some}
@@ -10,18 +10,18 @@ use Rattle.doc_names.specs.declared.doc_id.DocId.{DocId}
 use Rattle.doc_names.specs.declared.usages.Usage.{Usage}
 use Rattle.node_select.specs.Selection.{SelectsPath}
 use Rattle.node_select.specs.declared.selector.Selector.{Selector}
-use Rattle.notes.specs.Notes.{Note}
-use Rattle.notes.specs.Recorded.{all_notes}
-use Rattle.key_laws.specs.KeyAddresses.{IsKeyAddressOf}
-use Rattle.patch_text.specs.Elements.{element_notice}
-use Rattle.patch_text.specs.declared.elements.ElementState.{ElementState}
-use Rattle.store_core.specs.Changing.{document_in, held_name}
-use Rattle.store_core.specs.Held.{Held, Stock}
-use Rattle.element_watch.specs.Touching.{PassesThrough}
-use Rattle.element_watch.specs.Watching.{IsNoticeText}
-use Rattle.element_watch.specs.inner.Back.{back}
-use Rattle.element_watch.specs.inner.Keyed.{is_key_address}
-use Rattle.element_watch.specs.inner.Seen.{is_untouched_at, state_in}
+use Rattle.edit_ops.specs.Notes.{Note}
+use Rattle.edit_ops.specs.Recorded.{all_notes}
+use Rattle.edit_rules.specs.KeyAddresses.{IsKeyAddressOf}
+use Rattle.patch_write.specs.Elements.{element_notice}
+use Rattle.patch_write.specs.declared.element_states.ElementState.{ElementState}
+use Rattle.store_core.specs.DocumentChanges.{document_in, stored_name}
+use Rattle.store_core.specs.Contents.{StoredDocument, StoreContents}
+use Rattle.element_watch.specs.TouchedElements.{PassesThrough}
+use Rattle.element_watch.specs.WatchedElements.{IsNoticeText}
+use Rattle.element_watch.specs.inner.PathHistory.{back}
+use Rattle.element_watch.specs.inner.KeyAddresses.{is_key_address}
+use Rattle.element_watch.specs.inner.ElementStates.{is_untouched_at, state_in}
 use Rattle.element_watch.proofs.Addresses.{address_is}
 use Rattle.element_watch.proofs.Coming.{leads_is}
 use Rattle.element_watch.proofs.States.{state_is}
@@ -54,16 +54,16 @@ module _ (u : Usage) (t : Tree) (selector : Selector) (ns : List Note) (p : List
   when_keyed o there by_key is traced =
       is ∙ ap is_some (traced_is ns p o traced) ∙ ap (λ (b : Bool). b && is_some (back p ns)) (sym by_key ∙ keyed_is u t selector p keyed selects tells)
 
--- ---- the notice
+-- ---- the diff document
 
-abbrev PairOf : Option Held → Option (Tree × ℕ)
+abbrev PairOf : Option StoredDocument → Option (Tree × ℕ)
 PairOf o = option_map (λ h. (h.tree, h.tag)) o
 
-got_is : (o : Option Held) (t : Tree) (tag : ℕ) → Some (t, tag) ≡ PairOf o → (h : Held) × ((o ≡ Some h) × (h.tree ≡ t))
+got_is : (o : Option StoredDocument) (t : Tree) (tag : ℕ) → Some (t, tag) ≡ PairOf o → (h : StoredDocument) × ((o ≡ Some h) × (h.tree ≡ t))
 got_is None t tag is = cc
 got_is (Some h) t tag is = (h, (refl, ap (λ (x : Tree × ℕ). x.0) (sym (same_Some (t, tag) (h.tree, h.tag) is))))
 
-all_texts : {E : Type 0} (root : List ℕ) (c : Stock) (id : DocId) (selector : Selector) (raw : List ℕ) (ns : List Note) (u : Usage) (h : Held) (state : ElementState) (r : Result (List ℕ) E) → document_in held_name c.documents id ≡ Some h → usage_of id.auid ≡ Some u
+all_texts : {E : Type 0} (root : List ℕ) (c : StoreContents) (id : DocId) (selector : Selector) (raw : List ℕ) (ns : List Note) (u : Usage) (h : StoredDocument) (state : ElementState) (r : Result (List ℕ) E) → document_in stored_name c.documents id ≡ Some h → usage_of id.auid ≡ Some u
     → state ≡ state_in (Some u) h.tree selector ns → IfOk r (λ bytes. bytes ≡ encode_utf8_all (document_print (element_notice root (id_text id) raw state))) → IfOk r (IsNoticeText root c id selector raw ns)
 all_texts root c id selector raw ns u h state (Err e) there known is writes = tt
 all_texts root c id selector raw ns u h state (Ok bytes) there known is writes = (
@@ -71,13 +71,13 @@ all_texts root c id selector raw ns u h state (Ok bytes) there known is writes =
   (record { held = h; there = there; state = state; is_state = rw (known, is) (state_is (Some u) h.tree selector ns); told = refl }, writes),
 )
 
-pub notice_text : {E : Type 0} (root : List ℕ) (c : Stock) (id : DocId) (selector : Selector) (raw : List ℕ) (ns : List Note) (u : Usage) (t : Tree) (tag : ℕ) (state : ElementState) (r : Result (List ℕ) E) → Some (t, tag) ≡ PairOf (document_in held_name c.documents id)
+pub notice_text : {E : Type 0} (root : List ℕ) (c : StoreContents) (id : DocId) (selector : Selector) (raw : List ℕ) (ns : List Note) (u : Usage) (t : Tree) (tag : ℕ) (state : ElementState) (r : Result (List ℕ) E) → Some (t, tag) ≡ PairOf (document_in stored_name c.documents id)
     → usage_of id.auid ≡ Some u → state ≡ state_in (Some u) t selector ns → IfOk r (λ bytes. bytes ≡ encode_utf8_all (document_print (element_notice root (id_text id) raw state))) → IfOk r (IsNoticeText root c id selector raw ns)
 notice_text root c id selector raw ns u t tag state r got known is writes =
-    let h = got_is (document_in held_name c.documents id) t tag got in
+    let h = got_is (document_in stored_name c.documents id) t tag got in
     all_texts root c id selector raw ns u h.0 state r h.1.0 known (is ∙ ap (λ (x : Tree). state_in (Some u) x selector ns) (sym h.1.1)) writes
 
--- ---- notes in two pieces
+-- ---- records in two slices
 
 pub few_of_all : (older newer : List Note) → length (all_notes older newer) ≤ 64 → length older + length newer ≤ 64
 few_of_all older newer few = omega (arith, length-append older newer)

@@ -1,13 +1,13 @@
--- Ways from one place to another below it, joined and taken off.
+-- Relative paths from one place to another below it, joined and taken off.
 use Rattle.std.proofs.Common.{◌≡◌, ◌==◌, ◌≤◌, ◌+◌, ℕ, Bool, true, false, cond, List, [], ◌∷◌, ◌++◌, length, take, drop, Option, None, Some, option_map, MatchOption, IfSome, refl, sym, ap, ◌∙◌, subst, ⊎_elim, arith}
 use Rattle.std.specs.Str.{bytes_eq}
 use Rattle.std.proofs.lemmas.Bool.{cases_eq}
 use Rattle.std.proofs.lemmas.List.{take-append-drop}
 use Rattle.std.proofs.lemmas.Slice.Eq.{bytes_eq-Decides}
-use Rattle.edit_ops.specs.Moves.{behind}
+use Rattle.edit_ops.specs.MovedPaths.{behind}
 use Rattle.edit_ops.proofs.WayLemmas.{behind-other, behind-same, behind-whole}
 
--- behind a common beginning
+-- after a common beginning
 pub behind-common : (q a b : List ℕ) → behind (q ++ a) (q ++ b) ≡ behind a b
 behind-common [] a b = refl
 behind-common (n ∷ q) a b = behind-same n (q ++ a) (q ++ b) ∙ behind-common q a b
@@ -16,12 +16,12 @@ pub behind-append : (q r : List ℕ) → behind q (q ++ r) ≡ Some r
 behind-append [] r = refl
 behind-append (n ∷ q) r = behind-same n q (q ++ r) ∙ behind-append q r
 
--- a path that goes on doesn't lie on the way to where it goes on from
+-- a longer path isn't the beginning of the path that it continues
 pub behind-longer : (q : List ℕ) (n : ℕ) (r : List ℕ) → behind (q ++ n ∷ r) q ≡ None
 behind-longer [] n r = refl
 behind-longer (m ∷ q) n r = behind-same m (q ++ n ∷ r) q ∙ behind-longer q n r
 
--- what lies in a child lies in its parent
+-- what is inside a child is inside its parent
 pub parent-none : (f : List ℕ) (i : ℕ) (p : List ℕ) → behind f p ≡ None → behind (f ++ i ∷ []) p ≡ None
 parent-none [] i p h = cc
 parent-none (m ∷ f) i [] h = refl

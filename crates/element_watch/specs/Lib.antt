@@ -1,4 +1,4 @@
 pub mod Finding
-pub mod Touching
-pub mod Watching
+pub mod TouchedElements
+pub mod WatchedElements
 pub mod inner

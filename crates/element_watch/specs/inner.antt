@@ -1,4 +1,4 @@
--- What private functions and proofs speak of. No clause of a public call needs it.
-pub mod Back
-pub mod Keyed
-pub mod Seen
+-- Definitions for private functions and proofs. No clause of a public call needs them.
+pub mod ElementStates
+pub mod KeyAddresses
+pub mod PathHistory

@@ -1,20 +1,20 @@
-//! Why there is no notice of an element.
+//! Why there is no xcap-diff document about an element.
 ghost use Rattle.std.specs.Prelude.{◌≡◌};
 ghost use Rattle.element_watch.specs.declared.fault.ElementFault.TheVariants as faults;
 
 use std::alloc::AllocError;
 use thiserror::Error;
 
-/// Why there is no notice of an element.
+/// Why there is no xcap-diff document about an element.
 #[derive(Clone, Copy, Debug, Drop, PartialEq, Eq, Error)]
 pub enum ElementFault {
-    /// Its document isn't held.
+    /// Its document isn't stored.
     #[error("the document is gone")]
     Gone,
-    /// The tag is neither that of its document nor the one before a change that is retained.
+    /// The etag is neither its document's own nor the one before a retained change.
     #[error("the version isn't known")]
     Unknown,
-    /// Want of memory.
+    /// Out of memory.
     #[error("out of memory")]
     NoMemory,
 }

@@ -6,47 +6,48 @@ ghost use Rattle.doc_names.specs.declared.doc_id.DocId.{DocId};
 ghost use Rattle.doc_names.specs.declared.usages.Usage.{Usage};
 ghost use Rattle.node_select.specs.Selection.{SelectsPath};
 ghost use Rattle.node_select.specs.declared.selector.Selector.{Selector};
-ghost use Rattle.notes.specs.Notes.{Note};
-ghost use Rattle.key_laws.specs.KeyAddresses.{IsKeyAddressOf};
-ghost use Rattle.store_core.specs.Changing.{document_in, held_name};
-ghost use Rattle.store_core.specs.Held.{Held, Stands, Stock};
-ghost use Rattle.store_core.specs.Keeping.{Kept};
-ghost use Rattle.store_core.specs.Since.{Told, since};
+ghost use Rattle.edit_ops.specs.Notes.{Note};
+ghost use Rattle.edit_rules.specs.KeyAddresses.{IsKeyAddressOf};
+ghost use Rattle.store_core.specs.DocumentChanges.{document_in, stored_name};
+ghost use Rattle.store_core.specs.Contents.{StoredDocument, Represents, StoreContents};
+ghost use Rattle.store_core.specs.ValidStates.{IsValidState};
+ghost use Rattle.store_core.specs.Since.{ReportedChanges, since};
 ghost use Rattle.store_core.specs.State.{State};
-ghost use Rattle.patch_text.specs.declared.elements.ElementState.{ElementState};
+ghost use Rattle.patch_write.specs.declared.element_states.ElementState.{ElementState};
 ghost use Rattle.element_watch.specs.Finding.{FindSince};
-ghost use Rattle.element_watch.specs.Touching.{PassesThrough};
-ghost use Rattle.element_watch.specs.Watching.{IsElementNotice, IsStateOf, silent_notice};
+ghost use Rattle.element_watch.specs.TouchedElements.{PassesThrough};
+ghost use Rattle.element_watch.specs.WatchedElements.{IsElementNotice, IsStateOf, silent_notice};
 
-/// A law: through notes at most one place passes to a place.
+/// A law: change records move at most one path to a path.
 pub fn one_place_passes_to_another()
-    ensures places_are_one { (ns : List Note) (p q r : List ℕ) → PassesThrough p ns r → PassesThrough q ns r → p ≡ q }
+    ensures places_are_one { (ns : List Note) (p q r : List ℕ) → PassesThrough p ns r
+        → PassesThrough q ns r → p ≡ q }
 {}
 
-/// A law: an address has exactly one state in a tree; and so where notes since a version are told of
-/// a document, an element of it has exactly one notice.
+/// A law: a selector has exactly one state in a tree; and so, where change records since a version
+/// are returned for a document, there is exactly one xcap-diff document about an element of it.
 pub fn each_element_has_one_notice()
-    ensures there_is_a_state { (u : Option Usage) (t : Tree) (selector : Selector) (ns : List Note)
+    ensures state_exists { (u : Option Usage) (t : Tree) (selector : Selector) (ns : List Note)
         → (state : ElementState) × IsStateOf u t selector ns state }
     ensures states_are_one { (u : Option Usage) (t : Tree) (selector : Selector) (ns : List Note)
         (a b : ElementState) → IsStateOf u t selector ns a → IsStateOf u t selector ns b → a ≡ b }
-    ensures there_is_a_notice { (root : List ℕ) (c : Stock) (tag : ℕ) (id : DocId)
-        (selector : Selector) (raw : List ℕ) (ns : List Note) → since c id tag ≡ Told ns
+    ensures notice_exists { (root : List ℕ) (c : StoreContents) (tag : ℕ) (id : DocId)
+        (selector : Selector) (raw : List ℕ) (ns : List Note) → since c id tag ≡ ReportedChanges ns
         → (notice : Tree) × IsElementNotice root c id selector raw ns notice }
-    ensures notices_are_one { (root : List ℕ) (c : Stock) (id : DocId) (selector : Selector)
+    ensures notices_are_one { (root : List ℕ) (c : StoreContents) (id : DocId) (selector : Selector)
         (raw : List ℕ) (ns : List Note) (a b : Tree) → IsElementNotice root c id selector raw ns a
         → IsElementNotice root c id selector raw ns b → a ≡ b }
 {}
 
-/// A law: where a store stands for a kept state and a notice says nothing of an element that an
-/// address by keys selects, that address selects the same element, with all that is in it, in the
-/// version that was known and in each later one, at a path that the changes since move to the
-/// present one.
+/// A law: where a store represents a valid state and the xcap-diff document reports nothing of an
+/// element that a key address selects, that address selects the same element, with all its
+/// content, in the known version and in each later one, at a path that the changes since move to
+/// the present one.
 pub fn unreported_elements_are_the_same()
-    ensures finds_the_same { (root : List ℕ) (c : Stock) (m : State) (id : DocId) (tag : ℕ)
-        (ns : List Note) (held : Held) (u : Usage) (selector : Selector) (raw p : List ℕ)
-        → Kept m → Stands c m → since c id tag ≡ Told ns
-        → document_in held_name c.documents id ≡ Some held → usage_of id.auid ≡ Some u
+    ensures finds_same { (root : List ℕ) (c : StoreContents) (m : State) (id : DocId) (tag : ℕ)
+        (ns : List Note) (held : StoredDocument) (u : Usage) (selector : Selector) (raw p : List ℕ)
+        → IsValidState m → Represents c m → since c id tag ≡ ReportedChanges ns
+        → document_in stored_name c.documents id ≡ Some held → usage_of id.auid ≡ Some u
         → IsElementNotice root c id selector raw ns (silent_notice root)
         → SelectsPath selector.steps held.tree p → IsKeyAddressOf u held.tree selector p
         → FindSince m id tag selector.steps p }

@@ -2,63 +2,63 @@
 use Rattle.std.proofs.Common.{◌≡◌, ℕ, ◌+◌, ◌<◌, Bool, true, false, true≢false, List, [], ◌∷◌, ◌++◌, length, Option, None, Some, Ok, refl, sym, ap, subst, ◌∙◌, arith, append_assoc, append-nil}
 use Rattle.std.proofs.lemmas.List.{length_push}
 use Rattle.std.specs.Io.KnownBytes.{Consumes, IsAtEnd}
-use Rattle.xcap_io.specs.Causes.{Begun, Inward, LineState, PortState, Rose, RoseBy}
+use Rattle.xcap_io.specs.Causes.{Begun, InputState, StreamState, PortState, CountRises, RoseBy}
 use Rattle.xcap_io.specs.Connections.{Comes, Next, NextFailed, OnlyNext, carried, traffic}
 use Rattle.xcap_io.specs.Histories.{Traffic, carried_by}
-use Rattle.xcap_io.specs.Passing.{Gave, IsTruthful, Took}
+use Rattle.xcap_io.specs.StreamTraffic.{Gave, IsTruthful, Took}
 use Rattle.http_wire.specs.declared.request.Request.{Request}
 use Rattle.http_wire.specs.Serving.{HasBytes, HaveBytes, Serves, ServesEach, read_failures, write_failures}
-use Rattle.http_wire.specs.declared.ended.Ended.{Ended}
-use Rattle.http_wire.specs.declared.ended.Ended.TheVariants.{Closed, ReadFailed, WriteFailed}
-use Rattle.http_serve.specs.declared.port.Served.{Served}
-use Rattle.http_serve.specs.declared.port.Stop.{Stop}
-use Rattle.http_serve.specs.declared.port.Stop.TheVariants.{Count, NoMore, PortFailed}
+use Rattle.http_wire.specs.declared.close_reason.CloseReason.{CloseReason}
+use Rattle.http_wire.specs.declared.close_reason.CloseReason.TheVariants.{Closed, ReadFailed, WriteFailed}
+use Rattle.http_serve.specs.declared.accept_loop.ServeSummary.{ServeSummary}
+use Rattle.http_serve.specs.declared.accept_loop.StopReason.{StopReason}
+use Rattle.http_serve.specs.declared.accept_loop.StopReason.TheVariants.{Count, NoMore, PortFailed}
 use Rattle.http_serve.specs.Endings.{FaultsBy}
 use Rattle.http_serve.specs.Fixed.{fixed}
-use Rattle.http_serve.specs.Connections.{ServesLine}
+use Rattle.http_serve.specs.Connections.{ServesStream}
 use Rattle.http_serve.proofs.Faults.{faults_on}
 use Rattle.http_serve.specs.Ports.{Came, ServesPort, Stops, last_of}
 
--- ---- one connection behind others
+-- ---- one connection after others
 
 -- how the last one ended
-last_added : (endings : List Ended) (ending : Ended) → ending ≡ last_of (endings ++ ending ∷ [])
+last_added : (endings : List CloseReason) (ending : CloseReason) → ending ≡ last_of (endings ++ ending ∷ [])
 last_added [] ending = refl
 last_added (e ∷ []) ending = refl
 last_added (e ∷ f ∷ endings) ending = last_added (f ∷ endings) ending
 
 -- how many failed
-reads_added : (endings : List Ended) (ending : Ended) → read_failures (endings ++ ending ∷ []) ≡ read_failures endings + read_failures (ending ∷ [])
+reads_added : (endings : List CloseReason) (ending : CloseReason) → read_failures (endings ++ ending ∷ []) ≡ read_failures endings + read_failures (ending ∷ [])
 reads_added [] ending = omega arith
 reads_added (Closed ∷ endings) ending = reads_added endings ending
 reads_added (ReadFailed ∷ endings) ending = omega (arith, reads_added endings ending)
 reads_added (WriteFailed ∷ endings) ending = reads_added endings ending
 
-writes_added : (endings : List Ended) (ending : Ended) → write_failures (endings ++ ending ∷ []) ≡ write_failures endings + write_failures (ending ∷ [])
+writes_added : (endings : List CloseReason) (ending : CloseReason) → write_failures (endings ++ ending ∷ []) ≡ write_failures endings + write_failures (ending ∷ [])
 writes_added [] ending = omega arith
 writes_added (Closed ∷ endings) ending = writes_added endings ending
 writes_added (ReadFailed ∷ endings) ending = writes_added endings ending
 writes_added (WriteFailed ∷ endings) ending = omega (arith, writes_added endings ending)
 
--- a bound where the count stayed, and where it rose
+-- a bound where the counter is unchanged, and where it rose
 bound_stays : (n k before mid now : ℕ) → k ≡ n + 0 → now ≡ mid → RoseBy n before mid → RoseBy k before now
 bound_stays n k before mid now e same b = omega (arith, e, same, b)
 
-bound_rises : (n k before mid now : ℕ) → k ≡ n + 1 → Rose mid now → RoseBy n before mid → RoseBy k before now
+bound_rises : (n k before mid now : ℕ) → k ≡ n + 1 → CountRises mid now → RoseBy n before mid → RoseBy k before now
 bound_rises n k before mid now e rose b = omega (arith, e, rose, b)
 
-reads_bound : (ended : Ended) (endings : List Ended) (first : ℕ) (mid new : LineState) → FaultsBy ended mid.read_faults new.read_faults mid.write_faults new.write_faults → RoseBy (read_failures endings) first mid.read_faults → RoseBy (read_failures (endings ++ ended ∷ [])) first new.read_faults
+reads_bound : (ended : CloseReason) (endings : List CloseReason) (first : ℕ) (mid new : StreamState) → FaultsBy ended mid.read_faults new.read_faults mid.write_faults new.write_faults → RoseBy (read_failures endings) first mid.read_faults → RoseBy (read_failures (endings ++ ended ∷ [])) first new.read_faults
 reads_bound Closed endings first mid new f b = bound_stays (read_failures endings) _ first mid.read_faults new.read_faults (reads_added endings Closed) f.0 b
 reads_bound ReadFailed endings first mid new f b = bound_rises (read_failures endings) _ first mid.read_faults new.read_faults (reads_added endings ReadFailed) f.0 b
 reads_bound WriteFailed endings first mid new f b = bound_stays (read_failures endings) _ first mid.read_faults new.read_faults (reads_added endings WriteFailed) f.0 b
 
-writes_bound : (ended : Ended) (endings : List Ended) (first : ℕ) (mid new : LineState) → FaultsBy ended mid.read_faults new.read_faults mid.write_faults new.write_faults → RoseBy (write_failures endings) first mid.write_faults → RoseBy (write_failures (endings ++ ended ∷ [])) first new.write_faults
+writes_bound : (ended : CloseReason) (endings : List CloseReason) (first : ℕ) (mid new : StreamState) → FaultsBy ended mid.read_faults new.read_faults mid.write_faults new.write_faults → RoseBy (write_failures endings) first mid.write_faults → RoseBy (write_failures (endings ++ ended ∷ [])) first new.write_faults
 writes_bound Closed endings first mid new f b = bound_stays (write_failures endings) _ first mid.write_faults new.write_faults (writes_added endings Closed) f.1 b
 writes_bound ReadFailed endings first mid new f b = bound_stays (write_failures endings) _ first mid.write_faults new.write_faults (writes_added endings ReadFailed) f.1 b
 writes_bound WriteFailed endings first mid new f b = bound_rises (write_failures endings) _ first mid.write_faults new.write_faults (writes_added endings WriteFailed) f.1 b
 
 module _ {M E : Type 0} (Step : M → Request → List ℕ → M → Option E → Type 0) where
-  each_more : (connections : List Traffic) (machine mid next : M) (endings : List Ended) (edits : List E) (ending : Ended) (passed : Traffic) (later : List E)
+  each_more : (connections : List Traffic) (machine mid next : M) (endings : List CloseReason) (edits : List E) (ending : CloseReason) (passed : Traffic) (later : List E)
       → ServesEach Step fixed machine connections endings mid edits → Serves Step fixed ending mid passed next later
       → ServesEach Step fixed machine (connections ++ passed ∷ []) (endings ++ ending ∷ []) next (edits ++ later)
   each_more [] machine mid next endings edits ending passed later h one = (
@@ -67,7 +67,7 @@ module _ {M E : Type 0} (Step : M → Request → List ℕ → M → Option E �
     next,
     later,
     [],
-    ap (λ (l : List Ended). l ++ ending ∷ []) h.0,
+    ap (λ (l : List CloseReason). l ++ ending ∷ []) h.0,
     ap (λ (l : List E). l ++ later) h.2 ∙ sym (append-nil later),
     subst (λ (m : M). Serves Step fixed ending m passed next later) h.1 one,
     (refl, refl, refl),
@@ -78,15 +78,15 @@ module _ {M E : Type 0} (Step : M → Request → List ℕ → M → Option E �
     m,
     first,
     rest ++ later,
-    ap (λ (l : List Ended). l ++ ending ∷ []) all_endings,
+    ap (λ (l : List CloseReason). l ++ ending ∷ []) all_endings,
     ap (λ (l : List E). l ++ later) all_told ∙ append_assoc first rest later,
     served,
     each_more connections m mid next others rest ending passed later each one,
   )
 
--- ---- what the port tells
+-- ---- what the port shows
 
--- bytes of connections, and of one behind them
+-- bytes of connections, and of one after them
 have_more : (came : List (List ℕ)) (connections : List Traffic) (bytes : List ℕ) (passed : Traffic) → HaveBytes came connections → HasBytes bytes passed → HaveBytes (came ++ bytes ∷ []) (connections ++ passed ∷ [])
 have_more [] [] bytes passed have has = (has, tt)
 have_more [] (p ∷ connections) bytes passed have has = absurd have
@@ -94,7 +94,7 @@ have_more (b ∷ came) [] bytes passed have has = absurd have
 have_more (b ∷ came) (p ∷ connections) bytes passed have has = (have.0, have_more came connections bytes passed have.1 has)
 
 -- what was left of a connection that began, and what was given on it
-pub has_bytes : (start now : Inward) (bytes : List ℕ) (passed : Traffic) → start.left ≡ Some bytes → IsTruthful start → Gave start now passed.given → passed.ended ≡ now.ended → HasBytes bytes passed
+pub has_bytes : (start now : InputState) (bytes : List ℕ) (passed : Traffic) → start.left ≡ Some bytes → IsTruthful start → Gave start now passed.given → passed.ended ≡ now.ended → HasBytes bytes passed
 has_bytes start now bytes passed told truthful gave found =
     by_left now.left (subst (λ (l : Option (List ℕ)). Consumes l now.left passed.given) told gave.consumed) (λ ended. gave.truthful truthful (sym found ∙ ended))
   where
@@ -103,7 +103,7 @@ has_bytes start now bytes passed told truthful gave found =
     by_left (Some left) consumed at_end = (left, consumed, at_end)
 
 -- the connection that began was the next one to come
-came_more : (old mid begun : Option (List (List ℕ))) (start now : Inward) (connections : List Traffic) (passed : Traffic) → Came old mid connections → Comes mid begun start.left
+came_more : (old mid begun : Option (List (List ℕ))) (start now : InputState) (connections : List Traffic) (passed : Traffic) → Came old mid connections → Comes mid begun start.left
     → IsTruthful start → Gave start now passed.given → passed.ended ≡ now.ended → Came old begun (connections ++ passed ∷ [])
 came_more None mid begun start now connections passed came comes truthful gave found = tt
 came_more (Some all) mid begun start now connections passed (came, rest, is, here, have) comes truthful gave found =
@@ -116,11 +116,11 @@ came_more (Some all) mid begun start now connections passed (came, rest, is, her
     )
 
 -- a connection that begins has found no end
-begins_truthful : (mid begun : LineState) → Next mid begun → IsTruthful begun.inward
+begins_truthful : (mid begun : StreamState) → Next mid begun → IsTruthful begun.inward
 begins_truthful mid begun n = λ ended. absurd (true≢false (sym ended ∙ ap (λ (t : Traffic). t.ended) n.nothing_passed))
 
 -- what passed is one connection more
-carried_more : (old mid begun new : LineState) (connections : List Traffic) (passed : Traffic) → carried mid ≡ carried old ++ connections → Next mid begun → new.port ≡ begun.port
+carried_more : (old mid begun new : StreamState) (connections : List Traffic) (passed : Traffic) → carried mid ≡ carried old ++ connections → Next mid begun → new.port ≡ begun.port
     → Gave begun.inward new.inward passed.given → passed.ended ≡ new.inward.ended → Took begun.taken new.taken passed.taken → carried new ≡ carried old ++ (connections ++ passed ∷ [])
 carried_more old mid begun new connections passed before n same gave found took =
     let given : new.inward.given ≡ passed.given = gave.behind ∙ ap (λ (t : Traffic). t.given ++ passed.given) n.nothing_passed in
@@ -135,24 +135,24 @@ came_none : (to_come : Option (List (List ℕ))) → Came to_come to_come []
 came_none None = tt
 came_none (Some all) = ([], all, refl, refl, tt)
 
--- ---- what `next` said
+-- ---- the result of `next`
 
-pub has_begun : (E : Type 0) (old new : LineState) (begun : Bool) → OnlyNext {E = E} old new (Ok begun) → begun ≡ true → Next old new
+pub has_begun : (E : Type 0) (old new : StreamState) (begun : Bool) → OnlyNext {E = E} old new (Ok begun) → begun ≡ true → Next old new
 has_begun E old new true n is = n
 has_begun E old new false n is = let no : ⊥ = cc in absurd no
 
-pub has_ended : (E : Type 0) (old new : LineState) (begun : Bool) → OnlyNext {E = E} old new (Ok begun) → begun ≡ false → (new ≡ old) × (old.port.to_come ≡ Some [])
+pub has_ended : (E : Type 0) (old new : StreamState) (begun : Bool) → OnlyNext {E = E} old new (Ok begun) → begun ≡ false → (new ≡ old) × (old.port.to_come ≡ Some [])
 has_ended E old new true n is = let no : ⊥ = cc in absurd no
 has_ended E old new false n is = n
 
 -- ---- the loop over connections
 
 module _ {M W E : Type 0} (Step : M → Request → List ℕ → M → Option E → Type 0) (Keeps : List E → W → W → Type 0) where
-  -- So many connections were served, the last of which ended so.
-  pub record PortSoFar (count : ℕ) (last : Ended) (machine now : M) (old mid : LineState) (watchers watchers' : W) : Type 0 where
+  -- n connections were served, the last of which ended so.
+  pub record PortSoFar (count : ℕ) (last : CloseReason) (machine now : M) (old mid : StreamState) (watchers watchers' : W) : Type 0 where
     pub connections : List Traffic
     pub edits : List E
-    pub endings : List Ended
+    pub endings : List CloseReason
     pub many : length connections ≡ count
     pub came : Came old.port.to_come mid.port.to_come connections
     pub all_carried : carried mid ≡ carried old ++ connections
@@ -167,7 +167,7 @@ module _ {M W E : Type 0} (Step : M → Request → List ℕ → M → Option E 
     pub same_aside : mid.aside ≡ old.aside
     pub same_peer : mid.peer ≡ old.peer
 
-  pub no_connection : (machine : M) (port : LineState) (watchers : W) → Keeps [] watchers watchers → PortSoFar 0 Closed machine machine port port watchers watchers
+  pub no_connection : (machine : M) (port : StreamState) (watchers : W) → Keeps [] watchers watchers → PortSoFar 0 Closed machine machine port port watchers watchers
   no_connection machine port watchers none = record {
     connections = [];
     edits = [];
@@ -188,8 +188,8 @@ module _ {M W E : Type 0} (Step : M → Request → List ℕ → M → Option E 
   }
 
   pub one_connection : (more : (xs ys : List E) (a b c : W) → Keeps xs a b → Keeps ys b c → Keeps (xs ++ ys) a c)
-      (count : ℕ) (last ended : Ended) (machine now next : M) (old mid begun new : LineState) (a b c : W)
-      → PortSoFar count last machine now old mid a b → Next mid begun → ServesLine Step Keeps ended now next begun new b c → PortSoFar (count + 1) ended machine next old new a c
+      (count : ℕ) (last ended : CloseReason) (machine now next : M) (old mid begun new : StreamState) (a b c : W)
+      → PortSoFar count last machine now old mid a b → Next mid begun → ServesStream Step Keeps ended now next begun new b c → PortSoFar (count + 1) ended machine next old new a c
   one_connection more count last ended machine now next old mid begun new a b c s n v =
       let x = v.exchanges in
       let same_port = x.same_port in
@@ -215,12 +215,12 @@ module _ {M W E : Type 0} (Step : M → Request → List ℕ → M → Option E 
         same_peer = x.same_peer ∙ n.same_peer ∙ s.same_peer;
       }
 
-  module _ (most count : ℕ) (last : Ended) (machine now : M) (old mid : LineState) (a b : W) (s : PortSoFar count last machine now old mid a b) where
-    -- all that were wanted
-    abbrev served : Stop → Served
+  module _ (most count : ℕ) (last : CloseReason) (machine now : M) (old mid : StreamState) (a b : W) (s : PortSoFar count last machine now old mid a b) where
+    -- all wanted ones were served
+    abbrev served : StopReason → ServeSummary
     served stop = record { connections = count; last = last; stop = stop }
 
-    stopped : (stop : Stop) → Stops stop most count old mid → ServesPort Step Keeps most (served stop) machine now old mid a b
+    stopped : (stop : StopReason) → Stops stop most count old mid → ServesPort Step Keeps most (served stop) machine now old mid a b
     stopped stop stops = record {
       connections = s.connections;
       edits = s.edits;
@@ -240,12 +240,12 @@ module _ {M W E : Type 0} (Step : M → Request → List ℕ → M → Option E 
     pub all_served : count ≡ most → ServesPort Step Keeps most (served Count) machine now old mid a b
     all_served all = stopped Count (all, s.same_faults)
 
-    -- none was to come
-    pub none_to_come : (new : LineState) → count < most → (new ≡ mid) × (mid.port.to_come ≡ Some []) → ServesPort Step Keeps most (served NoMore) machine now old new a b
-    none_to_come new few (same, none) = subst (λ (l : LineState). ServesPort Step Keeps most (served NoMore) machine now old l a b) (sym same) (stopped NoMore (few, none, s.same_faults))
+    -- no more were to come
+    pub none_to_come : (new : StreamState) → count < most → (new ≡ mid) × (mid.port.to_come ≡ Some []) → ServesPort Step Keeps most (served NoMore) machine now old new a b
+    none_to_come new few (same, none) = subst (λ (l : StreamState). ServesPort Step Keeps most (served NoMore) machine now old l a b) (sym same) (stopped NoMore (few, none, s.same_faults))
 
-    -- the next one didn't begin
-    pub next_failed : (new : LineState) → count < most → NextFailed mid new → ServesPort Step Keeps most (served PortFailed) machine now old new a b
+    -- accepting the next one failed
+    pub next_failed : (new : StreamState) → count < most → NextFailed mid new → ServesPort Step Keeps most (served PortFailed) machine now old new a b
     next_failed new few f = record {
       connections = s.connections;
       edits = s.edits;
@@ -259,7 +259,7 @@ module _ {M W E : Type 0} (Step : M → Request → List ℕ → M → Option E 
         write_bound = subst (RoseBy (write_failures s.endings) old.write_faults) (sym f.same_write_faults) s.write_bound;
       };
       last = s.ended;
-      stop = (few, subst (λ (n : ℕ). Rose n new.port.faults) s.same_faults f.rose);
+      stop = (few, subst (λ (n : ℕ). CountRises n new.port.faults) s.same_faults f.rose);
       kept = s.kept;
       same_listening = f.same_listening ∙ s.same_listening;
       same_holds = f.same_holds ∙ s.same_holds;

@@ -1,7 +1,7 @@
--- How many requests a machine takes.
+-- How many requests a machine can answer.
 use Rattle.std.proofs.Common.{◌≡◌, ℕ, zero, suc, ◌+◌, ◌-◌, ◌*◌, ◌<◌, ◌≤◌, refl, subst, arith}
 
--- M is the type of the machine's states, and what takes so many takes fewer.
+-- M is the type of the machine's states, and what can answer n + 1 requests can answer n.
 module _ {M : Type 0} (Takes : M → ℕ → Type 0) (fewer : (machine : M) (n : ℕ) → Takes machine (suc n) → Takes machine n) where
   -- by any number
   by_some : (machine : M) (k n : ℕ) → Takes machine (k + n) → Takes machine n
@@ -13,11 +13,11 @@ module _ {M : Type 0} (Takes : M → ℕ → Type 0) (fewer : (machine : M) (n :
       let is : most ≡ (most - n) + n = omega (arith, le) in
       by_some machine (most - n) n (subst (λ (k : ℕ). Takes machine k) is h)
 
-  -- none was answered yet
+  -- none is answered yet
   pub none_answered : (old : M) (before : ℕ) → before ≡ 0 → (n : ℕ) → Takes old (n + 1000) → Takes old (n + (1000 - before))
   none_answered old before is n h = let e : n + 1000 ≡ n + (1000 - before) = omega (arith, is) in subst (λ (k : ℕ). Takes old k) e h
 
-  -- One more request of a connection was answered, of at most `MAX_REQUESTS`, of which so many were answered before.
+  -- One more request of a connection was answered, of at most `MAX_REQUESTS`.
   pub one_answered : (old now next : M) (before after : ℕ) → before < 1000 → after ≡ before + 1 → ((n : ℕ) → Takes old (n + 1000) → Takes now (n + (1000 - before)))
       → ((n : ℕ) → Takes now (suc n) → Takes next n) → (n : ℕ) → Takes old (n + 1000) → Takes next (n + (1000 - after))
   one_answered old now next before after below is so_far one n h =
@@ -30,7 +30,7 @@ module _ {M : Type 0} (Takes : M → ℕ → Type 0) (fewer : (machine : M) (n :
   last_answered old now next before below so_far one n h =
       takes_less next n (n + (1000 - (before + 1))) (omega arith) (one_answered old now next before (before + 1) below refl so_far one n h)
 
-  -- there is room for one more
+  -- one more can be answered
   pub room_for_one : (old now : M) (before : ℕ) → before < 1000 → Takes old 1000 → ((n : ℕ) → Takes old (n + 1000) → Takes now (n + (1000 - before))) → Takes now 1
   room_for_one old now before below room so_far = takes_less now 1 (0 + (1000 - before)) (omega (arith, below)) (so_far 0 room)
 
@@ -38,7 +38,7 @@ module _ {M : Type 0} (Takes : M → ℕ → Type 0) (fewer : (machine : M) (n :
   pub room_at_first : (machine : M) (count : ℕ) → Takes machine (count * 1000) → Takes machine ((count - 0) * 1000)
   room_at_first machine count h = let e : count * 1000 ≡ (count - 0) * 1000 = omega arith in subst (λ (k : ℕ). Takes machine k) e h
 
-  -- one connection more of so many
+  -- one more connection
   pub room_for_line : (now : M) (count before : ℕ) → before < count → Takes now ((count - before) * 1000) → Takes now 1000
   room_for_line now count before below h = takes_less now 1000 ((count - before) * 1000) (omega (arith, below)) h
 

@@ -1,15 +1,15 @@
--- A machine that stands for another: where each step of the one is a step of the other on states that belong together, so
--- is what either does on connections.
+-- Simulation: where each step of one machine is a step of the other on related states, so is what
+-- either does on connections.
 use Rattle.std.proofs.Common.{◌≡◌, ℕ, ◌+◌, inl, inr, Bool, List, [], ◌∷◌, length, Option, refl, sym, subst}
-use Rattle.xcap_io.specs.Causes.{LineState}
+use Rattle.xcap_io.specs.Causes.{StreamState}
 use Rattle.xcap_io.specs.Histories.{Traffic}
 use Rattle.http_wire.specs.declared.request.Request.{Request}
 use Rattle.http_wire.specs.Items.{Item, asks, bad, too_long, coded}
 use Rattle.http_wire.specs.Serving.{Closes, no_more, last_item, no_memory, EndsBy, GoesOn, Run, Serves, ServesEach, AnswersItem as Answers}
-use Rattle.http_wire.specs.declared.ended.Ended.TheVariants.{Closed, ReadFailed, WriteFailed}
-use Rattle.http_wire.specs.declared.ended.Ended.{Ended}
-use Rattle.http_serve.specs.declared.port.Served.{Served}
-use Rattle.http_serve.specs.Connections.{ServesLine}
+use Rattle.http_wire.specs.declared.close_reason.CloseReason.TheVariants.{Closed, ReadFailed, WriteFailed}
+use Rattle.http_wire.specs.declared.close_reason.CloseReason.{CloseReason}
+use Rattle.http_serve.specs.declared.accept_loop.ServeSummary.{ServeSummary}
+use Rattle.http_serve.specs.Connections.{ServesStream}
 use Rattle.http_serve.specs.Fixed.{fixed}
 use Rattle.http_serve.specs.Ports.{ServesPort}
 
@@ -42,7 +42,7 @@ module _ {S M E : Type 0} (Steps : S → Request → List ℕ → S → Option E
   goes_on before s s' m bytes reply rest edit stands g =
       let one = step s s' m g.request reply edit stands g.step in (one.0, one.1, record { request = g.request; asked = g.asked; stays = g.stays; step = one.2 })
 
-  ends : (ending : Ended) (before : ℕ) (s s' : S) (m : M) (bytes : List ℕ) (ended : Bool) (written : List ℕ) (edit : Option E) → Stands s m → EndsBy Steps fixed ending before s bytes ended written s' edit → (m' : M) × Stands s' m' × EndsBy Step fixed ending before m bytes ended written m' edit
+  ends : (ending : CloseReason) (before : ℕ) (s s' : S) (m : M) (bytes : List ℕ) (ended : Bool) (written : List ℕ) (edit : Option E) → Stands s m → EndsBy Steps fixed ending before s bytes ended written s' edit → (m' : M) × Stands s' m' × EndsBy Step fixed ending before m bytes ended written m' edit
   ends Closed before s s' m bytes ended written edit stands e = closes before s s' m bytes ended written edit stands e
   ends ReadFailed before s s' m bytes ended written edit stands e = (m, stays s s' m stands e.2, (e.0, e.1, refl, e.3))
   ends WriteFailed before s s' m bytes ended written edit stands (reply, n, cut, wrote, inl e) =
@@ -51,7 +51,7 @@ module _ {S M E : Type 0} (Steps : S → Request → List ℕ → S → Option E
       let g = goes_on before s s' m bytes reply rest edit stands e in (g.0, g.1, (reply, n, cut, wrote, inr (rest, g.2)))
 
   -- one connection
-  pub serves : (ending : Ended) (s s' : S) (m : M) (passed : Traffic) (edits : List E) → Stands s m → Serves Steps fixed ending s passed s' edits
+  pub serves : (ending : CloseReason) (s s' : S) (m : M) (passed : Traffic) (edits : List E) → Stands s m → Serves Steps fixed ending s passed s' edits
       → (m' : M) × Stands s' m' × Serves Step fixed ending m passed m' edits
   serves ending s s' m passed edits stands v =
       let r = runs 0 v.requests s v.mid m passed.given v.replies v.behind v.early stands v.run in
@@ -59,7 +59,7 @@ module _ {S M E : Type 0} (Steps : S → Request → List ℕ → S → Option E
       (e.0, e.1, record { requests = v.requests; replies = v.replies; early = v.early; mid = r.0; behind = v.behind; last = v.last; edit = v.edit; run = r.2; ends = e.2; wrote = v.wrote; all_told = v.all_told })
 
   -- connections, one after the other
-  pub serves_each : (connections : List Traffic) (s s' : S) (m : M) (endings : List Ended) (edits : List E) → Stands s m → ServesEach Steps fixed s connections endings s' edits
+  pub serves_each : (connections : List Traffic) (s s' : S) (m : M) (endings : List CloseReason) (edits : List E) → Stands s m → ServesEach Steps fixed s connections endings s' edits
       → (m' : M) × Stands s' m' × ServesEach Step fixed m connections endings m' edits
   serves_each [] s s' m endings edits stands v = (m, stays s s' m stands v.1, (v.0, refl, v.2))
   serves_each (passed ∷ connections) s s' m endings edits stands (ending, others, mid, first, later, all_endings, all_told, one, rest) =
@@ -71,8 +71,8 @@ module _ {S M W E : Type 0} (Steps : S → Request → List ℕ → S → Option
     (step : (s s' : S) (m : M) (request : Request) (reply : List ℕ) (edit : Option E) → Stands s m → Steps s request reply s' edit → (m' : M) × Stands s' m' × Step m request reply m' edit)
     (Keeps : List E → W → W → Type 0) where
   -- a connection
-  pub line_by : (ended : Ended) (s s' : S) (m : M) (old new : LineState) (watchers watchers' : W) → Stands s m → ServesLine Steps Keeps ended s s' old new watchers watchers'
-      → (m' : M) × Stands s' m' × ServesLine Step Keeps ended m m' old new watchers watchers'
+  pub line_by : (ended : CloseReason) (s s' : S) (m : M) (old new : StreamState) (watchers watchers' : W) → Stands s m → ServesStream Steps Keeps ended s s' old new watchers watchers'
+      → (m' : M) × Stands s' m' × ServesStream Step Keeps ended m m' old new watchers watchers'
   line_by ended s s' m old new watchers watchers' stands v =
       let o = serves Steps Step fixed Stands step ended s s' m v.passed v.edits stands v.serves in (
         o.0,
@@ -91,7 +91,7 @@ module _ {S M W E : Type 0} (Steps : S → Request → List ℕ → S → Option
       )
 
   -- the connections of a port
-  pub port_by : (most : ℕ) (served : Served) (s s' : S) (m : M) (old new : LineState) (watchers watchers' : W) → Stands s m → ServesPort Steps Keeps most served s s' old new watchers watchers'
+  pub port_by : (most : ℕ) (served : ServeSummary) (s s' : S) (m : M) (old new : StreamState) (watchers watchers' : W) → Stands s m → ServesPort Steps Keeps most served s s' old new watchers watchers'
       → (m' : M) × Stands s' m' × ServesPort Step Keeps most served m m' old new watchers watchers'
   port_by most served s s' m old new watchers watchers' stands v =
       let e = serves_each Steps Step fixed Stands step v.connections s s' m v.serves.endings v.edits stands v.serves.each in (

@@ -2,17 +2,17 @@
 use Rattle.std.specs.Prelude.{◌≡◌, ℕ, List, Option}
 use Rattle.http_wire.specs.declared.request.Request.{Request}
 use Rattle.http_wire.specs.Serving.{Serves}
-use Rattle.xcap_io.specs.Causes.{LineState}
+use Rattle.xcap_io.specs.Causes.{StreamState}
 use Rattle.xcap_io.specs.Histories.{Traffic}
-use Rattle.xcap_io.specs.Passing.{Gave, Took}
-use Rattle.http_wire.specs.declared.ended.Ended.{Ended}
+use Rattle.xcap_io.specs.StreamTraffic.{Gave, Took}
+use Rattle.http_wire.specs.declared.close_reason.CloseReason.{CloseReason}
 use Rattle.http_serve.specs.Endings.{KeepsTheRest, FaultsBy}
 use Rattle.http_serve.specs.Fixed.{fixed}
 
--- A connection was served: this passed over the line, the bytes that its reads gave, whether the last of them found the end, and
--- the bytes that its writes handed over; and these changes were told to the watchers, in order. `Keeps` says what watchers are
--- after such changes.
-pub record ServesLine {M W E : Type 0} (Step : M → Request → List ℕ → M → Option E → Type 0) (Keeps : List E → W → W → Type 0) (ended : Ended) (machine next : M) (old new : LineState) (watchers watchers' : W) : Type 0 where
+-- A connection was served: the bytes that its reads gave, whether the last read found the end, and
+-- the bytes that its writes handed over are this traffic; and these edits were reported to the
+-- watchers, in order. `Keeps` relates watchers before and after such edits.
+pub record ServesStream {M W E : Type 0} (Step : M → Request → List ℕ → M → Option E → Type 0) (Keeps : List E → W → W → Type 0) (ended : CloseReason) (machine next : M) (old new : StreamState) (watchers watchers' : W) : Type 0 where
   pub passed : Traffic
   pub edits : List E
   pub gave : Gave old.inward new.inward passed.given

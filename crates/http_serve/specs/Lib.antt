@@ -3,5 +3,5 @@ pub mod Endings
 pub mod Fixed
 pub mod Ports
 pub mod Reading
-pub mod Written
+pub mod ReplyBytes
 pub mod inner

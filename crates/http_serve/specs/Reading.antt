@@ -3,7 +3,7 @@ use Rattle.std.specs.Prelude.{ℕ, List}
 use Rattle.http_wire.specs.declared.request.Request.{Request}
 use Rattle.http_wire.specs.Items.{AsksFor}
 
--- the request stands at the front of the bytes of a connection, behind those of so many requests
+-- the request is at the front of a connection's bytes, after the bytes of some earlier requests
 pub record IsRead (request : Request) : Type 0 where
   pub before : ℕ
   pub bytes : List ℕ

@@ -1,17 +1,20 @@
-//! Connections, served by any machine that answers requests: one connection to its end, and those of a port one after the other.
-//! Upward: what is written on each connection, the machine's state afterwards and what watchers were told are those of the
-//! machine run on the requests in the connections' bytes; a connection or a port fails only with its count.
-//! The standard is HTTP/1.1 by RFC 9112.
+//! Serves connections with any `Machine` that answers requests: one connection to its end
+//! (`serve_stream`), and the connections of a port one after the other (`serve_streams`). Upward:
+//! the bytes written on each connection, the machine's state afterwards and the edits that
+//! watchers were notified of are what the machine's steps give for the requests in the
+//! connections' bytes (`ServesStream`, `ServesPort`); a connection or a port fails only if its
+//! fault counter rose. The standard is HTTP/1.1 by RFC 9112.
+//! What watchers are notified of is any type (`Machine::Edit`), so connections know no documents.
 #![tactic(auto)]
 
-mod buffers;
+mod accept_loop;
 mod connection;
+mod connection_buffers;
 mod machine;
-mod port;
 
-pub use buffers::Buffers;
-pub use connection::serve_line;
-pub use http_wire::Ended;
-pub use machine::{Answered, Machine};
-pub use port::{Served, Stop, serve_lines};
+pub use accept_loop::{ServeSummary, StopReason, serve_streams};
+pub use connection::serve_stream;
+pub use connection_buffers::ConnectionBuffers;
+pub use http_wire::CloseReason;
+pub use machine::{Machine, MachineReply};
 pub use std::alloc::AllocError as NoMemory;

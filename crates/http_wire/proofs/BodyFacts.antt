@@ -1,19 +1,19 @@
--- What a reading of the bytes behind a head says of them.
+-- What decoding the bytes after a head says about them.
 use Rattle.std.proofs.Common.{◌≡◌, ℕ, ◌<◌, ◌≤◌, ◌⊎◌, inl, inr, true, false, List, [], ◌++◌, length, refl, sym, ap, subst, ◌∙◌, arith, append_assoc}
 use Rattle.std.proofs.lemmas.Bool.{cases_lt}
 use Rattle.httparse.specs.Ascii.{crlf_bytes}
-use Rattle.http_wire.specs.declared.chunks.Stage.{Stage}
-use Rattle.http_wire.specs.declared.chunks.Stage.TheVariants.{Size, Blank, Extension, SizeEnd, Data, DataEnd, Trailers, Trailer, TrailerEnd, LastEnd, Done, Bad, TooLong}
+use Rattle.http_wire.specs.declared.chunk_decoder.ChunkState.{ChunkState}
+use Rattle.http_wire.specs.declared.chunk_decoder.ChunkState.TheVariants.{Size, Blank, Extension, SizeEnd, Data, DataEnd, Trailers, Trailer, TrailerEnd, LastEnd, Done, Bad, TooLong}
 use Rattle.http_wire.specs.Chunked.{print_line, print_chunks, print_trailers, ChunkedBody, print_body, ReadsBody, MayBecomeBody, PassesLimit, chunk_data as joined}
 use Rattle.http_wire.specs.inner.Decoding.{Decoding, decoding, start, is_settled, ReadsOn, Fits}
-use Rattle.http_wire.specs.inner.Inflow.{HasBody, HasNoBodyYet}
+use Rattle.http_wire.specs.inner.ReadBuffer.{HasBody, HasNoBodyYet}
 use Rattle.http_wire.proofs.Steps.{reads_in_limits}
 use Rattle.http_wire.proofs.BodyForms.{Stands}
 use Rattle.http_wire.proofs.BodyReached.{start_in_limits, reached, may_become}
 use Rattle.http_wire.proofs.BodyRuns.{reads_body, reads_to_limit, settles_once, not_settled_before}
 
--- a front of the bytes is read up to that place
-pub record Settles (stage : Stage) (bytes : List ℕ) : Type 0 where
+-- a front of the bytes is read up to that state
+pub record Settles (stage : ChunkState) (bytes : List ℕ) : Type 0 where
   pub front : List ℕ
   pub back : List ℕ
   pub last : List ℕ
@@ -58,7 +58,7 @@ body_settles bytes c rest reads = elim (cases_lt 262_144 (length (joined c.chunk
   | inr short ↦ inl (short_settles bytes c rest reads short)
 ]
 
--- while the reading isn't settled there is no body, and the limit isn't passed
+-- while the state isn't settled there is no body, and the limit isn't passed
 pub no_body_yet : (raw : List ℕ) (d : Decoding) → ReadsOn start raw d → is_settled d.stage ≡ false → HasNoBodyYet raw
 no_body_yet raw d reads going =
     let not_done = λ (s : Settles Done raw). not_settled_before start s.front s.back raw (decoding Done s.last) d s.reads reads s.split refl going in
@@ -67,13 +67,13 @@ no_body_yet raw d reads going =
       λ passes. not_long (limit_settles raw passes),
     )
 
--- a reading that is settled elsewhere never meets one
-stage_once : (s : Stage) (raw more : List ℕ) (d : Decoding) → ReadsOn start raw d → is_settled d.stage ≡ true → is_settled s ≡ true → Settles s (raw ++ more) → d.stage ≡ s
+-- a decoding that settles elsewhere never meets one
+stage_once : (s : ChunkState) (raw more : List ℕ) (d : Decoding) → ReadsOn start raw d → is_settled d.stage ≡ true → is_settled s ≡ true → Settles s (raw ++ more) → d.stage ≡ s
 stage_once s raw more d reads settled ends at =
     let same = settles_once start raw at.front more at.back d (decoding s at.last) reads at.reads at.split settled ends in
     ap (λ (x : Decoding). x.stage) same.0
 
--- where no chunked body goes on so, none ever comes
+-- where no chunked body continues like this, none ever comes
 pub no_body_ever : (raw more : List ℕ) (d : Decoding) → ReadsOn start raw d → d.stage ≡ Bad → HasNoBodyYet (raw ++ more)
 no_body_ever raw more d reads bad =
     let settled : is_settled d.stage ≡ true = ap is_settled bad in
@@ -89,11 +89,11 @@ no_body_ever raw more d reads bad =
     bad_not_long : Bad ≡ TooLong → ⊥
     bad_not_long same = cc
 
--- a reading that is done read a whole body
+-- a decoding that is done read a complete body
 pub whole_body : (raw rest : List ℕ) (d : Decoding) → ReadsOn start raw d → d.stage ≡ Done → HasBody (raw ++ rest) d.body rest
 whole_body raw rest d reads done =
-    let at : Stands Done d.body raw = subst (λ (s : Stage). Stands s d.body raw) done (reached raw d reads) in
-    let fits : Fits Done (length d.body) = subst (λ (s : Stage). Fits s (length d.body)) done (reads_in_limits start raw d start_in_limits reads) in
+    let at : Stands Done d.body raw = subst (λ (s : ChunkState). Stands s d.body raw) done (reached raw d reads) in
+    let fits : Fits Done (length d.body) = subst (λ (s : ChunkState). Fits s (length d.body)) done (reads_in_limits start raw d start_in_limits reads) in
     record {
       whole = at.whole;
       reads = (at.is, ap (λ (l : List ℕ). l ++ rest) at.reads);
@@ -103,7 +103,7 @@ whole_body raw rest d reads done =
 
 pub passes_limit : (raw rest : List ℕ) (d : Decoding) → ReadsOn start raw d → d.stage ≡ TooLong → PassesLimit (raw ++ rest)
 passes_limit raw rest d reads long =
-    let at : PassesLimit raw = subst (λ (s : Stage). Stands s d.body raw) long (reached raw d reads) in
+    let at : PassesLimit raw = subst (λ (s : ChunkState). Stands s d.body raw) long (reached raw d reads) in
     record {
       chunks = at.chunks;
       line = at.line;
@@ -117,8 +117,8 @@ passes_limit raw rest d reads long =
 pub goes_on : (raw : List ℕ) (d : Decoding) → ReadsOn start raw d → is_settled d.stage ≡ false → MayBecomeBody raw × HasNoBodyYet raw
 goes_on raw d reads going = (may_become d.stage d.body raw going (reached raw d reads), no_body_yet raw d reads going)
 
--- a place that is settled is one of three
-pub other_is_bad : (s : Stage) → is_settled s ≡ true → ¬ (s ≡ Done) → ¬ (s ≡ TooLong) → s ≡ Bad
+-- a settled state is one of three
+pub other_is_bad : (s : ChunkState) → is_settled s ≡ true → ¬ (s ≡ Done) → ¬ (s ≡ TooLong) → s ≡ Bad
 other_is_bad (Size digits value) settled a b = absurd (let no : ⊥ = cc in no)
 other_is_bad (Blank value len) settled a b = absurd (let no : ⊥ = cc in no)
 other_is_bad (Extension value len) settled a b = absurd (let no : ⊥ = cc in no)

@@ -1,4 +1,4 @@
--- What bytes that were read stand for, at each place where the reading of a chunked body may stand.
+-- What bytes that were read mean, at each state of the chunked decoder.
 use Rattle.std.proofs.Common.{◌≡◌, ℕ, ◌+◌, ◌-◌, ◌*◌, ◌<◌, ◌≤◌, min, Bool, true, List, [], ◌∷◌, ◌++◌, length, IsTrue, Option, None, Some, refl, sym, ap, subst, ◌∙◌, arith, length-append, append_assoc}
 use Rattle.std.proofs.lemmas.Bool.{and_from, and_parts}
 use Rattle.std.proofs.lemmas.List.{append-nil}
@@ -10,22 +10,22 @@ use Rattle.std.specs.Str.Parse.{digits_value, digits_value_after}
 use Rattle.std.specs.Prelude.{unwrap_or}
 use Rattle.httparse.specs.Ascii.{line_feed, carriage_return, semicolon, crlf_bytes}
 use Rattle.httparse.specs.Grammar.{ChunkLine, print_extension, chunk_size, is_ows, is_value_byte}
-use Rattle.http_wire.specs.declared.chunks.Stage.{Stage}
-use Rattle.http_wire.specs.declared.chunks.Stage.TheVariants.{Size, Blank, Extension, SizeEnd, Data, DataEnd, Trailers, Trailer, TrailerEnd, LastEnd, Done, Bad, TooLong}
+use Rattle.http_wire.specs.declared.chunk_decoder.ChunkState.{ChunkState}
+use Rattle.http_wire.specs.declared.chunk_decoder.ChunkState.TheVariants.{Size, Blank, Extension, SizeEnd, Data, DataEnd, Trailers, Trailer, TrailerEnd, LastEnd, Done, Bad, TooLong}
 use Rattle.http_wire.specs.Chunked.{line_text, print_line, IsLine, Chunk, print_chunk, IsChunk, print_chunks, IsTrailer, print_trailer, print_trailers, ChunkedBody, print_body, IsBody, PassesLimit, chunk_data as joined}
 
--- the bytes are whole chunks, which give the body, and then the tail
+-- the bytes are complete chunks, which give the body, and then the tail
 pub record Behind (body raw tail : List ℕ) : Type 0 where
   pub chunks : List Chunk
   pub are : AllByRecursion IsChunk chunks
   pub gives : joined chunks ≡ body
   pub reads : raw ≡ print_chunks chunks ++ tail
 
--- a number that is kept as one beyond the limit where it is beyond it
+-- a number that is recorded as the limit plus 1 where it is beyond it
 abbrev pub capped : ℕ → ℕ
 capped n = min n 262_145
 
--- digits alone
+-- only digits
 pub record InDigits (count value : ℕ) (body raw : List ℕ) : Type 0 where
   pub digits : List ℕ
   pub behind : Behind body raw digits
@@ -34,7 +34,7 @@ pub record InDigits (count value : ℕ) (body raw : List ℕ) : Type 0 where
   pub are : IsTrue (list_all (λ b. is_digit b 16) digits)
   pub value_is : value ≡ capped (digits_value 16 digits)
 
--- a chunk line up to its line end, or to some place behind its digits
+-- a chunk line up to its line end, or to some place after its digits
 pub record InLine (extension : Option (List ℕ)) (value len : ℕ) (tail body raw : List ℕ) : Type 0 where
   pub line : ChunkLine
   pub behind : Behind body raw (line_text line ++ tail)
@@ -43,7 +43,7 @@ pub record InLine (extension : Option (List ℕ)) (value len : ℕ) (tail body r
   pub many : len ≡ length (line_text line)
   pub value_is : value ≡ capped (chunk_size line)
 
--- a chunk of which so many bytes are due
+-- a chunk of which n bytes are missing
 pub record InData (left : ℕ) (body raw : List ℕ) : Type 0 where
   pub chunks : List Chunk
   pub line : ChunkLine
@@ -55,7 +55,7 @@ pub record InData (left : ℕ) (body raw : List ℕ) : Type 0 where
   pub some : 0 < chunk_size line
   pub reads : raw ≡ print_chunks chunks ++ (print_line line ++ got)
 
--- a whole chunk but for its line feed
+-- a complete chunk except its line feed
 pub record AtDataEnd (body raw : List ℕ) : Type 0 where
   pub chunks : List Chunk
   pub chunk : Chunk
@@ -75,14 +75,14 @@ pub record InTrailers (trailers : List (List ℕ)) (tail body raw : List ℕ) : 
   pub gives : joined chunks ≡ body
   pub reads : raw ≡ print_chunks chunks ++ (print_line last ++ (print_trailers trailers ++ tail))
 
--- a whole body but for its line feed, or whole
+-- a complete body, or one except its line feed
 pub record IsWhole (body raw : List ℕ) : Type 0 where
   pub whole : ChunkedBody
   pub is : IsBody whole
   pub gives : joined whole.chunks ≡ body
   pub reads : raw ≡ print_body whole
 
-abbrev pub Stands : Stage → List ℕ → List ℕ → Type 0
+abbrev pub Stands : ChunkState → List ℕ → List ℕ → Type 0
 Stands (Size count value) body raw = InDigits count value body raw
 Stands (Blank value len) body raw = InLine None value len [] body raw
 Stands (Extension value len) body raw = (text : List ℕ) × InLine (Some text) value len [] body raw
@@ -153,7 +153,7 @@ digits_line count value body raw at some =
       value_is = at.value_is;
     }
 
--- a blank more
+-- one more blank
 blank_text : (l : ChunkLine) (b : ℕ) → l.extension ≡ None → (line_text l ++ []) ++ b ∷ [] ≡ line_text (record { digits = l.digits; pad = l.pad ++ b ∷ []; extension = None }) ++ []
 blank_text l b none =
     let no_text : print_extension l.extension ≡ [] = ap print_extension none in
@@ -181,7 +181,7 @@ more_blanks value len b body raw at short is =
       value_is = at.value_is;
     }
 
--- the mark of an extension, or a byte more of it
+-- the mark of an extension, or one more byte of it
 extension_texts : (l : ChunkLine) (b : ℕ) (text : List ℕ) → l.extension ≡ Some text → (line_text l ++ []) ++ b ∷ [] ≡ line_text (record { digits = l.digits; pad = l.pad; extension = Some (text ++ b ∷ []) }) ++ []
 extension_texts l b text some =
     let texts : print_extension l.extension ≡ semicolon ∷ text = ap print_extension some in
@@ -327,7 +327,7 @@ to_next_chunk body raw at =
       value_is = refl;
     }
 
--- one byte more of a trailer line, or of its end
+-- one more byte of a trailer line, or of its end
 pub trailers_more : (trailers : List (List ℕ)) (tail body raw : List ℕ) (b : ℕ) → InTrailers trailers tail body raw → InTrailers trailers (tail ++ b ∷ []) body (raw ++ b ∷ [])
 trailers_more trailers tail body raw b at = record {
   chunks = at.chunks;

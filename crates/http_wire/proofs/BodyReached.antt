@@ -1,4 +1,5 @@
--- Each place where the reading of a chunked body stands was reached by such bytes, and from each some bytes end the body.
+-- Each state of the decoder was reached by bytes of the stated form, and from each unsettled one
+-- some bytes end the body.
 use Rattle.std.proofs.Common.{◌≡◌, ◌≢◌, ℕ, ◌+◌, ◌≤◌, Bool, true, false, not, ◌==◌, List, [], ◌∷◌, ◌++◌, length, replicate, if◌then◌else◌, IsTrue, Option, None, Some, refl, sym, ap, subst, ◌∙◌, arith, length-append, append_assoc, inl, inr}
 use Rattle.std.proofs.lemmas.Bool.{and_from, eqb-true, eqb-false, cases_eq}
 use Rattle.std.proofs.lemmas.List.{append-nil, length-replicate, nil_from_length}
@@ -6,15 +7,15 @@ use Rattle.std.proofs.lemmas.List.Concat.{flat_map-append}
 use Rattle.std.specs.List.{list_all, AllByRecursion}
 use Rattle.httparse.specs.Ascii.{line_feed, carriage_return, crlf_bytes}
 use Rattle.httparse.specs.Grammar.{ChunkLine, chunk_size}
-use Rattle.http_wire.specs.declared.chunks.Stage.{Stage}
-use Rattle.http_wire.specs.declared.chunks.Stage.TheVariants.{Size, Blank, Extension, SizeEnd, Data, DataEnd, Trailers, Trailer, TrailerEnd, LastEnd, Done, Bad, TooLong}
+use Rattle.http_wire.specs.declared.chunk_decoder.ChunkState.{ChunkState}
+use Rattle.http_wire.specs.declared.chunk_decoder.ChunkState.TheVariants.{Size, Blank, Extension, SizeEnd, Data, DataEnd, Trailers, Trailer, TrailerEnd, LastEnd, Done, Bad, TooLong}
 use Rattle.http_wire.specs.Chunked.{line_text, print_line, IsLine, Chunk, print_chunk, IsChunk, print_chunks, is_trailer_byte, IsTrailer, print_trailer, print_trailers, ChunkedBody, print_body, IsBody, MayBecomeBody}
 use Rattle.http_wire.specs.inner.Decoding.{Decoding, start, is_settled, is_data, after_digits, next_stage, next_decoding, ReadsOn, Fits}
 use Rattle.http_wire.proofs.Steps.{by_after_digits, by_in_digits, by_in_extension, by_after_line, by_in_trailers, by_if_feed, by_data, IsInLimits, next_in_limits}
 use Rattle.http_wire.proofs.BodyForms.{InDigits, InLine, InData, AtDataEnd, InTrailers, IsWhole, Stands, more_digits, digits_line, more_blanks, more_extension, mark, line_end, to_trailers, to_data, to_limit, more_data, to_data_end, to_next_chunk, trailers_more, print_trailers-push, trailer_done, to_last_end, list_all-push, all-push}
 
--- the body behind one more byte
-abbrev body_next : Stage → List ℕ → ℕ → List ℕ
+-- the body after one more byte
+abbrev body_next : ChunkState → List ℕ → ℕ → List ℕ
 body_next s body b = if is_data s then body ++ b ∷ [] else body
 
 digits_stand : (value len b : ℕ) (body raw : List ℕ) → InLine None value len [] body raw → Stands (after_digits value len b) body (raw ++ b ∷ [])
@@ -36,7 +37,7 @@ data_stands left b body raw at false is =
     let ne : left ≢ 0 = eqb-false left 0 is in
     by_data (λ s. Stands s (body ++ b ∷ []) (raw ++ b ∷ [])) left (length body) b (λ none _. absurd (ne none)) (λ none. absurd (ne none)) (λ some. more_data left b body raw at some)
 
-pub stands_next : (s : Stage) (body raw : List ℕ) (b : ℕ) → Fits s (length body) → is_settled s ≡ false → Stands s body raw → Stands (next_stage s (length body) b) (body_next s body b) (raw ++ b ∷ [])
+pub stands_next : (s : ChunkState) (body raw : List ℕ) (b : ℕ) → Fits s (length body) → is_settled s ≡ false → Stands s body raw → Stands (next_stage s (length body) b) (body_next s body b) (raw ++ b ∷ [])
 stands_next (Size count value) body raw b fits going at =
     by_in_digits (λ s. Stands s body (raw ++ b ∷ [])) count value b
     (λ few is. more_digits count value b body raw at few is)
@@ -107,11 +108,11 @@ is_zero_line : IsLine zero_line × (chunk_size zero_line ≡ 0)
 unfolding zero_line
 is_zero_line = (record { some = omega arith; few = omega arith; digits = refl; pad = refl; extension = refl; short = omega arith }, refl)
 
--- bytes that go on to a whole body
+-- bytes that continue to a complete body
 pub becomes_body : (raw more : List ℕ) (c : ChunkedBody) → IsBody c → raw ++ more ≡ print_body c → MayBecomeBody raw
 becomes_body raw more c is same = (more, c, (is, same ∙ sym (append-nil (print_body c))))
 
--- bytes that go on to whole chunks
+-- bytes that continue to complete chunks
 becomes_chunks : (raw more : List ℕ) (chunks : List Chunk) → AllByRecursion IsChunk chunks → raw ++ more ≡ print_chunks chunks → MayBecomeBody raw
 becomes_chunks raw more chunks are same =
     let c : ChunkedBody = record { chunks = chunks; last = zero_line; trailers = [] } in
@@ -123,7 +124,7 @@ becomes_chunks raw more chunks are same =
 print_chunks-push : (chunks : List Chunk) (c : Chunk) → print_chunks (chunks ++ c ∷ []) ≡ print_chunks chunks ++ print_chunk c
 print_chunks-push chunks c = flat_map-append print_chunk chunks (c ∷ []) ∙ ap (λ (l : List ℕ). print_chunks chunks ++ l) (append-nil (print_chunk c))
 
--- bytes that go on to whole chunks and one more chunk line
+-- bytes that continue to complete chunks and one more chunk line
 pub becomes_line : (raw more : List ℕ) (chunks : List Chunk) (line : ChunkLine) → AllByRecursion IsChunk chunks → IsLine line → raw ++ more ≡ print_chunks chunks ++ print_line line → MayBecomeBody raw
 becomes_line raw more chunks line are is same = elim (cases_eq (chunk_size line) 0) [
   | inl none ↦ (
@@ -153,7 +154,7 @@ trailers_become trailers all tail more body raw at are short ends =
     (ap (λ (l : List ℕ). l ++ more) at.reads ∙ (simp append_assoc) ∙ ap (λ (l : List ℕ). print_chunks at.chunks ++ (print_line at.last ++ l)) ends)
 
 -- where it isn't settled, some bytes end the body
-pub may_become : (s : Stage) (body raw : List ℕ) → is_settled s ≡ false → Stands s body raw → MayBecomeBody raw
+pub may_become : (s : ChunkState) (body raw : List ℕ) → is_settled s ≡ false → Stands s body raw → MayBecomeBody raw
 may_become (Size count value) body raw going at = elim (cases_eq count 0) [
   | inl none ↦ (
       let empty : at.digits ≡ [] = nil_from_length at.digits (at.many ∙ none) in

@@ -1,4 +1,5 @@
--- Bytes that are a chunked body are read to its end, and those that pass the limit are read up to there.
+-- The bytes of a chunked body are read to its end, and bytes that pass the limit are read up to
+-- there.
 use Rattle.std.proofs.Common.{◌≡◌, ◌≢◌, ℕ, ◌+◌, ◌-◌, ◌*◌, ◌<◌, ◌≤◌, inl, inr, min, Bool, true, false, ◌==◌, ◌||◌, nat_lt, nat_le, List, [], ◌∷◌, ◌++◌, length, if◌then◌else◌, Option, None, Some, refl, sym, ap, subst, ◌∙◌, arith, length-append, append_assoc, zero-add}
 use Rattle.std.proofs.lemmas.Bool.{and_parts, or_cases, or_parts, not-true, eqb-true, ne_eqb, lt-ltb, lt-leb, le-leb, cases_lt, both_ways}
 use Rattle.std.proofs.lemmas.List.{append-nil}
@@ -8,28 +9,28 @@ use Rattle.std.specs.Str.Parse.{digits_value_after}
 use Rattle.std.specs.Prelude.{unwrap_or}
 use Rattle.httparse.specs.Ascii.{line_feed, carriage_return, semicolon, crlf_bytes}
 use Rattle.httparse.specs.Grammar.{ChunkLine, print_extension, chunk_size, is_ows, is_value_byte}
-use Rattle.http_wire.specs.declared.chunks.Stage.{Stage}
-use Rattle.http_wire.specs.declared.chunks.Stage.TheVariants.{Size, Blank, Extension, SizeEnd, Data, Trailers, Trailer, TrailerEnd, LastEnd, Done, Bad, TooLong}
+use Rattle.http_wire.specs.declared.chunk_decoder.ChunkState.{ChunkState}
+use Rattle.http_wire.specs.declared.chunk_decoder.ChunkState.TheVariants.{Size, Blank, Extension, SizeEnd, Data, Trailers, Trailer, TrailerEnd, LastEnd, Done, Bad, TooLong}
 use Rattle.http_wire.specs.Chunked.{line_text, print_line, IsLine, Chunk, print_chunk, IsChunk, print_chunks, is_trailer_byte, IsTrailer, print_trailer, print_trailers, ChunkedBody, print_body, IsBody, chunk_data as joined}
 use Rattle.http_wire.specs.inner.Decoding.{Decoding, decoding, start, is_settled, is_data, after_digits, after_line, in_trailers, next_stage, next_decoding, ReadsOn}
 use Rattle.http_wire.proofs.Steps.{same_decoding, reads_on, reads_data}
 
--- one byte, from a place that is not settled
+-- one byte, from a state that is not settled
 step : (d : Decoding) (b : ℕ) (bytes : List ℕ) (next new : Decoding) → is_settled d.stage ≡ false → next_decoding d b ≡ next → ReadsOn next bytes new → ReadsOn d (b ∷ bytes) new
 step d b bytes next new going is reads = (going, subst (λ (x : Decoding). ReadsOn x bytes new) (sym is) reads)
 
--- the same, where the byte changes only the place
-move : (s t : Stage) (body : List ℕ) (b : ℕ) (bytes : List ℕ) (new : Decoding) → is_settled s ≡ false → is_data s ≡ false → next_stage s (length body) b ≡ t → ReadsOn (decoding t body) bytes new → ReadsOn (decoding s body) (b ∷ bytes) new
+-- one byte that changes only the state
+move : (s t : ChunkState) (body : List ℕ) (b : ℕ) (bytes : List ℕ) (new : Decoding) → is_settled s ≡ false → is_data s ≡ false → next_stage s (length body) b ≡ t → ReadsOn (decoding t body) bytes new → ReadsOn (decoding s body) (b ∷ bytes) new
 move s t body b bytes new going other is reads =
     step (decoding s body) b bytes (decoding t body) new going
     (same_decoding (next_stage s (length body) b) t (if is_data s then body ++ b ∷ [] else body) body is (ap (λ x. if x then body ++ b ∷ [] else body) other))
     reads
 
--- a byte that passes a test which a carriage return fails is none
+-- a byte that passes a test which a carriage return fails is no carriage return
 no_return : (p : ℕ → Bool) (b : ℕ) → p carriage_return ≡ false → p b ≡ true → (b == carriage_return) ≡ false
 no_return p b fails is = ne_eqb b carriage_return (λ same. both_ways (p carriage_return) fails (subst (λ (c : ℕ). p c ≡ true) same is))
 
--- digits, behind others
+-- digits, after others
 one_digit : (count w b : ℕ) (decoded : ℕ) → count < 16 → is_digit b 16 ≡ true → next_stage (Size count (min w 262_145)) decoded b ≡ Size (count + 1) (min (w * 16 + digit_value b) 262_145)
 one_digit count w b decoded few is =
     let v : ℕ = min w 262_145 in
@@ -52,20 +53,20 @@ reads_digits count w body (d ∷ ds) few are =
     (one_digit count w d (length body) (omega arith) parts.0)
     (subst (λ (n : ℕ). ReadsOn (decoding (Size (count + 1) (min (w * 16 + digit_value d) 262_145)) body) ds (decoding (Size n (min (digits_value_after 16 w (d ∷ ds)) 262_145)) body)) counted rest)
 
--- the line end of a chunk line, behind an extension
+-- the line end of a chunk line, after an extension
 reads_extension : (value len : ℕ) (body text : List ℕ) → len + length text ≤ 254 → list_all is_value_byte text ≡ true → ReadsOn (decoding (Extension value len) body) (text ++ crlf_bytes) (decoding (after_line value (length body) line_feed) body)
 reads_extension value len body [] short are = (refl, (refl, refl))
 reads_extension value len body (b ∷ text) short are =
     let parts = and_parts (is_value_byte b) (list_all is_value_byte text) are in
-    let inner : Stage = if is_value_byte b then Extension value (len + 1) else Bad in
+    let inner : ChunkState = if is_value_byte b then Extension value (len + 1) else Bad in
     move (Extension value len) (Extension value (len + 1)) body b (text ++ crlf_bytes) (decoding (after_line value (length body) line_feed) body) refl refl
     (ap (λ t. if t then SizeEnd value else (if nat_le 254 len then Bad else inner)) (no_return is_value_byte b refl parts.0)
     ∙ ap (λ t. if t then Bad else inner) (lt-leb 254 len (omega arith))
     ∙ ap (λ t. if t then Extension value (len + 1) else Bad) parts.0)
     (reads_extension value (len + 1) body text (omega arith) parts.1)
 
--- a byte that goes on behind the digits is read alike behind digits and behind blanks
-abbrev LikeBlank : Stage → ℕ → ℕ → ℕ → Type 0
+-- a byte that continues after the digits is read alike after digits and after blanks
+abbrev LikeBlank : ChunkState → ℕ → ℕ → ℕ → Type 0
 LikeBlank s value len decoded = (b : ℕ) → is_digit b 16 ≡ false → next_stage s decoded b ≡ after_digits value len b
 
 size_like_blank : (count value decoded : ℕ) → 0 < count → LikeBlank (Size count value) value count decoded
@@ -80,8 +81,8 @@ blank_no_digit b is = elim (or_cases (b == 32) (b == 9) is) [
   | inr tab ↦ ap (λ (c : ℕ). is_digit c 16) (eqb-true b 9 tab)
 ]
 
--- the rest of a chunk line behind its digits
-reads_tail : (s : Stage) (value len : ℕ) (body pad : List ℕ) (extension : Option (List ℕ)) → is_settled s ≡ false → is_data s ≡ false → LikeBlank s value len (length body) → len + length (pad ++ print_extension extension) ≤ 254 → list_all is_ows pad ≡ true → list_all is_value_byte (unwrap_or extension []) ≡ true
+-- the rest of a chunk line after its digits
+reads_tail : (s : ChunkState) (value len : ℕ) (body pad : List ℕ) (extension : Option (List ℕ)) → is_settled s ≡ false → is_data s ≡ false → LikeBlank s value len (length body) → len + length (pad ++ print_extension extension) ≤ 254 → list_all is_ows pad ≡ true → list_all is_value_byte (unwrap_or extension []) ≡ true
     → ReadsOn (decoding s body) ((pad ++ print_extension extension) ++ crlf_bytes) (decoding (after_line value (length body) line_feed) body)
 reads_tail s value len body [] None going other like short pads texts =
     move s (SizeEnd value) body carriage_return (line_feed ∷ []) (decoding (after_line value (length body) line_feed) body) going other (like carriage_return refl) (refl, refl)
@@ -91,8 +92,8 @@ reads_tail s value len body [] (Some text) going other like short pads texts =
     move s (Extension value (len + 1)) body semicolon (text ++ crlf_bytes) (decoding (after_line value (length body) line_feed) body) going other marked (reads_extension value (len + 1) body text (omega arith) texts)
 reads_tail s value len body (b ∷ pad) extension going other like short pads texts =
     let parts = and_parts (is_ows b) (list_all is_ows pad) pads in
-    let last : Stage = if b == semicolon then Extension value (len + 1) else Bad in
-    let inner : Stage = if is_ows b then Blank value (len + 1) else last in
+    let last : ChunkState = if b == semicolon then Extension value (len + 1) else Bad in
+    let inner : ChunkState = if is_ows b then Blank value (len + 1) else last in
     let blank : next_stage s (length body) b ≡ Blank value (len + 1) =
     like b (blank_no_digit b parts.0)
     ∙ ap (λ t. if t then SizeEnd value else (if nat_le 254 len then Bad else inner)) (no_return is_ows b refl parts.0)
@@ -101,7 +102,7 @@ reads_tail s value len body (b ∷ pad) extension going other like short pads te
     move s (Blank value (len + 1)) body b ((pad ++ print_extension extension) ++ crlf_bytes) (decoding (after_line value (length body) line_feed) body) going other blank
     (reads_tail (Blank value (len + 1)) value (len + 1) body pad extension refl refl (λ c _. refl) (omega arith) parts.1 texts)
 
--- a whole chunk line
+-- a complete chunk line
 pub reads_line : (line : ChunkLine) (body : List ℕ) → IsLine line → ReadsOn (decoding (Size 0 0) body) (print_line line) (decoding (after_line (min (chunk_size line) 262_145) (length body) line_feed) body)
 reads_line line body is =
     let rest : List ℕ = line.pad ++ print_extension line.extension in
@@ -139,7 +140,7 @@ reads_chunk : (c : Chunk) (body : List ℕ) → IsChunk c → length body + leng
 reads_chunk c body is fits =
     let n : ℕ = length c.bytes in
     let to : after_line (min (chunk_size c.line) 262_145) (length body) line_feed ≡ Data n = ap (λ (k : ℕ). after_line (min k 262_145) (length body) line_feed) is.sized ∙ to_data n (length body) is.some fits in
-    let line : ReadsOn (decoding (Size 0 0) body) (print_line c.line) (decoding (Data n) body) = subst (λ (s : Stage). ReadsOn (decoding (Size 0 0) body) (print_line c.line) (decoding s body)) to (reads_line c.line body is.line) in
+    let line : ReadsOn (decoding (Size 0 0) body) (print_line c.line) (decoding (Data n) body) = subst (λ (s : ChunkState). ReadsOn (decoding (Size 0 0) body) (print_line c.line) (decoding s body)) to (reads_line c.line body is.line) in
     let all : n - n ≡ 0 = omega arith in
     let bytes : ReadsOn (decoding (Data n) body) c.bytes (decoding (Data 0) (body ++ c.bytes)) = subst (λ (k : ℕ). ReadsOn (decoding (Data n) body) c.bytes (decoding (Data k) (body ++ c.bytes))) all (reads_data n body c.bytes (omega arith)) in
     reads_on (decoding (Size 0 0) body) (decoding (Data n) body) (decoding (Size 0 0) (body ++ c.bytes)) (print_line c.line) (c.bytes ++ crlf_bytes) line
@@ -155,10 +156,10 @@ reads_chunks (c ∷ chunks) body are fits =
     (subst (λ (l : List ℕ). ReadsOn (decoding (Size 0 0) (body ++ c.bytes)) (print_chunks chunks) (decoding (Size 0 0) l)) (append_assoc body c.bytes (joined chunks)) rest)
 
 -- a trailer line within the limit
-trailer_moves : (used b : ℕ) (end : Stage) → is_trailer_byte b ≡ true → used + 3 ≤ 16_384 → in_trailers used b end ≡ Trailer (used + 1)
+trailer_moves : (used b : ℕ) (end : ChunkState) → is_trailer_byte b ≡ true → used + 3 ≤ 16_384 → in_trailers used b end ≡ Trailer (used + 1)
 trailer_moves used b end is room =
     let tests = or_parts (b == carriage_return) (b == line_feed) (not-true (b == carriage_return || b == line_feed) is) in
-    let longer : Stage = if nat_le (used + 3) 16_384 then Trailer (used + 1) else Bad in
+    let longer : ChunkState = if nat_le (used + 3) 16_384 then Trailer (used + 1) else Bad in
     ap (λ t. if t then end else (if b == line_feed then Bad else longer)) tests.0
     ∙ ap (λ t. if t then Bad else longer) tests.1
     ∙ ap (λ t. if t then Trailer (used + 1) else Bad) (le-leb (used + 3) 16_384 room)
@@ -196,13 +197,13 @@ reads_trailers used body (text ∷ trailers) are room =
     (reads_whole_trailer used body text are.0 (omega (arith, long, short)))
     (subst (λ (n : ℕ). ReadsOn (decoding (Trailers used') body) (print_trailers trailers) (decoding (Trailers n) body)) counted (reads_trailers used' body trailers are.1 (omega (arith, long, short))))
 
--- a whole body within the limit is read to its end
+-- a complete body within the limit is read to its end
 pub reads_body : (c : ChunkedBody) → IsBody c → length (joined c.chunks) ≤ 262_144 → ReadsOn start (print_body c) (decoding Done (joined c.chunks))
 reads_body c is short =
     let body : List ℕ = joined c.chunks in
     let used : ℕ = length (print_trailers c.trailers) in
     let last : ReadsOn (decoding (Size 0 0) body) (print_line c.last) (decoding (Trailers 0) body) =
-    subst (λ (s : Stage). ReadsOn (decoding (Size 0 0) body) (print_line c.last) (decoding s body)) (to_trailers (chunk_size c.last) (length body) is.ends) (reads_line c.last body is.last) in
+    subst (λ (s : ChunkState). ReadsOn (decoding (Size 0 0) body) (print_line c.last) (decoding s body)) (to_trailers (chunk_size c.last) (length body) is.ends) (reads_line c.last body is.last) in
     let trailers : ReadsOn (decoding (Trailers 0) body) (print_trailers c.trailers) (decoding (Trailers used) body) =
     subst (λ (n : ℕ). ReadsOn (decoding (Trailers 0) body) (print_trailers c.trailers) (decoding (Trailers n) body)) (zero-add used) (reads_trailers 0 body c.trailers is.trailers (omega (arith, is.short))) in
     reads_on start (decoding (Size 0 0) body) (decoding Done body) (print_chunks c.chunks) (print_line c.last ++ (print_trailers c.trailers ++ crlf_bytes)) (reads_chunks c.chunks [] is.chunks (omega arith))
@@ -217,7 +218,7 @@ reads_to_limit [] line body are is room over = (
   [],
   body,
   sym (append-nil (print_line line)),
-  subst (λ (s : Stage). ReadsOn (decoding (Size 0 0) body) (print_line line) (decoding s body)) (to_limit (chunk_size line) (length body) room (omega arith)) (reads_line line body is),
+  subst (λ (s : ChunkState). ReadsOn (decoding (Size 0 0) body) (print_line line) (decoding s body)) (to_limit (chunk_size line) (length body) room (omega arith)) (reads_line line body is),
 )
 reads_to_limit (c ∷ chunks) line body are is room over = elim (cases_lt 262_144 (length body + length c.bytes)) [
   | inl beyond ↦ (
@@ -227,7 +228,7 @@ reads_to_limit (c ∷ chunks) line body are is room over = elim (cases_lt 262_14
         back,
         body,
         append_assoc (print_chunk c) (print_chunks chunks) (print_line line) ∙ append_assoc (print_line c.line) (c.bytes ++ crlf_bytes) (print_chunks chunks ++ print_line line),
-        subst (λ (s : Stage). ReadsOn (decoding (Size 0 0) body) (print_line c.line) (decoding s body)) there (reads_line c.line body are.0.line),
+        subst (λ (s : ChunkState). ReadsOn (decoding (Size 0 0) body) (print_line c.line) (decoding s body)) there (reads_line c.line body are.0.line),
       )
       )
   | inr fits ↦ (
@@ -243,9 +244,9 @@ reads_to_limit (c ∷ chunks) line body are is room over = elim (cases_lt 262_14
       )
 ]
 
--- Where a reading ends is determined by the bytes.
+-- Where a decoding ends is determined by the bytes.
 
--- of two readings of bytes that go on alike, one goes no further where it is settled
+-- of two decodings of bytes that begin alike, one that is settled goes no further
 pub settles_once : (d : Decoding) (front other rest more : List ℕ) (x y : Decoding) → ReadsOn d front x → ReadsOn d other y → front ++ rest ≡ other ++ more → is_settled x.stage ≡ true → is_settled y.stage ≡ true → (x ≡ y) × (front ≡ other) × (rest ≡ more)
 settles_once d [] [] rest more x y p q same u v = (p ∙ sym q, refl, same)
 settles_once d [] (c ∷ other) rest more x y p q same u v = absurd (both_ways (is_settled d.stage) q.0 (subst (λ (z : Decoding). is_settled z.stage ≡ true) p u))
@@ -256,7 +257,7 @@ settles_once d (b ∷ front) (c ∷ other) rest more x y p q same u v =
     let next = settles_once (next_decoding d b) front other rest more x y p.1 (subst (λ (k : ℕ). ReadsOn (next_decoding d k) other y) (sym heads) q.1) tails u v in
     (next.0, (let e : front ≡ other = next.1 in cc), next.2)
 
--- a reading that isn't settled read no bytes on which another one is
+-- a decoding that isn't settled read no bytes on which another one is settled
 pub not_settled_before : (d : Decoding) (front rest bytes : List ℕ) (x y : Decoding) → ReadsOn d front x → ReadsOn d bytes y → bytes ≡ front ++ rest → is_settled x.stage ≡ true → is_settled y.stage ≡ false → ⊥
 not_settled_before d [] rest [] x y p q same u v = both_ways (is_settled d.stage) (subst (λ (z : Decoding). is_settled z.stage ≡ false) q v) (subst (λ (z : Decoding). is_settled z.stage ≡ true) p u)
 not_settled_before d [] rest (c ∷ bytes) x y p q same u v = both_ways (is_settled d.stage) q.0 (subst (λ (z : Decoding). is_settled z.stage ≡ true) p u)

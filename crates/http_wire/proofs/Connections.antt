@@ -1,4 +1,4 @@
--- How the answers of a wire, one after the other, serve a connection.
+-- How the results of a request reader, one after the other, serve a connection.
 use Rattle.std.proofs.Common.{◌≡◌, ℕ, ◌+◌, false, List, [], ◌∷◌, ◌++◌, length, Option, refl, sym, ap, subst, ◌∙◌, arith, append_assoc}
 use Rattle.std.proofs.lemmas.List.{append-nil}
 use Rattle.std.specs.Prelude.{option_to_list as told}
@@ -10,11 +10,11 @@ use Rattle.http_wire.proofs.WholeItems.{asks-append}
 -- Requests, one after the other.
 
 module _ {M E : Type 0} (Step : M → Request → List ℕ → M → Option E → Type 0) (fixed : ℕ → List ℕ) where
-  -- none yet
+  -- no requests yet
   pub run_none : (before : ℕ) (machine : M) (bytes : List ℕ) → Run Step fixed before machine bytes [] [] [] machine bytes
   run_none before machine bytes = (refl, refl, refl, refl)
 
-  -- one request more
+  -- one more request
   pub run_more : (before : ℕ) (machine mid next : M) (bytes behind rest written reply : List ℕ) (requests : List Request) (edits : List E) (request : Request) (edit : Option E)
       → Run Step fixed before machine bytes requests written edits mid behind → AsksFor (before + length requests) behind request rest → request.closes ≡ false → Step mid request reply next edit
       → Run Step fixed before machine bytes (requests ++ request ∷ []) (written ++ reply) (edits ++ told edit) next rest
@@ -49,7 +49,7 @@ module _ {M E : Type 0} (Step : M → Request → List ℕ → M → Option E �
         run_more (before + 1) m mid next b behind rest more reply requests later request edit run (subst (λ (n : ℕ). AsksFor n behind request rest) here asked) stays step,
       )
 
-  -- the same requests stand first however the bytes go on
+  -- the requests are the first ones however the bytes go on
   pub run-append : (before : ℕ) (machine next : M) (bytes more rest written : List ℕ) (requests : List Request) (edits : List E) → Run Step fixed before machine bytes requests written edits next rest → Run Step fixed before machine (bytes ++ more) requests written edits next (rest ++ more)
   run-append before machine next bytes more rest written [] edits run = (run.0, run.1, run.2, ap (λ (l : List ℕ). l ++ more) run.3)
   run-append before machine next bytes more rest written (r ∷ requests) edits (b, w, m, e, others, later, first, kept, stepped, wrote, told_first, run) = (

@@ -1,12 +1,13 @@
--- What was served by the bytes given is served by all bytes of the connection, where these are known.
+-- What was served by the bytes given is served by all bytes of the connection, where these are
+-- known.
 use Rattle.std.proofs.Common.{◌≡◌, ℕ, ◌⊎◌, inl, inr, Bool, true, List, [], ◌∷◌, ◌++◌, length, Option, refl, sym, ap, subst, ◌∙◌}
 use Rattle.std.proofs.lemmas.List.{append-nil}
 use Rattle.xcap_io.specs.Histories.{Traffic}
 use Rattle.http_wire.specs.declared.request.Request.{Request}
 use Rattle.http_wire.specs.Items.{Item, FirstItem, IsFirst}
 use Rattle.http_wire.specs.Serving.{Closes, no_more, last_item, no_memory, GoesOn, HasBytes, HaveBytes, Run, Serves, ServesEach, counted, counted_each}
-use Rattle.http_wire.specs.declared.ended.Ended.{Ended}
-use Rattle.http_wire.specs.declared.ended.Ended.TheVariants.{Closed, ReadFailed, WriteFailed}
+use Rattle.http_wire.specs.declared.close_reason.CloseReason.{CloseReason}
+use Rattle.http_wire.specs.declared.close_reason.CloseReason.TheVariants.{Closed, ReadFailed, WriteFailed}
 use Rattle.http_wire.proofs.Connections.{run-append}
 use Rattle.http_wire.proofs.WholeItems.{asks-append}
 
@@ -57,7 +58,7 @@ module _ {M E : Type 0} (Step : M → Request → List ℕ → M → Option E �
   either_on before machine next given left reply ended edit none (inr (rest, goes)) = inr (rest ++ left, goes_on before machine next given left reply rest edit goes)
 
   -- one connection
-  pub counts : (ending : Ended) (machine next : M) (edits : List E) (bytes : List ℕ) (passed : Traffic) → HasBytes bytes passed
+  pub counts : (ending : CloseReason) (machine next : M) (edits : List E) (bytes : List ℕ) (passed : Traffic) → HasBytes bytes passed
       → Serves Step fixed ending machine passed next edits → Serves Step fixed ending machine (counted ending bytes passed) next edits
   counts Closed machine next edits bytes passed (left, is, none) s = record {
     requests = s.requests;
@@ -90,12 +91,12 @@ module _ {M E : Type 0} (Step : M → Request → List ℕ → M → Option E �
   }
 
   -- one connection after the other
-  pub counts_each : (machine next : M) (edits : List E) (all : List (List ℕ)) (connections : List Traffic) (endings : List Ended) → HaveBytes all connections
+  pub counts_each : (machine next : M) (edits : List E) (all : List (List ℕ)) (connections : List Traffic) (endings : List CloseReason) → HaveBytes all connections
       → ServesEach Step fixed machine connections endings next edits → ServesEach Step fixed machine (counted_each connections all endings) endings next edits
   counts_each machine next edits all [] endings have s = s
   counts_each machine next edits [] (passed ∷ connections) endings have s = absurd have
   counts_each machine next edits (bytes ∷ all) (passed ∷ connections) endings have (ending, others, mid, first, later, are, all_told, serves, rest) =
-      subst (λ (l : List Ended). ServesEach Step fixed machine (counted_each (passed ∷ connections) (bytes ∷ all) l) l next edits) (sym are) (
+      subst (λ (l : List CloseReason). ServesEach Step fixed machine (counted_each (passed ∷ connections) (bytes ∷ all) l) l next edits) (sym are) (
         ending,
         others,
         mid,

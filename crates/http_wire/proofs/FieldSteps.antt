@@ -1,4 +1,4 @@
--- The fields of a head, one more at a time, and a number that digits write, one more at a time.
+-- The fields of a head, one more at a time, and the digits of a number, one more at a time.
 use Rattle.std.proofs.Common.{◌≡◌, ℕ, ◌+◌, ◌-◌, ◌*◌, ◌<◌, min, Bool, true, false, ◌||◌, if◌then◌else◌, List, [], ◌∷◌, ◌++◌, length, get_or, take, drop, map, take-append-drop, refl, sym, ap, ◌∙◌, arith}
 use Rattle.std.proofs.lemmas.List.{take_more, map-append, append-nil}
 use Rattle.std.proofs.lemmas.Bool.{or_left}
@@ -9,9 +9,9 @@ use Rattle.std.specs.Int.{IsInRange}
 use Rattle.std.specs.Str.Parse.{digits_value, digits_value_after}
 use Rattle.httparse.specs.Spans.{header_bytes}
 use Rattle.httparse.specs.declared.spans.HeaderSpan.{HeaderSpan}
-use Rattle.http_wire.specs.Fields.{same_word, values_of}
+use Rattle.http_wire.specs.Fields.{same_ignoring_case, values_of}
 
--- one field more
+-- one more field
 pub fields_more : (buf : List ℕ) (headers : List HeaderSpan) (i : ℕ) (d : HeaderSpan) → i < length headers → map (header_bytes buf) (take (i + 1) headers) ≡ map (header_bytes buf) (take i headers) ++ header_bytes buf (get_or headers i d) ∷ []
 fields_more buf headers i d inside = ap (map (header_bytes buf)) (take_more headers i d inside) ∙ map-append (header_bytes buf) (take i headers) (get_or headers i d ∷ [])
 
@@ -19,29 +19,29 @@ fields_more buf headers i d inside = ap (map (header_bytes buf)) (take_more head
 abbrev pub value_if : Bool → List ℕ → List (List ℕ)
 value_if named value = if named then value ∷ [] else []
 
-values_of-push : (name : List ℕ) (fields : List (List ℕ × List ℕ)) (field : List ℕ × List ℕ) → values_of name (fields ++ field ∷ []) ≡ values_of name fields ++ value_if (same_word field.0 name) field.1
+values_of-push : (name : List ℕ) (fields : List (List ℕ × List ℕ)) (field : List ℕ × List ℕ) → values_of name (fields ++ field ∷ []) ≡ values_of name fields ++ value_if (same_ignoring_case field.0 name) field.1
 values_of-push name [] field = refl
-values_of-push name (first ∷ fields) field = on (same_word first.0 name) (values_of-push name fields field)
+values_of-push name (first ∷ fields) field = on (same_ignoring_case first.0 name) (values_of-push name fields field)
   where
-    on : (named : Bool) → values_of name (fields ++ field ∷ []) ≡ values_of name fields ++ value_if (same_word field.0 name) field.1
+    on : (named : Bool) → values_of name (fields ++ field ∷ []) ≡ values_of name fields ++ value_if (same_ignoring_case field.0 name) field.1
         → (if named then first.1 ∷ values_of name (fields ++ field ∷ []) else values_of name (fields ++ field ∷ []))
-        ≡ (if named then first.1 ∷ values_of name fields else values_of name fields) ++ value_if (same_word field.0 name) field.1
+        ≡ (if named then first.1 ∷ values_of name fields else values_of name fields) ++ value_if (same_ignoring_case field.0 name) field.1
     on true same = ap (λ (l : List (List ℕ)). first.1 ∷ l) same
     on false same = same
 
 values_of-append : (name : List ℕ) (xs ys : List (List ℕ × List ℕ)) → values_of name (xs ++ ys) ≡ values_of name xs ++ values_of name ys
 values_of-append name [] ys = refl
-values_of-append name (x ∷ xs) ys = on (same_word x.0 name) (values_of-append name xs ys)
+values_of-append name (x ∷ xs) ys = on (same_ignoring_case x.0 name) (values_of-append name xs ys)
   where
     on : (named : Bool) → values_of name (xs ++ ys) ≡ values_of name xs ++ values_of name ys → (if named then x.1 ∷ values_of name (xs ++ ys) else values_of name (xs ++ ys)) ≡ (if named then x.1 ∷ values_of name xs else values_of name xs) ++ values_of name ys
     on true same = ap (λ (l : List (List ℕ)). x.1 ∷ l) same
     on false same = same
 
 pub values_more : (buf name : List ℕ) (headers : List HeaderSpan) (i : ℕ) (d : HeaderSpan) → i < length headers
-    → values_of name (map (header_bytes buf) (take (i + 1) headers)) ≡ values_of name (map (header_bytes buf) (take i headers)) ++ value_if (same_word (header_bytes buf (get_or headers i d)).0 name) (header_bytes buf (get_or headers i d)).1
+    → values_of name (map (header_bytes buf) (take (i + 1) headers)) ≡ values_of name (map (header_bytes buf) (take i headers)) ++ value_if (same_ignoring_case (header_bytes buf (get_or headers i d)).0 name) (header_bytes buf (get_or headers i d)).1
 values_more buf name headers i d inside = ap (values_of name) (fields_more buf headers i d inside) ∙ values_of-push name (map (header_bytes buf) (take i headers)) (header_bytes buf (get_or headers i d))
 
--- the digits that were read, and one more, kept below a limit
+-- the digits read so far and one more, capped at a limit
 digits_value-push : (n : ℕ) (xs : List ℕ) (b : ℕ) → digits_value_after 10 n (xs ++ b ∷ []) ≡ digits_value_after 10 n xs * 10 + digit_value b
 digits_value-push n [] b = refl
 digits_value-push n (x ∷ xs) b = digits_value-push (n * 10 + digit_value x) xs b
@@ -63,16 +63,16 @@ list_any-append p (x ∷ xs) ys = on (p x) (list_any-append p xs ys)
     on false same = same
 
 -- a field that has the name, and one that has another
-pub value_named : (buf name : List ℕ) (headers : List HeaderSpan) (i : ℕ) (d : HeaderSpan) → i < length headers → same_word (header_bytes buf (get_or headers i d)).0 name ≡ true
+pub value_named : (buf name : List ℕ) (headers : List HeaderSpan) (i : ℕ) (d : HeaderSpan) → i < length headers → same_ignoring_case (header_bytes buf (get_or headers i d)).0 name ≡ true
     → values_of name (map (header_bytes buf) (take (i + 1) headers)) ≡ values_of name (map (header_bytes buf) (take i headers)) ++ (header_bytes buf (get_or headers i d)).1 ∷ []
 value_named buf name headers i d inside is = values_more buf name headers i d inside ∙ ap (λ (t : Bool). values_of name (map (header_bytes buf) (take i headers)) ++ value_if t (header_bytes buf (get_or headers i d)).1) is
 
-pub value_other : (buf name : List ℕ) (headers : List HeaderSpan) (i : ℕ) (d : HeaderSpan) → i < length headers → same_word (header_bytes buf (get_or headers i d)).0 name ≡ false
+pub value_other : (buf name : List ℕ) (headers : List HeaderSpan) (i : ℕ) (d : HeaderSpan) → i < length headers → same_ignoring_case (header_bytes buf (get_or headers i d)).0 name ≡ false
     → values_of name (map (header_bytes buf) (take (i + 1) headers)) ≡ values_of name (map (header_bytes buf) (take i headers))
 value_other buf name headers i d inside is = values_more buf name headers i d inside ∙ ap (λ (t : Bool). values_of name (map (header_bytes buf) (take i headers)) ++ value_if t (header_bytes buf (get_or headers i d)).1) is ∙ append-nil (values_of name (map (header_bytes buf) (take i headers)))
 
 -- whether one of the values passes a test, one field further
-pub any_named : (p : List ℕ → Bool) (buf name : List ℕ) (headers : List HeaderSpan) (i : ℕ) (d : HeaderSpan) → i < length headers → list_any p (values_of name (map (header_bytes buf) (take i headers))) ≡ false → same_word (header_bytes buf (get_or headers i d)).0 name ≡ true
+pub any_named : (p : List ℕ → Bool) (buf name : List ℕ) (headers : List HeaderSpan) (i : ℕ) (d : HeaderSpan) → i < length headers → list_any p (values_of name (map (header_bytes buf) (take i headers))) ≡ false → same_ignoring_case (header_bytes buf (get_or headers i d)).0 name ≡ true
     → list_any p (values_of name (map (header_bytes buf) (take (i + 1) headers))) ≡ p (header_bytes buf (get_or headers i d)).1
 any_named p buf name headers i d inside none is =
     let values : List (List ℕ) = values_of name (map (header_bytes buf) (take i headers)) in
@@ -83,11 +83,11 @@ any_named p buf name headers i d inside none is =
     or_false true = refl
     or_false false = refl
 
-pub any_other : (p : List ℕ → Bool) (buf name : List ℕ) (headers : List HeaderSpan) (i : ℕ) (d : HeaderSpan) → i < length headers → list_any p (values_of name (map (header_bytes buf) (take i headers))) ≡ false → same_word (header_bytes buf (get_or headers i d)).0 name ≡ false
+pub any_other : (p : List ℕ → Bool) (buf name : List ℕ) (headers : List HeaderSpan) (i : ℕ) (d : HeaderSpan) → i < length headers → list_any p (values_of name (map (header_bytes buf) (take i headers))) ≡ false → same_ignoring_case (header_bytes buf (get_or headers i d)).0 name ≡ false
     → list_any p (values_of name (map (header_bytes buf) (take (i + 1) headers))) ≡ false
 any_other p buf name headers i d inside none is = ap (list_any p) (value_other buf name headers i d inside is) ∙ none
 
--- one that passes among the first ones is one among all
+-- a value that passes among the first ones is among all
 pub any_from_front : (p : List ℕ → Bool) (buf name : List ℕ) (headers : List HeaderSpan) (n : ℕ) → list_any p (values_of name (map (header_bytes buf) (take n headers))) ≡ true → list_any p (values_of name (map (header_bytes buf) headers)) ≡ true
 any_from_front p buf name headers n is =
     let front : List (List ℕ × List ℕ) = map (header_bytes buf) (take n headers) in

@@ -1,4 +1,4 @@
--- What the parser's answers on the first bytes say of all bytes, and of those that follow.
+-- What the parser's results on the first bytes say of all bytes, and of bytes that follow.
 use Rattle.std.proofs.Common.{◌≡◌, ℕ, ◌-◌, ◌<◌, ◌≤◌, min, inl, inr, Bool, true, false, ◌||◌, ◌==◌, List, [], ◌∷◌, ◌++◌, length, take, drop, map, ap, sym, subst, ◌∙◌, refl, arith, length-append, length-drop, length-take, take-append-drop, append_assoc}
 use Rattle.std.proofs.lemmas.List.{length-take-le, take-append-le, take_at, append-nil, drop-append-le, drop_all, length-map}
 use Rattle.std.proofs.lemmas.List.Elements.{recursion_from_All}
@@ -13,10 +13,10 @@ use Rattle.httparse.specs.declared.spans.HeaderSpan.{HeaderSpan}
 use Rattle.httparse.specs.declared.spans.RequestSpans.{RequestSpans}
 use Rattle.httparse.proofs.GrammarLemmas.{ReadsRequest-append}
 use Rattle.http_wire.specs.Heads.{BeginsWithHead, HasNoHead}
-use Rattle.http_wire.specs.inner.Inflow.{NeverHasHead}
-use Rattle.http_wire.specs.inner.Inflow.{IsHeadAt}
+use Rattle.http_wire.specs.inner.ReadBuffer.{NeverHasHead}
+use Rattle.http_wire.specs.inner.ReadBuffer.{IsHeadAt}
 
--- what begins with a head does so however it goes on
+-- bytes that begin with a head do so whatever follows
 pub begins-append : (bytes more : List ℕ) (head : RequestHead) (rest : List ℕ) → BeginsWithHead bytes head rest → BeginsWithHead (bytes ++ more) head (rest ++ more)
 begins-append bytes more head rest begins = record {
   reads = ReadsRequest-append bytes head rest more begins.reads;
@@ -24,7 +24,7 @@ begins-append bytes more head rest begins = record {
   few = begins.few;
 }
 
--- a text that is no longer than the front lies in it
+-- a text that is no longer than the front is in it
 pub lies_in_front : (front behind text rest : List ℕ) → front ++ behind ≡ text ++ rest → length text ≤ length front → front ≡ text ++ take (length front - length text) rest
 lies_in_front front behind text rest same short =
     sym (take_at front behind (length front) refl)
@@ -32,7 +32,7 @@ lies_in_front front behind text rest same short =
     ∙ ap (λ (n : ℕ). take n (text ++ rest)) (omega arith)
     ∙ take-append-add text rest (length front - length text)
 
--- the first n bytes, those behind them, and more
+-- the first n bytes, those after them, and more
 split_at : (n : ℕ) (bytes more : List ℕ) → take n bytes ++ (drop n bytes ++ more) ≡ bytes ++ more
 split_at n bytes more = sym (append_assoc (take n bytes) (drop n bytes) more) ∙ ap (λ (l : List ℕ). l ++ more) (take-append-drop n bytes)
 
@@ -52,7 +52,7 @@ never_behind_error bytes n over more head rest begins =
     let many : 64 < length head.fields = over (drop n bytes ++ more) head rest (begins.reads.0, split_at n bytes more ∙ begins.reads.1) in
     absurd (omega (arith, many, begins.few))
 
--- spans that lie in the front cover the same bytes however these go on
+-- spans inside the front cover the same bytes whatever follows
 span_bytes-append : (front more : List ℕ) (s : Span) (n : ℕ) → IsWithin n s → n ≤ length front → span_bytes (front ++ more) s ≡ span_bytes front s
 span_bytes-append front more s n inside fits =
     ap (take (s.end - s.start)) (drop-append-le s.start front more (omega arith))
@@ -66,7 +66,7 @@ header_bytes-append front more (h ∷ headers) n inside fits =
     let rest = header_bytes-append front more headers n inside.1 fits in
     cc
 
--- the spans of a head cover its parts however the bytes go on
+-- the spans of a head cover its parts whatever follows
 pub head_at-append : (front more : List ℕ) (headers : List HeaderSpan) (spans : RequestSpans) (head : RequestHead) → IsHeadAt front headers spans head → IsHeadAt (front ++ more) headers spans head
 head_at-append front more headers spans head at =
     let fits : spans.len ≤ length front = at.within.section.len_fits in
@@ -93,7 +93,7 @@ head_at-append front more headers spans head at =
       };
     }
 
--- what the parser finds in the first n bytes, with room for `MAX_FIELDS` field lines
+-- what the parser finds in the first n bytes, with capacity for `MAX_FIELDS` field lines
 pub head_in_front : (bytes : List ℕ) (n : ℕ) (headers : List HeaderSpan) (spans : RequestSpans) → length headers ≡ 64 → length (take n bytes) ≤ 16_384 → IsRequestWithin (take n bytes) headers spans → IsRequestOf (take n bytes) headers spans → (head : RequestHead) × IsHeadAt bytes headers spans head
 head_in_front bytes n headers spans slots short inside (head, parts) =
     let front : List ℕ = take n bytes in
@@ -140,7 +140,7 @@ list_any-append p (x ∷ xs) ys = on (p x) (list_any-append p xs ys)
     on true same = refl
     on false same = same
 
--- where the first bytes are no head, and no line feed is among the others, there is none
+-- where the first bytes are no head, and no line feed is among the others, there is still none
 pub no_head_without_feed : (bytes : List ℕ) (seen : ℕ) → seen ≤ length bytes → HasNoHead (take seen bytes) → list_any (λ b. b == line_feed) (drop seen bytes) ≡ false → HasNoHead bytes
 no_head_without_feed bytes seen inside none no_feed head rest begins = elim (cases_lt seen (length (print_request head))) [
   | inl longer ↦ (
@@ -162,7 +162,7 @@ no_head_without_feed bytes seen inside none no_feed head rest begins = elim (cas
       )
 ]
 
--- the head at the front, without what follows it
+-- the head at the front, without the bytes after it
 pub head_at_front : (held : List ℕ) (headers : List HeaderSpan) (spans : RequestSpans) (head : RequestHead) → IsHeadAt held headers spans head → IsHeadAt (take spans.len held) headers spans head
 head_at_front held headers spans head at =
     let front : List ℕ = take spans.len held in
@@ -195,7 +195,7 @@ head_at_front held headers spans head at =
       };
     }
 
--- bytes that begin as those did
+-- bytes that begin with the earlier ones
 pub head_at_same : (held held' : List ℕ) (headers : List HeaderSpan) (spans : RequestSpans) (head : RequestHead) → IsHeadAt held headers spans head → take spans.len held' ≡ take spans.len held → IsHeadAt held' headers spans head
 head_at_same held held' headers spans head at same =
     subst (λ (l : List ℕ). IsHeadAt l headers spans head) (take-append-drop spans.len held')

@@ -3,15 +3,15 @@ use Rattle.std.proofs.Common.{◌≡◌, ℕ, ◌+◌, ◌<◌, ◌≤◌, inl, 
 use Rattle.std.proofs.lemmas.List.{append-nil, drop-drop, length-take-le}
 use Rattle.xcap_io.proofs.Lines.{counts_on, reads_on}
 use Rattle.xcap_io.proofs.Passing.{gave_none, gave_on}
-use Rattle.xcap_io.specs.Causes.{Inward, LineState, Reads, OnlyReads}
-use Rattle.xcap_io.specs.Passing.{Gave, IsEnded}
+use Rattle.xcap_io.specs.Causes.{InputState, StreamState, Reads, OnlyReads}
+use Rattle.xcap_io.specs.StreamTraffic.{Gave, IsEnded}
 use Rattle.httparse.specs.Grammar.{RequestHead}
 use Rattle.httparse.specs.Spans.{header_bytes, span_bytes, name_and_value}
 use Rattle.httparse.specs.declared.spans.HeaderSpan.{HeaderSpan}
 use Rattle.httparse.specs.declared.spans.RequestSpans.{RequestSpans}
 use Rattle.http_wire.specs.declared.framing.Framing.{Framing}
 use Rattle.http_wire.specs.declared.framing.Framing.TheVariants.{Bad as BadFields, Coded as OtherCoding, TooLong as LongBody, Length, Chunked}
-use Rattle.http_wire.specs.declared.decoding.Decoded.TheVariants.{Whole, TooLong as LongChunks, Bad as BadChunks, Cut}
+use Rattle.http_wire.specs.declared.body_decoder.DecodeResult.TheVariants.{Whole, TooLong as LongChunks, Bad as BadChunks, Cut}
 use Rattle.http_wire.specs.declared.request.Field.{Field}
 use Rattle.http_wire.specs.declared.request.Request.{Request}
 use Rattle.http_wire.specs.declared.request.Asked.{Asked}
@@ -21,15 +21,15 @@ use Rattle.http_wire.specs.Framing.{framing}
 use Rattle.http_wire.specs.Chunked.{print_line, print_chunks, HasNoBody, MayBecomeBody, PassesLimit}
 use Rattle.http_wire.specs.Items.{bad, too_long, coded, field_of, request_of, Opens, BehindHead, IsFramed, AsksFor, with_length, in_chunks, IsBad, bad_fields, body_cut, no_body, IsTooLong, long_body, long_chunks, IsUnfinished, lacks_body, lacks_chunks}
 use Rattle.http_wire.specs.Asking.{IsNext, IsAsked, Asks}
-use Rattle.http_wire.specs.inner.Inflow.{Gains, IsHeadAt, IsOpenAt, HasBody, HasNoBodyYet, Decodes}
+use Rattle.http_wire.specs.inner.ReadBuffer.{Gains, IsHeadAt, IsOpenAt, HasBody, HasNoBodyYet, Decodes}
 use Rattle.http_wire.proofs.Fronts.{begins-append, head_at-append}
 
 -- Reads, one after the other.
 
-pub gains_none : (held : List ℕ) (left : Inward) → Gains held held left left
+pub gains_none : (held : List ℕ) (left : InputState) → Gains held held left left
 gains_none held left = record { read = []; added = sym (append-nil held); given = gave_none left }
 
-pub gains_on : (a b c : List ℕ) (l m n : Inward) → Gains a b l m → Gains b c m n → Gains a c l n
+pub gains_on : (a b c : List ℕ) (l m n : InputState) → Gains a b l m → Gains b c m n → Gains a c l n
 gains_on a b c l m n first next = record {
   read = first.read ++ next.read;
   added = next.added ∙ ap (λ (s : List ℕ). s ++ next.read) first.added ∙ append_assoc a first.read next.read;
@@ -37,29 +37,29 @@ gains_on a b c l m n first next = record {
 }
 
 -- a read after reads that did not fail
-pub only_reads_on : {T E : Type 0} (old mid new : LineState) (result : Result T E) → Reads old mid → mid.read_faults ≡ old.read_faults → OnlyReads mid new result → OnlyReads old new result
+pub only_reads_on : {T E : Type 0} (old mid new : StreamState) (result : Result T E) → Reads old mid → mid.read_faults ≡ old.read_faults → OnlyReads mid new result → OnlyReads old new result
 only_reads_on old mid new result first stayed next = record {
   reads = reads_on old mid new first next.reads;
   counts = counts_on old.read_faults mid.read_faults new.read_faults result stayed next.counts;
 }
 
--- the same, where it failed, for whatever is answered otherwise
-pub failed_on : {T U E : Type 0} (old mid new : LineState) (e : E) → Reads old mid → mid.read_faults ≡ old.read_faults → OnlyReads {T = T} mid new (Err e) → OnlyReads {T = U} old new (Err e)
+-- a failed read after reads that did not fail, whatever other results would mean
+pub failed_on : {T U E : Type 0} (old mid new : StreamState) (e : E) → Reads old mid → mid.read_faults ≡ old.read_faults → OnlyReads {T = T} mid new (Err e) → OnlyReads {T = U} old new (Err e)
 failed_on {T} old mid new e first stayed next = record {
   reads = reads_on old mid new first next.reads;
   counts = counts_on {T = T} old.read_faults mid.read_faults new.read_faults (Err e) stayed next.counts;
 }
 
--- an answer by the bytes that are held
-pub asks_now : {E : Type 0} (before : ℕ) (held : List ℕ) (left : Inward) (asked : Asked) (held' : List ℕ) → IsAsked before held left asked held' → Asks {E = E} before held left (Ok asked) held' left
+-- a result by the buffered bytes
+pub asks_now : {E : Type 0} (before : ℕ) (held : List ℕ) (left : InputState) (asked : Asked) (held' : List ℕ) → IsAsked before held left asked held' → Asks {E = E} before held left (Ok asked) held' left
 asks_now before held left asked held' is = record {
   read = [];
   given = gave_none left;
   answer = subst (λ (l : List ℕ). IsAsked before l left asked held') (sym (append-nil held)) is;
 }
 
--- an answer by bytes that were read before and those read then
-pub asks_after : {E : Type 0} (before : ℕ) (held mid : List ℕ) (left left1 : Inward) (result : Result Asked E) (held' : List ℕ) (left' : Inward) → Gains held mid left left1 → Asks before mid left1 result held' left' → Asks before held left result held' left'
+-- a result by bytes that were read before and those read then
+pub asks_after : {E : Type 0} (before : ℕ) (held mid : List ℕ) (left left1 : InputState) (result : Result Asked E) (held' : List ℕ) (left' : InputState) → Gains held mid left left1 → Asks before mid left1 result held' left' → Asks before held left result held' left'
 asks_after {E} before held mid left left1 result held' left' gains then = record {
   read = gains.read ++ then.read;
   given = gave_on left left1 left' gains.read then.read gains.given then.given;
@@ -72,8 +72,8 @@ asks_after {E} before held mid left left1 result held' left' gains then = record
     moved (Ok asked) same is = subst (λ (l : List ℕ). IsAsked before l left' asked held') same is
     moved (Err e) same is = subst IsUnfinished same is
 
--- a read failed, and no item lies whole in the bytes given
-pub asks_failed : {E : Type 0} (before : ℕ) (held mid : List ℕ) (left left' : Inward) (e : E) → Gains held mid left left' → IsUnfinished mid → Asks before held left (Err e) mid left'
+-- a read failed, and no item is complete in the bytes given
+pub asks_failed : {E : Type 0} (before : ℕ) (held mid : List ℕ) (left left' : InputState) (e : E) → Gains held mid left left' → IsUnfinished mid → Asks before held left (Err e) mid left'
 asks_failed before held mid left left' e gains is = record {
   read = gains.read;
   given = gains.given;
@@ -85,17 +85,17 @@ asks_failed before held mid left left' e gains is = record {
 pub opens-append : (bytes more : List ℕ) (head : RequestHead) (what : Framing) (rest : List ℕ) → Opens bytes head what rest → Opens (bytes ++ more) head what (rest ++ more)
 opens-append bytes more head what rest opens = record { begins = begins-append bytes more head rest opens.begins; framed = opens.framed }
 
--- what was found at the front stands there after more reads
+-- a head found at the front is there after more reads
 pub open_at-append : (held more : List ℕ) (headers : List HeaderSpan) (spans : RequestSpans) (what : Framing) → IsOpenAt held headers spans what → IsOpenAt (held ++ more) headers spans what
 open_at-append held more headers spans what o = record { head = o.head; at = head_at-append held more headers spans o.head o.at; framed = o.framed }
 
-pub open_gains : (held held' : List ℕ) (left left' : Inward) (headers : List HeaderSpan) (spans : RequestSpans) (what : Framing) → IsOpenAt held headers spans what → Gains held held' left left' → IsOpenAt held' headers spans what
+pub open_gains : (held held' : List ℕ) (left left' : InputState) (headers : List HeaderSpan) (spans : RequestSpans) (what : Framing) → IsOpenAt held headers spans what → Gains held held' left left' → IsOpenAt held' headers spans what
 open_gains held held' left left' headers spans what o gains = subst (λ (l : List ℕ). IsOpenAt l headers spans what) (sym gains.added) (open_at-append held gains.read headers spans what o)
 
 pub opens_at : (held : List ℕ) (headers : List HeaderSpan) (spans : RequestSpans) (what : Framing) (o : IsOpenAt held headers spans what) → Opens held o.head what (drop spans.len held)
 opens_at held headers spans what o = record { begins = o.at.begins; framed = o.framed }
 
--- what the spans say is what the fields of the head say
+-- the spans and the fields of the head say the same
 pub framed_at : (held : List ℕ) (headers : List HeaderSpan) (spans : RequestSpans) (head : RequestHead) → IsHeadAt held headers spans head → framing spans.version (map (header_bytes held) (take spans.headers headers)) ≡ framing head.minor (map name_and_value head.fields)
 framed_at held headers spans head at = ap (λ (v : ℕ). framing v (map (header_bytes held) (take spans.headers headers))) at.parts.version ∙ ap (framing head.minor) at.parts.fields
 
@@ -103,7 +103,7 @@ framed_at held headers spans head at = ap (λ (v : ℕ). framing v (map (header_
 pub framed_on : (held more : List ℕ) (headers : List HeaderSpan) (spans : RequestSpans) (what : Framing) → IsOpenAt held headers spans what → IsFramed what (held ++ more)
 framed_on held more headers spans what o = (o.head, drop spans.len held ++ more, opens-append held more o.head what (drop spans.len held) (opens_at held headers spans what o))
 
--- behind the head stand bytes of that kind
+-- such bytes come after the head
 pub follows_at : (held more : List ℕ) (headers : List HeaderSpan) (spans : RequestSpans) (what : Framing) (P : List ℕ → Type 0) → IsOpenAt held headers spans what → P (drop spans.len held ++ more) → BehindHead what (held ++ more) P
 follows_at held more headers spans what P o behind = record {
   head = o.head;
@@ -163,7 +163,7 @@ asks_in_chunks before held read headers spans request body rest o has is =
     (omega (arith, has.short, ap length has.gives))
     (is ∙ ap (request_of before o.head) (sym has.gives))
 
--- with fewer bytes than the body has, the request isn't whole
+-- with fewer bytes than the body has, the request isn't complete
 pub lacks : (held : List ℕ) (headers : List HeaderSpan) (spans : RequestSpans) (len : ℕ) → IsOpenAt held headers spans (Length len) → length held < spans.len + len → BehindHead (Length len) held (λ rest. length rest < len)
 lacks held headers spans len o fewer = record {
   head = o.head;
@@ -172,56 +172,56 @@ lacks held headers spans len o fewer = record {
   behind = omega (arith, length-drop spans.len held, o.at.within.section.len_fits, fewer);
 }
 
--- Answers, by what was found.
+-- Results, by what was found.
 
 -- the bytes that were given, and then more
 given_and_more : (held read more : List ℕ) → held ++ (read ++ more) ≡ (held ++ read) ++ more
 given_and_more held read more = sym (append_assoc held read more)
 
--- the fields can't be taken, or name another coding, or a length beyond the limit
-pub next_bad : (before : ℕ) (held : List ℕ) (left : Inward) (held' : List ℕ) (headers : List HeaderSpan) (spans : RequestSpans) → IsOpenAt held headers spans BadFields → IsNext before held left bad held'
+-- the fields are not acceptable, or name another coding, or a length beyond the limit
+pub next_bad : (before : ℕ) (held : List ℕ) (left : InputState) (held' : List ℕ) (headers : List HeaderSpan) (spans : RequestSpans) → IsOpenAt held headers spans BadFields → IsNext before held left bad held'
 next_bad before held left held' headers spans o = inl (λ more. bad_fields (framed_on held more headers spans BadFields o))
 
-pub next_long : (before : ℕ) (held : List ℕ) (left : Inward) (held' : List ℕ) (headers : List HeaderSpan) (spans : RequestSpans) → IsOpenAt held headers spans LongBody → IsNext before held left too_long held'
+pub next_long : (before : ℕ) (held : List ℕ) (left : InputState) (held' : List ℕ) (headers : List HeaderSpan) (spans : RequestSpans) → IsOpenAt held headers spans LongBody → IsNext before held left too_long held'
 next_long before held left held' headers spans o = inl (λ more. long_body (framed_on held more headers spans LongBody o))
 
-pub next_coded : (before : ℕ) (held : List ℕ) (left : Inward) (held' : List ℕ) (headers : List HeaderSpan) (spans : RequestSpans) → IsOpenAt held headers spans OtherCoding → IsNext before held left coded held'
+pub next_coded : (before : ℕ) (held : List ℕ) (left : InputState) (held' : List ℕ) (headers : List HeaderSpan) (spans : RequestSpans) → IsOpenAt held headers spans OtherCoding → IsNext before held left coded held'
 next_coded before held left held' headers spans o = inl (λ more. framed_on held more headers spans OtherCoding o)
 
 -- the body is cut short by the end
-pub asks_cut : {E : Type 0} (before : ℕ) (held mid : List ℕ) (left left' : Inward) (headers : List HeaderSpan) (spans : RequestSpans) (len : ℕ) → IsOpenAt held headers spans (Length len) → Gains held mid left left' → length mid < spans.len + len → IsEnded left' → Asks {E = E} before held left (Ok Bad) mid left'
+pub asks_cut : {E : Type 0} (before : ℕ) (held mid : List ℕ) (left left' : InputState) (headers : List HeaderSpan) (spans : RequestSpans) (len : ℕ) → IsOpenAt held headers spans (Length len) → Gains held mid left left' → length mid < spans.len + len → IsEnded left' → Asks {E = E} before held left (Ok Bad) mid left'
 asks_cut before held mid left left' headers spans len o gains fewer ended =
     asks_after before held mid left left' (Ok Bad) mid left' gains
     (asks_now before mid left' Bad mid (inr (body_cut len (lacks mid headers spans len (open_gains held mid left left' headers spans (Length len) o gains) fewer), ended)))
 
-pub asks_unfinished : {E : Type 0} (before : ℕ) (held mid : List ℕ) (left left' : Inward) (headers : List HeaderSpan) (spans : RequestSpans) (len : ℕ) (e : E) → IsOpenAt held headers spans (Length len) → Gains held mid left left' → length mid < spans.len + len → Asks before held left (Err e) mid left'
+pub asks_unfinished : {E : Type 0} (before : ℕ) (held mid : List ℕ) (left left' : InputState) (headers : List HeaderSpan) (spans : RequestSpans) (len : ℕ) (e : E) → IsOpenAt held headers spans (Length len) → Gains held mid left left' → length mid < spans.len + len → Asks before held left (Err e) mid left'
 asks_unfinished before held mid left left' headers spans len e o gains fewer =
     asks_failed before held mid left left' e gains (lacks_body len (lacks mid headers spans len (open_gains held mid left left' headers spans (Length len) o gains) fewer))
 
 -- A chunked body.
 
--- an answer by the bytes that were held and those that were read
-asks_read : {E : Type 0} (before : ℕ) (held read : List ℕ) (left left' : Inward) (asked : Asked) (held' : List ℕ) → Gave left left' read → IsAsked before (held ++ read) left' asked held' → Asks {E = E} before held left (Ok asked) held' left'
+-- a result by the bytes that were buffered and those that were read
+asks_read : {E : Type 0} (before : ℕ) (held read : List ℕ) (left left' : InputState) (asked : Asked) (held' : List ℕ) → Gave left left' read → IsAsked before (held ++ read) left' asked held' → Asks {E = E} before held left (Ok asked) held' left'
 asks_read before held read left left' asked held' given is = record { read = read; given = given; answer = is }
 
-pub chunks_unfinished : {E : Type 0} (before : ℕ) (held : List ℕ) (left : Inward) (body held' : List ℕ) (left' : Inward) (headers : List HeaderSpan) (spans : RequestSpans) (e : E) → IsOpenAt held headers spans Chunked → Decodes spans.len held left (Err e) body held' left' → Asks before held left (Err e) held' left'
+pub chunks_unfinished : {E : Type 0} (before : ℕ) (held : List ℕ) (left : InputState) (body held' : List ℕ) (left' : InputState) (headers : List HeaderSpan) (spans : RequestSpans) (e : E) → IsOpenAt held headers spans Chunked → Decodes spans.len held left (Err e) body held' left' → Asks before held left (Err e) held' left'
 chunks_unfinished before held left body held' left' headers spans e o d = record {
   read = d.read;
   given = d.given;
   answer = lacks_chunks (follows_at held d.read headers spans Chunked (λ rest. MayBecomeBody rest × HasNoBody rest × ¬ (PassesLimit rest)) o (d.outcome.0, d.outcome.1.0, d.outcome.1.1));
 }
 
-pub chunks_bad : {E : Type 0} (before : ℕ) (held : List ℕ) (left : Inward) (body held' : List ℕ) (left' : Inward) (headers : List HeaderSpan) (spans : RequestSpans) → IsOpenAt held headers spans Chunked → Decodes {E = E} spans.len held left (Ok BadChunks) body held' left' → Asks {E = E} before held left (Ok Bad) held' left'
+pub chunks_bad : {E : Type 0} (before : ℕ) (held : List ℕ) (left : InputState) (body held' : List ℕ) (left' : InputState) (headers : List HeaderSpan) (spans : RequestSpans) → IsOpenAt held headers spans Chunked → Decodes {E = E} spans.len held left (Ok BadChunks) body held' left' → Asks {E = E} before held left (Ok Bad) held' left'
 chunks_bad before held left body held' left' headers spans o d =
     asks_read before held d.read left left' Bad held' d.given
     (inl (λ more. subst IsBad (given_and_more held d.read more)
     (no_body (follows_at held (d.read ++ more) headers spans Chunked HasNoBodyYet o (subst HasNoBodyYet (append_assoc (drop spans.len held) d.read more) (d.outcome more))))))
 
-pub chunks_cut : {E : Type 0} (before : ℕ) (held : List ℕ) (left : Inward) (body held' : List ℕ) (left' : Inward) (headers : List HeaderSpan) (spans : RequestSpans) → IsOpenAt held headers spans Chunked → Decodes {E = E} spans.len held left (Ok Cut) body held' left' → Asks {E = E} before held left (Ok Bad) held' left'
+pub chunks_cut : {E : Type 0} (before : ℕ) (held : List ℕ) (left : InputState) (body held' : List ℕ) (left' : InputState) (headers : List HeaderSpan) (spans : RequestSpans) → IsOpenAt held headers spans Chunked → Decodes {E = E} spans.len held left (Ok Cut) body held' left' → Asks {E = E} before held left (Ok Bad) held' left'
 chunks_cut before held left body held' left' headers spans o d =
     asks_read before held d.read left left' Bad held' d.given (inr (no_body (follows_at held d.read headers spans Chunked HasNoBodyYet o d.outcome.0), d.outcome.1))
 
--- more bytes behind those that pass the limit
+-- more bytes after those that pass the limit
 pub passes-append : (bytes more : List ℕ) → PassesLimit bytes → PassesLimit (bytes ++ more)
 passes-append bytes more p = record {
   chunks = p.chunks;
@@ -233,24 +233,24 @@ passes-append bytes more p = record {
   over = p.over;
 }
 
-pub chunks_long : {E : Type 0} (before : ℕ) (held : List ℕ) (left : Inward) (body held' : List ℕ) (left' : Inward) (headers : List HeaderSpan) (spans : RequestSpans) → IsOpenAt held headers spans Chunked → Decodes {E = E} spans.len held left (Ok LongChunks) body held' left' → Asks {E = E} before held left (Ok TooLong) held' left'
+pub chunks_long : {E : Type 0} (before : ℕ) (held : List ℕ) (left : InputState) (body held' : List ℕ) (left' : InputState) (headers : List HeaderSpan) (spans : RequestSpans) → IsOpenAt held headers spans Chunked → Decodes {E = E} spans.len held left (Ok LongChunks) body held' left' → Asks {E = E} before held left (Ok TooLong) held' left'
 chunks_long before held left body held' left' headers spans o d =
     asks_read before held d.read left left' TooLong held' d.given
     (inl (λ more. subst IsTooLong (given_and_more held d.read more)
     (long_chunks (follows_at held (d.read ++ more) headers spans Chunked PassesLimit o (subst PassesLimit (append_assoc (drop spans.len held) d.read more) (passes-append (drop spans.len held ++ d.read) more d.outcome))))))
 
--- the request, whose parts the spans cover in what is held
-pub chunks_whole : {E : Type 0} (before : ℕ) (held : List ℕ) (left : Inward) (body held' : List ℕ) (left' : Inward) (headers : List HeaderSpan) (spans : RequestSpans) (end : ℕ) (request : Request) (o : IsOpenAt held headers spans Chunked) → Decodes {E = E} spans.len held left (Ok (Whole end)) body held' left' → request ≡ request_of before o.head body → Asks {E = E} before held left (Ok (Requested request)) (drop end held') left'
+-- the request, whose parts the spans cover in the buffered bytes
+pub chunks_whole : {E : Type 0} (before : ℕ) (held : List ℕ) (left : InputState) (body held' : List ℕ) (left' : InputState) (headers : List HeaderSpan) (spans : RequestSpans) (end : ℕ) (request : Request) (o : IsOpenAt held headers spans Chunked) → Decodes {E = E} spans.len held left (Ok (Whole end)) body held' left' → request ≡ request_of before o.head body → Asks {E = E} before held left (Ok (Requested request)) (drop end held') left'
 chunks_whole before held left body held' left' headers spans end request o d is =
     asks_read before held d.read left left' (Requested request) (drop end held') d.given (asks_in_chunks before held d.read headers spans request body (drop end held') o d.outcome.2 is)
 
-pub chunks_no_memory : {E : Type 0} (before : ℕ) (held : List ℕ) (left : Inward) (body held' : List ℕ) (left' : Inward) (headers : List HeaderSpan) (spans : RequestSpans) (end : ℕ) (o : IsOpenAt held headers spans Chunked) → Decodes {E = E} spans.len held left (Ok (Whole end)) body held' left' → Asks {E = E} before held left (Ok NoMemory) held' left'
+pub chunks_no_memory : {E : Type 0} (before : ℕ) (held : List ℕ) (left : InputState) (body held' : List ℕ) (left' : InputState) (headers : List HeaderSpan) (spans : RequestSpans) (end : ℕ) (o : IsOpenAt held headers spans Chunked) → Decodes {E = E} spans.len held left (Ok (Whole end)) body held' left' → Asks {E = E} before held left (Ok NoMemory) held' left'
 chunks_no_memory before held left body held' left' headers spans end o d =
     let request : Request = request_of before o.head body in
     asks_read before held d.read left left' NoMemory held' d.given (request, drop end held', asks_in_chunks before held d.read headers spans request body (drop end held') o d.outcome.2 refl)
 
--- what the spans say is so of the head that was found
-pub open_by : (held bytes : List ℕ) (left : Inward) (headers : List HeaderSpan) (spans : RequestSpans) (what read : Framing) → (head : RequestHead) × IsHeadAt held headers spans head → bytes ≡ held → read ≡ framing spans.version (map (header_bytes bytes) (take spans.headers headers)) → read ≡ what → IsOpenAt held headers spans what
+-- what the spans say is true of the head that was found
+pub open_by : (held bytes : List ℕ) (left : InputState) (headers : List HeaderSpan) (spans : RequestSpans) (what read : Framing) → (head : RequestHead) × IsHeadAt held headers spans head → bytes ≡ held → read ≡ framing spans.version (map (header_bytes bytes) (take spans.headers headers)) → read ≡ what → IsOpenAt held headers spans what
 open_by held bytes left headers spans what read found same value is = record {
   head = found.0;
   at = found.1;

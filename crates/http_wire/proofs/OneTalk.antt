@@ -1,4 +1,4 @@
--- A connection's bytes have one first item, and one talk.
+-- A connection's bytes have one first item, and one sequence of items.
 use Rattle.std.proofs.Common.{◌≡◌, ℕ, ◌+◌, ◌<◌, ◌≤◌, ◌⊎◌, inl, inr, Bool, true, false, List, [], ◌∷◌, ◌++◌, length, take, map, refl, sym, ap, subst, ◌∙◌, arith, length-append}
 use Rattle.std.specs.Bool.{MatchBool}
 use Rattle.std.proofs.lemmas.Bool.{MatchBool-at_true, MatchBool-at_false}
@@ -14,27 +14,27 @@ use Rattle.http_wire.specs.Framing.{framing}
 use Rattle.http_wire.specs.Heads.{HasNoHead}
 use Rattle.http_wire.specs.Chunked.{ChunkedBody, print_body, ReadsBody, HasNoBody, PassesLimit, chunk_data as joined}
 use Rattle.http_wire.specs.inner.Decoding.{Decoding, decoding, start}
-use Rattle.http_wire.specs.declared.chunks.Stage.TheVariants.{Done, TooLong}
+use Rattle.http_wire.specs.declared.chunk_decoder.ChunkState.TheVariants.{Done, TooLong}
 use Rattle.http_wire.specs.Items.{Item, asks, bad, too_long, coded, request_of, Opens, BehindHead, IsFramed, AsksFor, with_length, in_chunks, IsBad, no_head, bad_fields, body_cut, no_body, IsTooLong, long_body, long_chunks, FirstItem, SameRest, ends_connection, Talk}
-use Rattle.http_wire.specs.inner.Inflow.{HasNoBodyYet}
+use Rattle.http_wire.specs.inner.ReadBuffer.{HasNoBodyYet}
 use Rattle.http_wire.proofs.Fronts.{head_feeds}
 use Rattle.http_wire.proofs.BodyRuns.{settles_once, reads_body}
 use Rattle.http_wire.proofs.BodyFacts.{short_settles, limit_settles}
 
--- a head takes a byte at least
+-- a head has at least one byte
 some_bytes : (bytes : List ℕ) (h : RequestHead) (f : Framing) (r : List ℕ) → Opens bytes h f r → 0 < length bytes
 some_bytes bytes h f r opens =
     let feeds = head_feeds h in
     omega (arith, ap length opens.begins.reads.1, length-append (print_request h) r, ap length feeds.1, length-append feeds.0 (line_feed ∷ []))
 
--- what opens the same bytes is the same
+-- two openings of the same bytes are equal
 pub same_head : (bytes : List ℕ) (h k : RequestHead) (f g : Framing) (r q : List ℕ) → Opens bytes h f r → Opens bytes k g q → (h ≡ k) × (f ≡ g) × (r ≡ q)
 same_head bytes h k f g r q x y =
     let one = request_unique bytes h k r q x.begins.reads y.begins.reads in
     let heads : h ≡ k = one.0 in
     (heads, sym x.framed ∙ ap (λ (d : RequestHead). framing d.minor (map name_and_value d.fields)) heads ∙ y.framed, one.1)
 
--- What stands behind a head of a framing, by kinds: 0 a request, 1 bad, 2 too long, 3 coded.
+-- What comes after a head of a framing, by number: 0 a request, 1 bad, 2 too long, 3 coded.
 
 -- a chunked body within the limit
 abbrev HasShort : List ℕ → Type 0
@@ -122,7 +122,7 @@ one_kind bytes j k (inr x) (inr y) =
     let same = same_head bytes x.0 y.0 x.1 y.1 x.2 y.2 x.3 y.3 in
     kind_once y.1 y.2 j k (subst (λ (f : Framing). KindIs f y.2 j) same.1 (subst (λ (l : List ℕ). KindIs x.1 l j) same.2 x.4)) y.4
 
--- Two requests at the front are one.
+-- Two requests at the front are equal.
 
 abbrev pub length_of : Framing → ℕ
 length_of BadFields = 0
@@ -184,7 +184,7 @@ one_first_item before bytes rest other x y p q = by_kind x y p q (one_kind bytes
     by_kind coded bad p q same = absurd (omega (arith, same))
     by_kind coded too_long p q same = absurd (omega (arith, same))
 
--- no item stands first in no bytes
+-- no item is first in no bytes
 some_item_bytes : (before : ℕ) (bytes rest : List ℕ) (item : Item) → FirstItem before bytes item rest → 0 < length bytes
 some_item_bytes before bytes rest item first = by_kind (has_kind before bytes rest item first)
   where

@@ -1,4 +1,4 @@
--- One byte of a chunked body after another: the numbers stay within the limits, and the bytes left get fewer.
+-- A chunked body byte by byte: the numbers stay within the limits, and the bytes left get fewer.
 use Rattle.std.proofs.Common.{◌≡◌, ◌≢◌, ℕ, ◌+◌, ◌-◌, ◌*◌, ◌<◌, ◌≤◌, min, Bool, true, false, not, ◌||◌, ◌==◌, nat_lt, nat_le, List, [], ◌∷◌, ◌++◌, length, take, drop, if◌then◌else◌, refl, sym, ap, subst, ◌∙◌, arith, length-append, append_assoc}
 use Rattle.std.proofs.lemmas.Bool.{cond_both, leb-false, leb-true, ltb-true, eqb-true, eqb-false, not-true, not-false, ne_eqb, or_from, not_from_false}
 use Rattle.std.proofs.lemmas.List.{append-nil, length-take-le, take_all, take_rest}
@@ -7,42 +7,42 @@ use Rattle.http_wire.proofs.Buffers.{put_behind}
 use Rattle.std.specs.Char.{digit_value, is_digit}
 use Rattle.httparse.specs.Ascii.{line_feed, carriage_return, semicolon}
 use Rattle.httparse.specs.Grammar.{is_ows, is_value_byte}
-use Rattle.http_wire.specs.declared.chunks.Stage.{Stage}
-use Rattle.http_wire.specs.declared.chunks.Stage.TheVariants.{Size, Blank, Extension, SizeEnd, Data, DataEnd, Trailers, Trailer, TrailerEnd, LastEnd, Done, Bad, TooLong}
+use Rattle.http_wire.specs.declared.chunk_decoder.ChunkState.{ChunkState}
+use Rattle.http_wire.specs.declared.chunk_decoder.ChunkState.TheVariants.{Size, Blank, Extension, SizeEnd, Data, DataEnd, Trailers, Trailer, TrailerEnd, LastEnd, Done, Bad, TooLong}
 use Rattle.http_wire.specs.Chunked.{is_trailer_byte}
 use Rattle.http_wire.specs.inner.Decoding.{Decoding, decoding, is_settled, is_data, after_digits, in_digits, in_extension, after_line, after_data, in_trailers, if_feed, next_stage, next_decoding, ReadsOn, Fits, bytes_left}
 
--- A fact on the stage behind each kind of byte, from the fact at each stage that may follow.
+-- A fact about the state after each kind of byte, from the fact at each state that may follow.
 
-pub by_after_digits : (P : Stage → Type 0) (value len b : ℕ) → (b ≡ carriage_return → P (SizeEnd value)) → P Bad → (len < 254 → is_ows b ≡ true → P (Blank value (len + 1))) → (len < 254 → b ≡ semicolon → P (Extension value (len + 1))) → P (after_digits value len b)
+pub by_after_digits : (P : ChunkState → Type 0) (value len b : ℕ) → (b ≡ carriage_return → P (SizeEnd value)) → P Bad → (len < 254 → is_ows b ≡ true → P (Blank value (len + 1))) → (len < 254 → b ≡ semicolon → P (Extension value (len + 1))) → P (after_digits value len b)
 by_after_digits P value len b ends bad blank extension =
-    let last : Stage = if b == semicolon then Extension value (len + 1) else Bad in
-    let inner : Stage = if is_ows b then Blank value (len + 1) else last in
+    let last : ChunkState = if b == semicolon then Extension value (len + 1) else Bad in
+    let inner : ChunkState = if is_ows b then Blank value (len + 1) else last in
     cond_both (b == carriage_return) (SizeEnd value) (if nat_le 254 len then Bad else inner) P (λ end. ends (eqb-true b carriage_return end)) (λ _.
     cond_both (nat_le 254 len) Bad inner P (λ _. bad) (λ more.
     let less : len < 254 = leb-false 254 len more in
     cond_both (is_ows b) (Blank value (len + 1)) last P (blank less) (λ _.
     cond_both (b == semicolon) (Extension value (len + 1)) Bad P (λ mark. extension less (eqb-true b semicolon mark)) (λ _. bad))))
 
-pub by_in_digits : (P : Stage → Type 0) (digits value b : ℕ) → (digits < 16 → is_digit b 16 ≡ true → P (Size (digits + 1) (min (value * 16 + digit_value b) 262_145))) → P Bad → (0 < digits → P (after_digits value digits b)) → P (in_digits digits value b)
+pub by_in_digits : (P : ChunkState → Type 0) (digits value b : ℕ) → (digits < 16 → is_digit b 16 ≡ true → P (Size (digits + 1) (min (value * 16 + digit_value b) 262_145))) → P Bad → (0 < digits → P (after_digits value digits b)) → P (in_digits digits value b)
 by_in_digits P digits value b digit bad behind =
-    let more : Stage = Size (digits + 1) (min (value * 16 + digit_value b) 262_145) in
-    let other : Stage = if digits == 0 then Bad else after_digits value digits b in
+    let more : ChunkState = Size (digits + 1) (min (value * 16 + digit_value b) 262_145) in
+    let other : ChunkState = if digits == 0 then Bad else after_digits value digits b in
     cond_both (nat_lt (digit_value b) 16) (if nat_lt digits 16 then more else Bad) other P
     (λ is. cond_both (nat_lt digits 16) more Bad P (λ few. digit (ltb-true digits 16 few) is) (λ _. bad))
     (λ _. cond_both (digits == 0) Bad (after_digits value digits b) P (λ _. bad) (λ some. behind (let ne : digits ≢ 0 = eqb-false digits 0 some in omega arith)))
 
-pub by_in_extension : (P : Stage → Type 0) (value len b : ℕ) → (b ≡ carriage_return → P (SizeEnd value)) → P Bad → (len < 254 → is_value_byte b ≡ true → P (Extension value (len + 1))) → P (in_extension value len b)
+pub by_in_extension : (P : ChunkState → Type 0) (value len b : ℕ) → (b ≡ carriage_return → P (SizeEnd value)) → P Bad → (len < 254 → is_value_byte b ≡ true → P (Extension value (len + 1))) → P (in_extension value len b)
 by_in_extension P value len b ends bad extension =
-    let inner : Stage = if is_value_byte b then Extension value (len + 1) else Bad in
+    let inner : ChunkState = if is_value_byte b then Extension value (len + 1) else Bad in
     cond_both (b == carriage_return) (SizeEnd value) (if nat_le 254 len then Bad else inner) P (λ end. ends (eqb-true b carriage_return end)) (λ _.
     cond_both (nat_le 254 len) Bad inner P (λ _. bad) (λ more.
     cond_both (is_value_byte b) (Extension value (len + 1)) Bad P (extension (leb-false 254 len more)) (λ _. bad)))
 
-pub by_after_line : (P : Stage → Type 0) (value decoded b : ℕ) → P Bad → (b ≡ line_feed → value ≡ 0 → P (Trailers 0)) → (b ≡ line_feed → 0 < value → decoded + value ≤ 262_144 → P (Data value)) → (b ≡ line_feed → 262_144 < decoded + value → P TooLong) → P (after_line value decoded b)
+pub by_after_line : (P : ChunkState → Type 0) (value decoded b : ℕ) → P Bad → (b ≡ line_feed → value ≡ 0 → P (Trailers 0)) → (b ≡ line_feed → 0 < value → decoded + value ≤ 262_144 → P (Data value)) → (b ≡ line_feed → 262_144 < decoded + value → P TooLong) → P (after_line value decoded b)
 by_after_line P value decoded b bad trailers data_due long =
-    let sized : Stage = if nat_le (decoded + value) 262_144 then Data value else TooLong in
-    let fed : Stage = if value == 0 then Trailers 0 else sized in
+    let sized : ChunkState = if nat_le (decoded + value) 262_144 then Data value else TooLong in
+    let fed : ChunkState = if value == 0 then Trailers 0 else sized in
     cond_both (not (b == line_feed)) Bad fed P (λ _. bad) (λ fed_by.
     let feed : b ≡ line_feed = eqb-true b line_feed (not-false (b == line_feed) fed_by) in
     cond_both (value == 0) (Trailers 0) sized P (λ none. trailers feed (eqb-true value 0 none)) (λ some.
@@ -50,29 +50,29 @@ by_after_line P value decoded b bad trailers data_due long =
     (λ fits. data_due feed (let ne : value ≢ 0 = eqb-false value 0 some in omega arith) (leb-true (decoded + value) 262_144 fits))
     (λ over. long feed (leb-false (decoded + value) 262_144 over))))
 
-pub by_in_trailers : (P : Stage → Type 0) (used b : ℕ) (end : Stage) → (b ≡ carriage_return → P end) → P Bad → (used + 3 ≤ 16_384 → is_trailer_byte b ≡ true → P (Trailer (used + 1))) → P (in_trailers used b end)
+pub by_in_trailers : (P : ChunkState → Type 0) (used b : ℕ) (end : ChunkState) → (b ≡ carriage_return → P end) → P Bad → (used + 3 ≤ 16_384 → is_trailer_byte b ≡ true → P (Trailer (used + 1))) → P (in_trailers used b end)
 by_in_trailers P used b end ends bad trailer =
-    let longer : Stage = if nat_le (used + 3) 16_384 then Trailer (used + 1) else Bad in
+    let longer : ChunkState = if nat_le (used + 3) 16_384 then Trailer (used + 1) else Bad in
     cond_both (b == carriage_return) end (if b == line_feed then Bad else longer) P (λ is. ends (eqb-true b carriage_return is)) (λ no_end.
     cond_both (b == line_feed) Bad longer P (λ _. bad) (λ no_feed.
     cond_both (nat_le (used + 3) 16_384) (Trailer (used + 1)) Bad P (λ fits. trailer (leb-true (used + 3) 16_384 fits) (not_from_false (b == carriage_return || b == line_feed) (or_from (b == carriage_return) (b == line_feed) no_end no_feed))) (λ _. bad)))
 
-pub by_if_feed : (P : Stage → Type 0) (b : ℕ) (next : Stage) → (b ≡ line_feed → P next) → P Bad → P (if_feed b next)
+pub by_if_feed : (P : ChunkState → Type 0) (b : ℕ) (next : ChunkState) → (b ≡ line_feed → P next) → P Bad → P (if_feed b next)
 by_if_feed P b next fed bad = cond_both (b == line_feed) next Bad P (λ is. fed (eqb-true b line_feed is)) (λ _. bad)
 
-pub by_data : (P : Stage → Type 0) (left decoded b : ℕ) → (left ≡ 0 → b ≡ carriage_return → P DataEnd) → (left ≡ 0 → P Bad) → (0 < left → P (Data (left - 1))) → P (next_stage (Data left) decoded b)
+pub by_data : (P : ChunkState → Type 0) (left decoded b : ℕ) → (left ≡ 0 → b ≡ carriage_return → P DataEnd) → (left ≡ 0 → P Bad) → (0 < left → P (Data (left - 1))) → P (next_stage (Data left) decoded b)
 by_data P left decoded b ends bad more =
     cond_both (left == 0) (after_data b) (Data (left - 1)) P
     (λ none. cond_both (b == carriage_return) DataEnd Bad P (λ is. ends (eqb-true left 0 none) (eqb-true b carriage_return is)) (λ _. bad (eqb-true left 0 none)))
     (λ some. more (let ne : left ≢ 0 = eqb-false left 0 some in omega arith))
 
--- The numbers stay within the limits, where the bytes decoded are counted with a byte of a chunk.
-abbrev pub decoded_after : Stage → ℕ → ℕ
+-- The numbers stay within the limits, where the decoded bytes are counted with a byte of a chunk.
+abbrev pub decoded_after : ChunkState → ℕ → ℕ
 decoded_after s decoded = if is_data s then decoded + 1 else decoded
 
-pub fits_next : (s : Stage) (decoded b : ℕ) → Fits s decoded → is_data s ≡ false → Fits (next_stage s decoded b) decoded
+pub fits_next : (s : ChunkState) (decoded b : ℕ) → Fits s decoded → is_data s ≡ false → Fits (next_stage s decoded b) decoded
 fits_next (Size digits value) decoded b fits other =
-    let P : Stage → Type 0 = λ s. Fits s decoded in
+    let P : ChunkState → Type 0 = λ s. Fits s decoded in
     by_in_digits P digits value b (λ few digit. (omega arith, omega arith, fits.2)) fits.2 (λ _.
     by_after_digits P value digits b (λ _. (fits.1, fits.2)) fits.2 (λ less _. (fits.1, omega arith, fits.2)) (λ less _. (fits.1, omega arith, fits.2)))
 fits_next (Blank value len) decoded b fits other = by_after_digits (λ s. Fits s decoded) value len b (λ _. (fits.0, fits.2)) fits.2 (λ less _. (fits.0, omega arith, fits.2)) (λ less _. (fits.0, omega arith, fits.2))
@@ -91,31 +91,31 @@ fits_next Bad decoded b fits other = fits
 fits_next TooLong decoded b fits other = fits
 
 -- fewer bytes are left
-pub fewer_left : (s : Stage) (decoded b : ℕ) → Fits s decoded → is_settled s ≡ false → bytes_left (next_stage s decoded b) (decoded_after s decoded) < bytes_left s decoded
+pub fewer_left : (s : ChunkState) (decoded b : ℕ) → Fits s decoded → is_settled s ≡ false → bytes_left (next_stage s decoded b) (decoded_after s decoded) < bytes_left s decoded
 fewer_left (Size digits value) decoded b fits going =
-    let P : Stage → Type 0 = λ s. bytes_left s decoded < (262_145 - decoded) * 1000 + 20_000 - digits in
+    let P : ChunkState → Type 0 = λ s. bytes_left s decoded < (262_145 - decoded) * 1000 + 20_000 - digits in
     let fewer : 0 < (262_145 - decoded) * 1000 + 20_000 - digits = omega (arith, fits.0) in
     by_in_digits P digits value b (λ few digit. omega arith) fewer (λ _.
     by_after_digits P value digits b (λ _. omega (arith, fits.0)) fewer (λ less _. omega arith) (λ less _. omega arith))
 fewer_left (Blank value len) decoded b fits going =
-    let P : Stage → Type 0 = λ s. bytes_left s decoded < (262_145 - decoded) * 1000 + 20_000 - len in
+    let P : ChunkState → Type 0 = λ s. bytes_left s decoded < (262_145 - decoded) * 1000 + 20_000 - len in
     by_after_digits P value len b (λ _. omega (arith, fits.1)) (omega (arith, fits.1)) (λ less _. omega arith) (λ less _. omega arith)
 fewer_left (Extension value len) decoded b fits going =
-    let P : Stage → Type 0 = λ s. bytes_left s decoded < (262_145 - decoded) * 1000 + 20_000 - len in
+    let P : ChunkState → Type 0 = λ s. bytes_left s decoded < (262_145 - decoded) * 1000 + 20_000 - len in
     by_in_extension P value len b (λ _. omega (arith, fits.1)) (omega (arith, fits.1)) (λ less _. omega arith)
 fewer_left (SizeEnd value) decoded b fits going =
-    let P : Stage → Type 0 = λ s. bytes_left s decoded < (262_145 - decoded) * 1000 + 19_700 in
+    let P : ChunkState → Type 0 = λ s. bytes_left s decoded < (262_145 - decoded) * 1000 + 19_700 in
     by_after_line P value decoded b (omega arith) (λ _ _. omega arith) (λ _ some room. omega arith) (λ _ _. omega arith)
 fewer_left (Data left) decoded b fits going = left_in_data (left == 0) refl
   where
     left_in_data : (none : Bool) → (left == 0) ≡ none → bytes_left (next_stage (Data left) decoded b) (if not none then decoded + 1 else decoded) < bytes_left (Data left) decoded
     left_in_data true none =
         let zero_left : left ≡ 0 = eqb-true left 0 none in
-        let P : Stage → Type 0 = λ s. bytes_left s decoded < bytes_left (Data left) decoded in
+        let P : ChunkState → Type 0 = λ s. bytes_left s decoded < bytes_left (Data left) decoded in
         by_data P left decoded b (λ _ _. omega arith) (λ _. omega arith) (λ some. absurd (omega arith))
     left_in_data false some =
         let ne : left ≢ 0 = eqb-false left 0 some in
-        let P : Stage → Type 0 = λ s. bytes_left s (decoded + 1) < bytes_left (Data left) decoded in
+        let P : ChunkState → Type 0 = λ s. bytes_left s (decoded + 1) < bytes_left (Data left) decoded in
         by_data P left decoded b (λ none _. absurd (ne none)) (λ none. absurd (ne none)) (λ more. omega arith)
 fewer_left DataEnd decoded b fits going = by_if_feed (λ s. bytes_left s decoded < bytes_left DataEnd decoded) b (Size 0 0) (λ _. omega arith) (omega arith)
 fewer_left (Trailers used) decoded b fits going = by_in_trailers (λ s. bytes_left s decoded < 17_000 - used) used b LastEnd (λ _. omega (arith, fits.0)) (omega (arith, fits.0)) (λ room _. omega arith)
@@ -126,13 +126,13 @@ fewer_left Done decoded b fits going = absurd (let no : ⊥ = cc in no)
 fewer_left Bad decoded b fits going = absurd (let no : ⊥ = cc in no)
 fewer_left TooLong decoded b fits going = absurd (let no : ⊥ = cc in no)
 
--- one reading after another
+-- one decoding after another
 pub reads_on : (d mid new : Decoding) (first next : List ℕ) → ReadsOn d first mid → ReadsOn mid next new → ReadsOn d (first ++ next) new
 reads_on d mid new [] next same more = subst (λ (x : Decoding). ReadsOn x next new) same more
 reads_on d mid new (b ∷ first) next reads more = (reads.0, reads_on (next_decoding d b) mid new first next reads.1 more)
 
--- two readings with equal parts
-pub same_decoding : (s t : Stage) (x y : List ℕ) → s ≡ t → x ≡ y → decoding s x ≡ decoding t y
+-- two decodings with equal parts
+pub same_decoding : (s t : ChunkState) (x y : List ℕ) → s ≡ t → x ≡ y → decoding s x ≡ decoding t y
 same_decoding s t x y stages bodies = cc
 
 -- one byte of a chunk
@@ -144,7 +144,7 @@ next_data left body b some =
     (ap (λ t. if t then after_data b else Data (left - 1)) test)
     (ap (λ t. if not t then body ++ b ∷ [] else body) test)
 
--- bytes of a chunk, of which so many are due
+-- bytes of a chunk of which n are missing
 pub reads_data : (left : ℕ) (body bytes : List ℕ) → length bytes ≤ left → ReadsOn (decoding (Data left) body) bytes (decoding (Data (left - length bytes)) (body ++ bytes))
 reads_data left body [] due = same_decoding (Data (left - 0)) (Data left) (body ++ []) body (ap Data (omega arith)) (append-nil body)
 reads_data left body (b ∷ bytes) due =
@@ -158,18 +158,18 @@ reads_data left body (b ∷ bytes) due =
     )
 
 -- what one byte adds to the body
-pub body_after : (s : Stage) (body : List ℕ) (b : ℕ) → length (next_decoding (decoding s body) b).body ≡ decoded_after s (length body)
+pub body_after : (s : ChunkState) (body : List ℕ) (b : ℕ) → length (next_decoding (decoding s body) b).body ≡ decoded_after s (length body)
 body_after s body b = by_is_data (is_data s)
   where
     by_is_data : (t : Bool) → length (if t then body ++ b ∷ [] else body) ≡ (if t then length body + 1 else length body)
     by_is_data true = length-append body (b ∷ [])
     by_is_data false = refl
 
--- the numbers stay within the limits, bytes of a chunk or not
-pub fits_after : (s : Stage) (decoded b : ℕ) → Fits s decoded → Fits (next_stage s decoded b) (decoded_after s decoded)
+-- the numbers stay within the limits, for data bytes and others
+pub fits_after : (s : ChunkState) (decoded b : ℕ) → Fits s decoded → Fits (next_stage s decoded b) (decoded_after s decoded)
 fits_after s decoded b fits = by_is_data (is_data s) refl
   where
-    of_data : (s : Stage) → is_data s ≡ true → Fits s decoded → Fits (next_stage s decoded b) (decoded + 1)
+    of_data : (s : ChunkState) → is_data s ≡ true → Fits s decoded → Fits (next_stage s decoded b) (decoded + 1)
     of_data (Data left) is room =
         let ne : left ≢ 0 = eqb-false left 0 (not-true (left == 0) is) in
         by_data (λ s. Fits s (decoded + 1)) left decoded b (λ none _. absurd (ne none)) (λ none. absurd (ne none)) (λ some. let next : decoded + 1 + (left - 1) ≤ 262_144 = omega arith in next)
@@ -190,7 +190,7 @@ fits_after s decoded b fits = by_is_data (is_data s) refl
     by_is_data true is = of_data s is fits
     by_is_data false is = fits_next s decoded b fits is
 
--- the numbers of a reading are within the limits
+-- the numbers of a decoding are within the limits
 abbrev pub IsInLimits : Decoding → Type 0
 IsInLimits d = Fits d.stage (length d.body)
 
@@ -201,7 +201,7 @@ pub reads_in_limits : (d : Decoding) (bytes : List ℕ) (new : Decoding) → IsI
 reads_in_limits d [] new fits same = subst IsInLimits (sym same) fits
 reads_in_limits d (b ∷ bytes) new fits reads = reads_in_limits (next_decoding d b) bytes new (next_in_limits d b fits) reads.1
 
--- how many bytes a reading can go on for
+-- how many bytes a decoding can go on for
 abbrev pub left_of : Decoding → ℕ
 left_of d = bytes_left d.stage (length d.body)
 
@@ -215,7 +215,7 @@ no_more_left d (b ∷ bytes) new fits reads =
     le_from : (x y z : ℕ) → x ≤ y → y < z → x ≤ z
     le_from x y z p q = omega arith
 
--- a reading of a byte or more leaves fewer
+-- a decoding of at least one byte leaves fewer
 pub fewer_after : (d : Decoding) (bytes : List ℕ) (new : Decoding) → IsInLimits d → 0 < length bytes → ReadsOn d bytes new → left_of new < left_of d
 fewer_after d [] new fits some same = absurd (omega arith)
 fewer_after d (b ∷ bytes) new fits some reads =
@@ -226,7 +226,7 @@ fewer_after d (b ∷ bytes) new fits some reads =
     lt_from : (x y z : ℕ) → x ≤ y → y < z → x < z
     lt_from x y z p q = omega arith
 
--- bytes of a chunk that were put behind those that a buffer holds
+-- bytes of a chunk that were appended to those in a buffer
 pub data_taken : (d : Decoding) (left count held : ℕ) (raw buffer part behind items : List ℕ) → d.stage ≡ Data left → items ≡ take held buffer ++ (part ++ behind) → part ≡ take count raw → take held buffer ≡ d.body → held ≤ length buffer → count ≤ length raw → count ≤ left
     → ReadsOn d (take count raw) (decoding (Data (left - count)) (take (held + count) items))
 data_taken d left count held raw buffer part behind items due joined is body inside enough fits =
@@ -243,7 +243,7 @@ data_taken d left count held raw buffer part behind items due joined is body ins
     subst (λ (l : List ℕ). ReadsOn d l (decoding (Data (left - count)) (take (held + count) items))) is
     (subst (ReadsOn d part) last (subst (λ (x : Decoding). ReadsOn x part (decoding (Data (left - length part)) (d.body ++ part))) old (reads_data left d.body part due_all)))
 
--- a reading of some bytes, and one of the next
+-- a decoding of some bytes, and one of the next
 pub reads_next : (d mid new : Decoding) (used more : ℕ) (raw : List ℕ) → used ≤ length raw → ReadsOn d (take used raw) mid → ReadsOn mid (take more (take (length raw - used) (drop used raw))) new → ReadsOn d (take (used + more) raw) new
 reads_next d mid new used more raw inside first next =
     let rest : take (length raw - used) (drop used raw) ≡ drop used raw = take_rest raw used in

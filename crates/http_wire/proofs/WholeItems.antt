@@ -1,4 +1,5 @@
--- Items that lie whole in the first bytes stand there however these go on, and none lies in bytes that are unfinished.
+-- Items that are complete in the first bytes stay so whatever follows, and unfinished bytes have
+-- none.
 use Rattle.std.proofs.Common.{◌≡◌, ℕ, ◌-◌, ◌<◌, inl, inr, List, [], ◌++◌, length, take, sym, ap, subst, ◌∙◌, arith, append_assoc, length-append}
 use Rattle.std.proofs.lemmas.Bool.{cases_lt}
 use Rattle.httparse.specs.Grammar.{RequestHead}
@@ -7,7 +8,7 @@ use Rattle.http_wire.specs.declared.framing.Framing.TheVariants.{Bad as BadField
 use Rattle.http_wire.specs.declared.request.Request.{Request}
 use Rattle.http_wire.specs.Chunked.{print_line, print_chunks, print_body, ReadsBody, HasNoBody, MayBecomeBody, PassesLimit}
 use Rattle.http_wire.specs.Items.{Item, asks, bad, too_long, coded, Opens, BehindHead, IsFramed, AsksFor, with_length, in_chunks, bad_fields, no_body, long_body, long_chunks, FirstItem, LiesWhole, IsUnfinished, lacks_head, lacks_body, lacks_chunks}
-use Rattle.http_wire.specs.inner.Inflow.{HasNoBodyYet}
+use Rattle.http_wire.specs.inner.ReadBuffer.{HasNoBodyYet}
 use Rattle.http_wire.proofs.Fronts.{lies_in_front}
 use Rattle.http_wire.proofs.BodyReached.{becomes_body, becomes_line}
 use Rattle.http_wire.proofs.ItemLemmas.{opens-append, passes-append}
@@ -24,7 +25,7 @@ follows-append what bytes more P Q each f = record {
   behind = each f.rest f.behind;
 }
 
--- where no chunked body goes on so, none comes, and the limit is never passed
+-- where no chunked body continues like this, none comes, and the limit is never passed
 never_body : (bytes more : List ℕ) → ¬ (MayBecomeBody bytes) → HasNoBody bytes → ¬ (PassesLimit bytes) → HasNoBodyYet (bytes ++ more)
 never_body bytes more never none not_long = (
   λ c rest reads. elim (cases_lt (length bytes) (length (print_body c))) [
@@ -74,9 +75,9 @@ whole_stays before bytes more too_long (long_body f) = ([], long_body (framed-ap
 whole_stays before bytes more too_long (long_chunks f) = ([], long_chunks (follows-append Chunked bytes more PassesLimit PassesLimit (λ rest passes. passes-append rest more passes) f))
 whole_stays before bytes more coded f = ([], framed-append OtherCoding bytes more f)
 
--- Bytes that are unfinished.
+-- Unfinished bytes.
 
--- a head of another framing stands in front
+-- a head of another framing is in front
 other_framing : (bytes : List ℕ) (h k : RequestHead) (f g : Framing) (r q : List ℕ) → Opens bytes h f r → Opens bytes k g q → (f ≡ g → ⊥) → ⊥
 other_framing bytes h k f g r q x y apart = apart (same_head bytes h k f g r q x y).1
 
@@ -127,7 +128,7 @@ chunks_lack before bytes too_long f (long_chunks w) =
     f.behind.2 (subst PassesLimit (sym same.2) w.behind)
 chunks_lack before bytes coded f w = other_framing bytes f.head w.0 Chunked OtherCoding f.rest w.1 f.opens w.2 chunks_and_coded
 
--- every item that lies whole has a head
+-- every complete item has a head
 head_lacks : (before : ℕ) (bytes : List ℕ) (item : Item) → ((head : RequestHead) (what : Framing) (rest : List ℕ) → Opens bytes head what rest → ⊥) → LiesWhole before bytes item → ⊥
 head_lacks before bytes (asks request) none (rest, with_length head body opens is) = none head (Length (length body)) (body ++ rest) opens
 head_lacks before bytes (asks request) none (rest, in_chunks head behind body opens reads short is) = none head Chunked behind opens

@@ -1,13 +1,13 @@
--- Chunked bodies (RFC 9112, section 7.1), as this server takes them. Each form is a tree, a printer from the tree to its
--- bytes, and a fact that says which trees are valid.
+-- Chunked bodies (RFC 9112, section 7.1), as this server accepts them. Each form is a tree, a
+-- printer from the tree to its bytes, and a fact that says which trees are valid.
 use Rattle.std.specs.Prelude.{◌≡◌, ℕ, ◌+◌, ◌<◌, ◌≤◌, Bool, not, ◌||◌, ◌==◌, List, [], ◌++◌, length, IsTrue, flat_map, unwrap_or}
 use Rattle.std.specs.List.{list_all, AllByRecursion}
 use Rattle.std.specs.Char.{is_digit}
 use Rattle.httparse.specs.Ascii.{line_feed, carriage_return, crlf_bytes}
 use Rattle.httparse.specs.Grammar.{ChunkLine, print_extension, chunk_size, is_ows, is_value_byte}
-use Rattle.http_wire.specs.Limits.{most_body_bytes, most_digits, most_line_bytes, most_trailer_bytes}
+use Rattle.http_wire.specs.Limits.{max_body_bytes, max_digits, max_line_bytes, max_trailer_bytes}
 
--- the bytes of a chunk line in front of its line end: digits, blanks, and an extension behind `;`
+-- the bytes of a chunk line without its line end: digits, blanks, and an extension after `;`
 abbrev pub line_text : ChunkLine → List ℕ
 line_text l = l.digits ++ (l.pad ++ print_extension l.extension)
 
@@ -15,15 +15,15 @@ line_text l = l.digits ++ (l.pad ++ print_extension l.extension)
 abbrev pub print_line : ChunkLine → List ℕ
 print_line l = line_text l ++ crlf_bytes
 
--- each part is of its class, an extension being tabs, spaces, visible bytes and those past ASCII; the whole line is
--- within its limit
+-- each part is of its class, an extension consisting of tabs, spaces, visible bytes and those past
+-- ASCII; the whole line is within its limit
 pub record IsLine (l : ChunkLine) : Type 0 where
   pub some : 0 < length l.digits
-  pub few : length l.digits ≤ most_digits
+  pub few : length l.digits ≤ max_digits
   pub digits : IsTrue (list_all (λ b. is_digit b 16) l.digits)
   pub pad : IsTrue (list_all is_ows l.pad)
   pub extension : IsTrue (list_all is_value_byte (unwrap_or l.extension []))
-  pub short : length (print_line l) ≤ most_line_bytes
+  pub short : length (print_line l) ≤ max_line_bytes
 
 -- chunk = chunk-line bytes CR LF
 pub record Chunk : Type 0 where
@@ -33,7 +33,7 @@ pub record Chunk : Type 0 where
 abbrev pub print_chunk : Chunk → List ℕ
 print_chunk c = print_line c.line ++ (c.bytes ++ crlf_bytes)
 
--- the line's number is how many bytes follow, which is not 0
+-- the line's number is the number of bytes that follow, and is not 0
 pub record IsChunk (c : Chunk) : Type 0 where
   pub line : IsLine c.line
   pub sized : chunk_size c.line ≡ length c.bytes
@@ -72,9 +72,9 @@ pub record IsBody (c : ChunkedBody) : Type 0 where
   pub last : IsLine c.last
   pub ends : chunk_size c.last ≡ 0
   pub trailers : AllByRecursion IsTrailer c.trailers
-  pub short : length (print_trailers c.trailers) ≤ most_trailer_bytes
+  pub short : length (print_trailers c.trailers) ≤ max_trailer_bytes
 
--- the bytes of the chunks, joined
+-- the data of the chunks, joined
 abbrev pub chunk_data : List Chunk → List ℕ
 chunk_data chunks = flat_map (λ c. c.bytes) chunks
 
@@ -90,8 +90,8 @@ HasNoBody bytes = (c : ChunkedBody) (rest : List ℕ) → ¬ (ReadsBody bytes c 
 abbrev pub MayBecomeBody : List ℕ → Type 0
 MayBecomeBody bytes = (more : List ℕ) × (c : ChunkedBody) × ReadsBody (bytes ++ more) c []
 
--- the bytes begin with chunks and one more chunk line, and the bytes of the chunks and the number of that line sum to more
--- than a body may have
+-- the bytes begin with chunks and one more chunk line, and the chunks' bytes plus the number of
+-- that line are more than a body may have
 pub record PassesLimit (bytes : List ℕ) : Type 0 where
   pub chunks : List Chunk
   pub line : ChunkLine
@@ -99,4 +99,4 @@ pub record PassesLimit (bytes : List ℕ) : Type 0 where
   pub are_chunks : AllByRecursion IsChunk chunks
   pub is_line : IsLine line
   pub reads : bytes ≡ print_chunks chunks ++ (print_line line ++ rest)
-  pub over : most_body_bytes < length (chunk_data chunks) + chunk_size line
+  pub over : max_body_bytes < length (chunk_data chunks) + chunk_size line

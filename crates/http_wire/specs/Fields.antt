@@ -1,26 +1,26 @@
--- What the fields of a head say (RFC 9110, sections 5.1, 5.6.1 and 7.6.1). A field is its name and its value, without
--- the spaces and tabs at the value's ends.
+-- What the fields of a head say (RFC 9110, sections 5.1, 5.6.1 and 7.6.1). A field is its name and
+-- its value, without the spaces and tabs at the value's ends.
 use Rattle.std.specs.Prelude.{◌≡◌, ℕ, ◌≤◌, ◌==◌, nat_lt, Bool, ◌&&◌, if◌then◌else◌, List, [], ◌∷◌, length, map, codes}
 use Rattle.std.specs.Str.{bytes_eq}
 use Rattle.std.specs.List.{list_all, list_any, slice_split}
 use Rattle.std.specs.Char.{to_ascii_lowercase, is_ascii_digit}
 use Rattle.httparse.specs.Ascii.{comma}
 use Rattle.httparse.specs.Grammar.{trim_ows}
-use Rattle.http_wire.specs.declared.framing.Named.{Named}
-use Rattle.http_wire.specs.declared.framing.Named.TheVariants.{Absent, Once, Repeated}
+use Rattle.http_wire.specs.declared.framing.FieldLookup.{FieldLookup}
+use Rattle.http_wire.specs.declared.framing.FieldLookup.TheVariants.{Absent, Once, Repeated}
 
--- the two words are equal, whatever the case of their letters
-abbrev pub same_word : List ℕ → List ℕ → Bool
-same_word a b = bytes_eq (map to_ascii_lowercase a) (map to_ascii_lowercase b)
+-- the two byte strings are equal, ignoring the case of letters
+abbrev pub same_ignoring_case : List ℕ → List ℕ → Bool
+same_ignoring_case a b = bytes_eq (map to_ascii_lowercase a) (map to_ascii_lowercase b)
 
 -- the values of the fields of that name, in order
 abbrev pub values_of : List ℕ → List (List ℕ × List ℕ) → List (List ℕ)
 values_of name [] = []
 values_of name (field ∷ fields) =
-    if same_word field.0 name then field.1 ∷ values_of name fields else values_of name fields
+    if same_ignoring_case field.0 name then field.1 ∷ values_of name fields else values_of name fields
 
--- what a search for a field by its name found
-abbrev pub Found : Named → List (List ℕ) → Type 0
+-- the result of looking up a field that has these values
+abbrev pub Found : FieldLookup → List (List ℕ) → Type 0
 Found Absent values = values ≡ []
 Found (Once value) values = values ≡ value.now ∷ []
 Found Repeated values = 2 ≤ length values
@@ -31,8 +31,8 @@ is_number bytes = nat_lt 0 (length bytes) && list_all is_ascii_digit bytes
 
 -- one of the parts between commas is `close`
 unfoldable pub has_close : List ℕ → Bool
-has_close value = list_any (λ part. same_word (trim_ows part) (codes "close")) (slice_split (λ b. b == comma) value)
+has_close value = list_any (λ part. same_ignoring_case (trim_ows part) (codes "close")) (slice_split (λ b. b == comma) value)
 
--- a `Connection` field asks that the connection ends after the reply
+-- a `Connection` field asks to end the connection after the reply
 unfoldable pub asks_to_close : List (List ℕ × List ℕ) → Bool
 asks_to_close fields = list_any has_close (values_of (codes "connection") fields)

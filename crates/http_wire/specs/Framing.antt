@@ -1,29 +1,29 @@
--- What the fields of a head say of the body behind it (RFC 9112, sections 3.2 and 6.3).
+-- The framing of a body by the fields of its head (RFC 9112, sections 3.2 and 6.3).
 use Rattle.std.specs.Prelude.{ℕ, ◌==◌, nat_lt, nat_le, Bool, not, ◌&&◌, ◌||◌, if◌then◌else◌, List, [], ◌∷◌, length, codes}
 use Rattle.std.specs.Str.Parse.{digits_value}
 use Rattle.http_wire.specs.declared.framing.Framing.{Framing}
 use Rattle.http_wire.specs.declared.framing.Framing.TheVariants.{Bad, Coded, TooLong, Length, Chunked}
-use Rattle.http_wire.specs.Limits.{most_body_bytes}
-use Rattle.http_wire.specs.Fields.{same_word, values_of, is_number}
+use Rattle.http_wire.specs.Limits.{max_body_bytes}
+use Rattle.http_wire.specs.Fields.{same_ignoring_case, values_of, is_number}
 
--- HTTP/1.1 wants exactly one `Host`
+-- HTTP/1.1 requires exactly one `Host`
 unfoldable pub lacks_host : ℕ → List (List ℕ × List ℕ) → Bool
 lacks_host minor fields = (minor == 1) && not (length (values_of (codes "host") fields) == 1)
 
--- by the values of `Content-Length`: a number within the limit, or none for no body
+-- by the values of `Content-Length`: a number within the limit, or none where there is no body
 unfoldable pub length_by : List (List ℕ) → Framing
 length_by [] = Length 0
 length_by (value ∷ []) =
     if not (is_number value) then Bad
-    else if nat_le (digits_value 10 value) most_body_bytes then Length (digits_value 10 value) else TooLong
+    else if nat_le (digits_value 10 value) max_body_bytes then Length (digits_value 10 value) else TooLong
 length_by (value ∷ other ∷ more) = Bad
 
--- by the values of `Transfer-Encoding` and then those of `Content-Length`: the one coding is `chunked`, which HTTP/1.0
--- doesn't have, and no length stands beside it
+-- by the values of `Transfer-Encoding` and then of `Content-Length`: the one coding is `chunked`,
+-- which HTTP/1.0 doesn't have, and there is no length besides it
 unfoldable pub coding_by : ℕ → List (List ℕ) → List (List ℕ) → Framing
 coding_by minor [] lengths = length_by lengths
 coding_by minor (coding ∷ []) lengths =
-    if not (same_word coding (codes "chunked")) then Coded
+    if not (same_ignoring_case coding (codes "chunked")) then Coded
     else if (minor == 0) || nat_lt 0 (length lengths) then Bad else Chunked
 coding_by minor (coding ∷ other ∷ more) lengths = Coded
 

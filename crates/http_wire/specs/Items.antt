@@ -1,5 +1,6 @@
--- The items into which the bytes of a connection are cut (RFC 9112, sections 2.2, 6 and 9.3): requests, and what stands
--- in the place of one. Here the whole list of bytes is at hand, and nothing depends on the pieces that it comes in.
+-- The items that the bytes of a connection consist of (RFC 9112, sections 2.2, 6 and 9.3):
+-- requests, and what comes in place of one. Here the whole list of bytes is known, and nothing
+-- depends on how reads cut it.
 use Rattle.std.specs.Prelude.{◌≡◌, ℕ, ◌+◌, ◌-◌, ◌<◌, ◌≤◌, ◌⊎◌, ◌==◌, Bool, true, ◌||◌, List, [], ◌∷◌, ◌++◌, length, map}
 use Rattle.std.specs.Bool.{MatchBool}
 use Rattle.httparse.specs.Grammar.{RequestHead}
@@ -8,38 +9,39 @@ use Rattle.http_wire.specs.declared.framing.Framing.{Framing}
 use Rattle.http_wire.specs.declared.framing.Framing.TheVariants.{Bad, Coded, TooLong, Length, Chunked}
 use Rattle.http_wire.specs.declared.request.Field.{Field}
 use Rattle.http_wire.specs.declared.request.Request.{Request}
-use Rattle.http_wire.specs.Limits.{most_body_bytes, most_requests}
+use Rattle.http_wire.specs.Limits.{max_body_bytes, max_requests}
 use Rattle.http_wire.specs.Heads.{BeginsWithHead, HasNoHead}
 use Rattle.http_wire.specs.Fields.{asks_to_close}
 use Rattle.http_wire.specs.Framing.{framing}
 use Rattle.http_wire.specs.Chunked.{ChunkedBody, ReadsBody, HasNoBody, MayBecomeBody, PassesLimit, chunk_data}
 
--- An item: a request, or what is answered 400, 413 or 501 in the place of one.
+-- An item: a request, or what gets a 400, 413 or 501 in place of one.
 pub data Item : Type 0 where
   asks : Request → Item
   bad too_long coded : Item
 
--- the field with that name and value
+-- the field with this name and value
 abbrev pub field_of : List ℕ × List ℕ → Field
 field_of f = record { name = f.0; value = f.1 }
 
--- The request of that head and body, behind so many requests of the connection. The reply to it ends the connection where it is the last
--- that a connection may have, or of HTTP/1.0, or asks for that.
+-- The request of this head and body, after `before` requests of the connection. Its reply ends the
+-- connection if it is the last request that a connection may have, or of HTTP/1.0, or asks for
+-- that.
 abbrev pub request_of : ℕ → RequestHead → List ℕ → Request
 request_of before head body = record {
   method = head.method;
   target = head.target;
-  closes = (before == most_requests - 1) || ((head.minor == 0) || asks_to_close (map name_and_value head.fields));
+  closes = (before == max_requests - 1) || ((head.minor == 0) || asks_to_close (map name_and_value head.fields));
   fields = map field_of (map name_and_value head.fields);
   body = body;
 }
 
--- the bytes begin with that head, whose fields say this of the body, and then rest
+-- the bytes begin with this head, whose fields give this framing, and then rest
 pub record Opens (bytes : List ℕ) (head : RequestHead) (what : Framing) (rest : List ℕ) : Type 0 where
   pub begins : BeginsWithHead bytes head rest
   pub framed : framing head.minor (map name_and_value head.fields) ≡ what
 
--- behind a head of that framing stand bytes with the property
+-- after a head of this framing come bytes with the property
 pub record BehindHead (what : Framing) (bytes : List ℕ) (Behind : List ℕ → Type 0) : Type 0 where
   pub head : RequestHead
   pub rest : List ℕ
@@ -50,42 +52,44 @@ pub record BehindHead (what : Framing) (bytes : List ℕ) (Behind : List ℕ →
 abbrev pub IsFramed : Framing → List ℕ → Type 0
 IsFramed what bytes = (head : RequestHead) × (rest : List ℕ) × Opens bytes head what rest
 
--- The bytes begin with a whole request, whose body has the length that its head says, or is chunked and within the limit; and then rest.
+-- The bytes begin with a complete request, whose body has the length that its head states, or is
+-- chunked and within the limit; and then rest.
 pub data AsksFor (before : ℕ) (bytes : List ℕ) (request : Request) (rest : List ℕ) : Type 0 where
   with_length : (head : RequestHead) (body : List ℕ) → Opens bytes head (Length (length body)) (body ++ rest)
       → request ≡ request_of before head body → AsksFor before bytes request rest
   in_chunks : (head : RequestHead) (behind : List ℕ) (body : ChunkedBody) → Opens bytes head Chunked behind → ReadsBody behind body rest
-      → length (chunk_data body.chunks) ≤ most_body_bytes → request ≡ request_of before head (chunk_data body.chunks)
+      → length (chunk_data body.chunks) ≤ max_body_bytes → request ≡ request_of before head (chunk_data body.chunks)
       → AsksFor before bytes request rest
 
--- The bytes, of which there are some, are no request: there is no head, or its fields can't be taken, or its body is cut
--- short by their end, or no chunked body stands where one is due.
+-- The bytes, at least one, are no request: there is no head, or its fields are not acceptable, or
+-- its body is cut short by their end, or it should be chunked and is no chunked body.
 pub data IsBad (bytes : List ℕ) : Type 0 where
   no_head : 0 < length bytes → HasNoHead bytes → IsBad bytes
   bad_fields : IsFramed Bad bytes → IsBad bytes
   body_cut : (len : ℕ) → BehindHead (Length len) bytes (λ rest. length rest < len) → IsBad bytes
   no_body : BehindHead Chunked bytes (λ rest. HasNoBody rest × ¬ (PassesLimit rest)) → IsBad bytes
 
--- The body is beyond the limit, by its length or by the numbers of its chunks.
+-- The body is beyond the limit, by its length or by the sizes of its chunks.
 pub data IsTooLong (bytes : List ℕ) : Type 0 where
   long_body : IsFramed TooLong bytes → IsTooLong bytes
   long_chunks : BehindHead Chunked bytes PassesLimit → IsTooLong bytes
 
--- The first item of all the bytes of a connection, behind so many requests, and what stands behind it; behind an item
--- that is no request nothing is looked at.
+-- The first item of all the bytes of a connection, after `before` requests, and the bytes after
+-- it; after an item that is no request none are looked at.
 abbrev pub FirstItem : ℕ → List ℕ → Item → List ℕ → Type 0
 FirstItem before bytes (asks request) rest = AsksFor before bytes request rest
 FirstItem before bytes bad rest = IsBad bytes
 FirstItem before bytes too_long rest = IsTooLong bytes
 FirstItem before bytes coded rest = IsFramed Coded bytes
 
--- These bytes were given, and the item is the first one: however they go on, or as a read found their end.
+-- These bytes were given, and the item is the first one: whatever follows them, or because a read
+-- found their end.
 abbrev pub IsFirst : ℕ → List ℕ → Bool → Item → Type 0
 IsFirst before given ended item =
     ((more : List ℕ) → (rest : List ℕ) × FirstItem before (given ++ more) item rest)
     ⊎ ((ended ≡ true) × ((rest : List ℕ) × FirstItem before given item rest))
 
--- what stands behind two first items, where it is looked at, is the same
+-- after two equal first items the rests are equal, where they are looked at
 abbrev pub SameRest : Item → List ℕ → List ℕ → Type 0
 SameRest (asks request) rest other = rest ≡ other
 SameRest _ rest other = Unit {0}
@@ -95,16 +99,16 @@ abbrev pub ends_connection : Item → Bool
 ends_connection (asks request) = request.closes
 ends_connection _ = true
 
--- The talk of a connection's bytes, behind so many requests: the items one after the other, up to one that ends the
--- connection, or to the end of the bytes.
+-- The sequence of items of a connection's bytes, after `before` requests: one after the other, up
+-- to one that ends the connection, or to the end of the bytes.
 abbrev pub Talk : ℕ → List ℕ → List Item → Type 0
 Talk before bytes [] = bytes ≡ []
 Talk before bytes (item ∷ items) =
     (rest : List ℕ) × FirstItem before bytes item rest
     × MatchBool (ends_connection item) (items ≡ []) (Talk (before + 1) rest items)
 
--- The item lies whole at the front of these bytes, whatever follows them: a head and a body, or as much as shows that
--- there is none.
+-- The item is complete at the front of these bytes, whatever follows them: a head and a body, or
+-- enough to show that there is no request.
 abbrev pub LiesWhole : ℕ → List ℕ → Item → Type 0
 LiesWhole before bytes (asks request) = (rest : List ℕ) × AsksFor before bytes request rest
 LiesWhole before bytes bad =
@@ -112,7 +116,7 @@ LiesWhole before bytes bad =
 LiesWhole before bytes too_long = IsTooLong bytes
 LiesWhole before bytes coded = IsFramed Coded bytes
 
--- No item lies whole in these bytes: there is no head, or its body isn't whole yet.
+-- No item is complete in these bytes: there is no head, or its body isn't complete yet.
 pub data IsUnfinished (bytes : List ℕ) : Type 0 where
   lacks_head : HasNoHead bytes → IsUnfinished bytes
   lacks_body : (len : ℕ) → BehindHead (Length len) bytes (λ rest. length rest < len) → IsUnfinished bytes

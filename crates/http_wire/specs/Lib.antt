@@ -1,9 +1,9 @@
-pub mod Limits
-pub mod Heads
+pub mod Asking
+pub mod Chunked
 pub mod Fields
 pub mod Framing
-pub mod Chunked
+pub mod Heads
 pub mod Items
-pub mod Asking
+pub mod Limits
 pub mod Serving
 pub mod inner

@@ -1,25 +1,27 @@
--- Connections served by a machine (RFC 9112, sections 2.2 and 9.3). The machine is any: its states are M, what it tells of a
--- change is E, and its step says which bytes answer a request, in which state it goes on, and what it tells. `fixed` gives the
--- bytes of the reply without body that has a status and ends the connection. Of a connection only the bytes count that were
--- given on it, and whether a read found their end; so this says what was done on a real socket, too.
+-- Connections served by any machine (RFC 9112, sections 2.2 and 9.3): its states are M, the edits
+-- that it reports are E, and its step says which bytes answer a request, what the next state is,
+-- and which edit was made. `fixed` gives the bytes of the reply without body that has a status and
+-- ends the connection. Of a connection only the bytes given on it matter, and whether a read found
+-- their end; so this applies to real sockets, too.
 use Rattle.std.specs.Prelude.{◌≡◌, ℕ, ◌+◌, ◌<◌, ◌⊎◌, Bool, true, false, List, [], ◌∷◌, ◌++◌, length, take, Option, None, option_to_list}
 use Rattle.xcap_io.specs.Causes.{RoseBy}
 use Rattle.xcap_io.specs.Histories.{Traffic}
-use Rattle.http_wire.specs.declared.ended.Ended.{Ended}
-use Rattle.http_wire.specs.declared.ended.Ended.TheVariants.{Closed, ReadFailed, WriteFailed}
+use Rattle.http_wire.specs.declared.close_reason.CloseReason.{CloseReason}
+use Rattle.http_wire.specs.declared.close_reason.CloseReason.TheVariants.{Closed, ReadFailed, WriteFailed}
 use Rattle.http_wire.specs.declared.request.Request.{Request}
 use Rattle.http_wire.specs.Items.{Item, asks, bad, too_long, coded, IsFirst, AsksFor, ends_connection, IsUnfinished}
 
 module _ {M E : Type 0} (Step : M → Request → List ℕ → M → Option E → Type 0) (fixed : ℕ → List ℕ) where
-  -- How an item is answered. What is no request has a fixed reply and changes nothing.
+  -- How an item is answered. An item that is no request gets a fixed reply and changes nothing.
   abbrev pub AnswersItem : M → Item → List ℕ → M → Option E → Type 0
   AnswersItem machine (asks request) reply next edit = Step machine request reply next edit
   AnswersItem machine bad reply next edit = (reply ≡ fixed 400) × (next ≡ machine) × (edit ≡ None)
   AnswersItem machine too_long reply next edit = (reply ≡ fixed 413) × (next ≡ machine) × (edit ≡ None)
   AnswersItem machine coded reply next edit = (reply ≡ fixed 501) × (next ≡ machine) × (edit ≡ None)
 
-  -- The bytes, behind so many requests, begin with these requests, none of which ends the connection, and then rest. The
-  -- machine answers them one after the other; the replies are joined, and the changes told are in order.
+  -- The bytes, after `before` requests, begin with these requests, none of which ends the
+  -- connection, and then rest. The machine answers them one after the other; the replies are
+  -- joined, and the edits are in order.
   abbrev pub Run : ℕ → M → List ℕ → List Request → List ℕ → List E → M → List ℕ → Type 0
   Run before machine bytes [] written edits next rest =
       (written ≡ []) × (edits ≡ []) × (next ≡ machine) × (bytes ≡ rest)
@@ -29,9 +31,10 @@ module _ {M E : Type 0} (Step : M → Request → List ℕ → M → Option E �
       × (written ≡ reply ++ more) × (edits ≡ option_to_list edit ++ later)
       × Run (before + 1) mid behind requests more later next rest
 
-  -- How a connection that was closed ends, behind so many requests, by the bytes given behind them and whether a read found
-  -- the end: with no further reply, where no byte was given and the end was found; with the reply to an item that ends it; or
-  -- in the place of a request with the fixed 503, which stands for want of memory and changes nothing.
+  -- How a connection that was closed ends, after `before` requests, by the bytes given after them
+  -- and whether a read found the end: with no further reply, where no byte was given and the end
+  -- was found; with the reply to an item that ends it; or with the fixed 503 in place of a
+  -- request, which means out of memory and changes nothing.
   pub data Closes (before : ℕ) (machine : M) (given : List ℕ) (ended : Bool) (reply : List ℕ) (next : M) (edit : Option E) : Type 0 where
     no_more : given ≡ [] → ended ≡ true → reply ≡ [] → next ≡ machine → edit ≡ None
         → Closes before machine given ended reply next edit
@@ -40,16 +43,17 @@ module _ {M E : Type 0} (Step : M → Request → List ℕ → M → Option E �
     no_memory : (request : Request) (rest : List ℕ) → AsksFor before given request rest → reply ≡ fixed 503
         → next ≡ machine → edit ≡ None → Closes before machine given ended reply next edit
 
-  -- A request that keeps the connection is answered.
+  -- A request that keeps the connection open is answered.
   pub record GoesOn (before : ℕ) (machine : M) (bytes reply : List ℕ) (next : M) (edit : Option E) (rest : List ℕ) : Type 0 where
     pub request : Request
     pub asked : AsksFor before bytes request rest
     pub stays : request.closes ≡ false
     pub step : Step machine request reply next edit
 
-  -- How a connection ends behind so many requests, by the bytes given behind them, and what is written then. Where a read
-  -- failed, no item lies whole in these. A failed write leaves a proper prefix of a reply, and the item has had its effect.
-  abbrev pub EndsBy : Ended → ℕ → M → List ℕ → Bool → List ℕ → M → Option E → Type 0
+  -- How a connection ends after `before` requests, by the bytes given after them, and what is
+  -- written then. Where a read failed, no item is complete in these bytes. A failed write leaves a
+  -- proper prefix of a reply, and the item has had its effect.
+  abbrev pub EndsBy : CloseReason → ℕ → M → List ℕ → Bool → List ℕ → M → Option E → Type 0
   EndsBy Closed before machine given ended written next edit = Closes before machine given ended written next edit
   EndsBy ReadFailed before machine given ended written next edit =
       IsUnfinished given × (written ≡ []) × (next ≡ machine) × (edit ≡ None)
@@ -57,9 +61,10 @@ module _ {M E : Type 0} (Step : M → Request → List ℕ → M → Option E �
       (reply : List ℕ) × (n : ℕ) × (n < length reply) × (written ≡ take n reply)
       × (Closes before machine given ended reply next edit ⊎ ((rest : List ℕ) × GoesOn before machine given reply next edit rest))
 
-  -- One connection, over which this passed: requests at the front of the bytes given, after which it went on, and then what
-  -- ended it. The replies to these items, one after the other, are the bytes taken, and their changes all that was told.
-  pub record Serves (ending : Ended) (machine : M) (passed : Traffic) (next : M) (edits : List E) : Type 0 where
+  -- One connection with this traffic: requests at the front of the bytes given, after which it
+  -- went on, and then what ended it. The replies to these items, one after the other, are the
+  -- bytes written, and their edits are all that were reported.
+  pub record Serves (ending : CloseReason) (machine : M) (passed : Traffic) (next : M) (edits : List E) : Type 0 where
     pub requests : List Request
     pub replies : List ℕ
     pub early : List E
@@ -72,54 +77,54 @@ module _ {M E : Type 0} (Step : M → Request → List ℕ → M → Option E �
     pub wrote : passed.taken ≡ replies ++ last
     pub all_told : edits ≡ early ++ option_to_list edit
 
-  -- Connections over which this passed, served one after the other, each from the state that the one before left: how each
-  -- ended, and all changes told.
-  abbrev pub ServesEach : M → List Traffic → List Ended → M → List E → Type 0
+  -- Connections with this traffic, served one after the other, each from the state that the one
+  -- before left: how each ended, and all edits.
+  abbrev pub ServesEach : M → List Traffic → List CloseReason → M → List E → Type 0
   ServesEach machine [] endings next edits = (endings ≡ []) × (next ≡ machine) × (edits ≡ [])
   ServesEach machine (passed ∷ connections) endings next edits =
-      (ending : Ended) × (others : List Ended) × (mid : M) × (first : List E) × (later : List E)
+      (ending : CloseReason) × (others : List CloseReason) × (mid : M) × (first : List E) × (later : List E)
       × (endings ≡ ending ∷ others) × (edits ≡ first ++ later)
       × Serves ending machine passed mid first
       × ServesEach mid connections others next later
 
--- These are all bytes of a connection over which this passed: those given, and those left, of which there are none where a
--- read found the end.
+-- These are all bytes of a connection with this traffic: those given, and those left, of which
+-- there are none where a read found the end.
 abbrev pub HasBytes : List ℕ → Traffic → Type 0
 HasBytes bytes passed = (left : List ℕ) × (bytes ≡ passed.given ++ left) × (passed.ended ≡ true → left ≡ [])
 
--- the same of each of some connections
+-- each list has all bytes of the connection at its place
 abbrev pub HaveBytes : List (List ℕ) → List Traffic → Type 0
 HaveBytes [] [] = Unit {0}
 HaveBytes (bytes ∷ all) (passed ∷ connections) = HasBytes bytes passed × HaveBytes all connections
 HaveBytes all connections = ⊥
 
--- what counts of a connection with these bytes that ended so: all of them, as if they had been given and the end been found;
--- where a read failed, those given alone
-abbrev pub counted : Ended → List ℕ → Traffic → Traffic
+-- the traffic that counts for a connection with these bytes that ended so: all bytes, as if they
+-- had been given and the end been found; where a read failed, the bytes given alone
+abbrev pub counted : CloseReason → List ℕ → Traffic → Traffic
 counted ReadFailed bytes passed = passed
 counted _ bytes passed = record passed { given = bytes; ended = true }
 
--- the same of each of some connections
-abbrev pub counted_each : List Traffic → List (List ℕ) → List Ended → List Traffic
+-- the traffic that counts for each connection
+abbrev pub counted_each : List Traffic → List (List ℕ) → List CloseReason → List Traffic
 counted_each [] all endings = []
 counted_each (passed ∷ connections) [] endings = passed ∷ connections
 counted_each (passed ∷ connections) (bytes ∷ all) [] = passed ∷ connections
 counted_each (passed ∷ connections) (bytes ∷ all) (ending ∷ endings) = counted ending bytes passed ∷ counted_each connections all endings
 
--- how many connections ended that way
-abbrev pub read_failures : List Ended → ℕ
+-- how many connections ended with a failed read
+abbrev pub read_failures : List CloseReason → ℕ
 read_failures [] = 0
 read_failures (ReadFailed ∷ endings) = read_failures endings + 1
 read_failures (_ ∷ endings) = read_failures endings
 
-abbrev pub write_failures : List Ended → ℕ
+abbrev pub write_failures : List CloseReason → ℕ
 write_failures [] = 0
 write_failures (WriteFailed ∷ endings) = write_failures endings + 1
 write_failures (_ ∷ endings) = write_failures endings
 
 -- All connections, where each failure is one of the reads or writes that failed.
 pub record ServesAll {M E : Type 0} (Step : M → Request → List ℕ → M → Option E → Type 0) (fixed : ℕ → List ℕ) (machine : M) (connections : List Traffic) (next : M) (edits : List E) (reads reads' writes writes' : ℕ) : Type 0 where
-  pub endings : List Ended
+  pub endings : List CloseReason
   pub each : ServesEach Step fixed machine connections endings next edits
   pub read_bound : RoseBy (read_failures endings) reads reads'
   pub write_bound : RoseBy (write_failures endings) writes writes'

@@ -1,92 +1,97 @@
-// What the fields of a head say of the body behind it, and of the connection (RFC 9112, sections 3.2, 6.3 and 9.6).
+// What a head's fields say about its body and the connection (RFC 9112, sections 3.2, 6.3 and
+// 9.6).
 ghost use Rattle.std.specs.Prelude.{◌≡◌, ◌+◌, ◌==◌, ◌||◌, ℕ, List, [], ◌∷◌, ◌++◌, min, All, map, length, reverse, Some, None, nat_lt, not, codes, if◌then◌else◌};
 ghost use Rattle.std.specs.Str.Parse.{digits_value};
 ghost use Rattle.httparse.specs.Grammar.{skip_ows, trim_ows};
 ghost use Rattle.httparse.specs.Spans.{IsHeaderWithin, header_bytes};
-ghost use Rattle.http_wire.specs.Fields.{same_word, values_of, is_number, has_close, asks_to_close, Found};
+ghost use Rattle.http_wire.specs.Fields.{same_ignoring_case, values_of, is_number, has_close, asks_to_close, Found};
 ghost use Rattle.http_wire.specs.Framing.{lacks_host, length_by, coding_by, framing};
-ghost use Rattle.http_wire.specs.inner.Inflow.{IsWithinLimit};
+ghost use Rattle.http_wire.specs.inner.ReadBuffer.{IsWithinLimit};
 
 use crate::limits::MAX_BODY;
 use httparse::is_space_or_tab;
 use httparse::spans::HeaderSpan;
 
-/// What the fields of a head say of the body behind it.
+/// The framing of a body, by the fields of its head.
 #[derive(Clone, Copy, PartialEq, Eq)]
 pub enum Framing {
-    /// They can't be taken as they stand.
+    /// The fields are not acceptable.
     Bad,
-    /// A transfer coding that this server doesn't have.
+    /// A transfer coding other than `chunked`.
     Coded,
     /// A length beyond the limit.
     TooLong,
-    /// A body of so many bytes.
+    /// A body of this many bytes.
     Length(usize),
     /// A chunked body.
     Chunked,
 }
 
-/// The fields of one name in a head.
+/// The result of looking up a field by name.
 #[derive(Clone, Copy)]
-pub enum Named<'b> {
-    /// There is none.
+pub enum FieldLookup<'b> {
+    /// No field has the name.
     Absent,
-    /// There is one, with this value.
+    /// One field has the name, with this value.
     Once(&'b [u8]),
-    /// There are more.
+    /// Several fields have the name.
     Repeated,
 }
 
-/// Whether two words are equal, whatever the case of their letters.
-pub fn is_same_word(a: &[u8], b: &[u8]) -> bool
-    ensures tells_whether_they_are_one_word { result ≡ same_word a.now b.now }
+/// Whether two byte strings are equal, ignoring the case of ASCII letters.
+pub fn is_same_ignoring_case(a: &[u8], b: &[u8]) -> bool
+    ensures exact { result ≡ same_ignoring_case a.now b.now }
 {
     a.eq_ignore_ascii_case(b)
 }
 
-impl<'b> Named<'b> {
-    fn and(self, value: &'b [u8]) -> Named<'b>
+impl<'b> FieldLookup<'b> {
+    fn and(self, value: &'b [u8]) -> FieldLookup<'b>
         ensures finds_one_more { (values : List (List ℕ)) → Found self.entry values
             → Found result (values ++ value.now ∷ []) }
     {
         match self {
-            Named::Absent => Named::Once(value),
-            _ => Named::Repeated,
+            FieldLookup::Absent => FieldLookup::Once(value),
+            _ => FieldLookup::Repeated,
         }
     }
 
     fn is_absent(self) -> bool
-        ensures tells_whether_none_was_found { (values : List (List ℕ)) → Found self.entry values
+        ensures none_found_iff { (values : List (List ℕ)) → Found self.entry values
             → result ≡ not (nat_lt 0 (length values)) }
     {
-        matches!(self, Named::Absent)
+        matches!(self, FieldLookup::Absent)
     }
 
     fn is_once(self) -> bool
-        ensures tells_whether_one_was_found { (values : List (List ℕ)) → Found self.entry values
+        ensures one_found_iff { (values : List (List ℕ)) → Found self.entry values
             → result ≡ (length values == 1) }
     {
-        matches!(self, Named::Once(_))
+        matches!(self, FieldLookup::Once(_))
     }
 }
 
-/// What the fields of this name are among the headers of a head, whatever the case of their letters (RFC 9110, section 5.1).
-pub fn find<'b>(buf: &'b [u8], headers: &[HeaderSpan], name: &[u8]) -> Named<'b>
+/// Looks up the field of this name among the headers of a head, ignoring the case of letters (RFC
+/// 9110, section 5.1).
+pub fn find<'b>(buf: &'b [u8], headers: &[HeaderSpan], name: &[u8]) -> FieldLookup<'b>
     requires { All (IsHeaderWithin (length buf.now)) headers.now }
-    ensures finds_the_values_of_the_name { Found result (values_of name.now (map (header_bytes buf.now) headers.now)) }
+    ensures finds_values { Found result
+        (values_of name.now (map (header_bytes buf.now) headers.now)) }
 {
-    let mut found = Named::Absent;
+    let mut found = FieldLookup::Absent;
     'fields: for header in headers {
-        if is_same_word(header.name.of(buf), name) {
+        if is_same_ignoring_case(header.name.of(buf), name) {
             found = found.and(header.value.of(buf));
         }
     }
     found
 }
 
-// The number that digits write, or the first number beyond the limit where it is greater.
+// The number that digits write, or the limit plus 1 where it is greater; None if they are not all
+// digits.
 fn capped_number(digits: &[u8]) -> Option<usize>
-    ensures caps_the_number { result ≡ (if is_number digits.now then Some (min (digits_value 10 digits.now) 262_145) else None) }
+    ensures exact { result
+        ≡ (if is_number digits.now then Some (min (digits_value 10 digits.now) 262_145) else None) }
 {
     if digits.is_empty() {
         return None;
@@ -103,8 +108,8 @@ fn capped_number(digits: &[u8]) -> Option<usize>
 
 #[tactic(auto, unfolding(crate::specs::Framing::length_by))]
 fn length_of(value: &[u8]) -> Framing
-    ensures framing_by_the_fields { result ≡ length_by (value.now ∷ []) }
-    ensures within_the_limit { IsWithinLimit result }
+    ensures fields_framing { result ≡ length_by (value.now ∷ []) }
+    ensures at_most_limit { IsWithinLimit result }
 {
     match capped_number(value) {
         None => Framing::Bad,
@@ -116,44 +121,45 @@ fn length_of(value: &[u8]) -> Framing
 #[tactic(auto, unfolding(crate::specs::Framing::lacks_host))]
 fn lacks_host(buf: &[u8], headers: &[HeaderSpan], version: u8) -> bool
     requires { All (IsHeaderWithin (length buf.now)) headers.now }
-    ensures tells_whether_the_host_is_missing { result ≡ lacks_host version (map (header_bytes buf.now) headers.now) }
+    ensures exact { result ≡ lacks_host version (map (header_bytes buf.now) headers.now) }
 {
     version == 1 && !find(buf, headers, b"host").is_once()
 }
 
 #[tactic(auto, unfolding(crate::specs::Framing::length_by))]
-fn framing_by_length(lengths: Named) -> Framing
-    ensures within_the_limit { IsWithinLimit result }
-    ensures framing_by_the_fields { (values : List (List ℕ)) → Found lengths.entry values → result ≡ length_by values }
+fn framing_by_length(lengths: FieldLookup) -> Framing
+    ensures at_most_limit { IsWithinLimit result }
+    ensures fields_framing { (values : List (List ℕ)) → Found lengths.entry values
+        → result ≡ length_by values }
 {
     match lengths {
-        Named::Absent => Framing::Length(0),
-        Named::Once(value) => length_of(value),
-        Named::Repeated => Framing::Bad,
+        FieldLookup::Absent => Framing::Length(0),
+        FieldLookup::Once(value) => length_of(value),
+        FieldLookup::Repeated => Framing::Bad,
     }
 }
 
 #[tactic(auto, unfolding(crate::specs::Framing::coding_by))]
-fn framing_by_coding(version: u8, codings: Named, lengths: Named) -> Framing
-    ensures within_the_limit { IsWithinLimit result }
-    ensures framing_by_the_fields { (coded values : List (List ℕ)) → Found codings.entry coded
+fn framing_by_coding(version: u8, codings: FieldLookup, lengths: FieldLookup) -> Framing
+    ensures at_most_limit { IsWithinLimit result }
+    ensures fields_framing { (coded values : List (List ℕ)) → Found codings.entry coded
         → Found lengths.entry values → result ≡ coding_by version coded values }
 {
     match codings {
-        Named::Absent => framing_by_length(lengths),
-        Named::Once(coding) if !is_same_word(coding, b"chunked") => Framing::Coded,
-        Named::Once(_) if version == 0 || !lengths.is_absent() => Framing::Bad,
-        Named::Once(_) => Framing::Chunked,
-        Named::Repeated => Framing::Coded,
+        FieldLookup::Absent => framing_by_length(lengths),
+        FieldLookup::Once(coding) if !is_same_ignoring_case(coding, b"chunked") => Framing::Coded,
+        FieldLookup::Once(_) if version == 0 || !lengths.is_absent() => Framing::Bad,
+        FieldLookup::Once(_) => Framing::Chunked,
+        FieldLookup::Repeated => Framing::Coded,
     }
 }
 
-// What the fields say of the body, by the minor version of HTTP.
+// The framing of the body, by the minor version of HTTP.
 #[tactic(auto, unfolding(crate::specs::Framing::framing))]
 pub fn read_framing(buf: &[u8], headers: &[HeaderSpan], version: u8) -> Framing
     requires { All (IsHeaderWithin (length buf.now)) headers.now }
-    ensures within_the_limit { IsWithinLimit result }
-    ensures framing_by_the_fields { result ≡ framing version (map (header_bytes buf.now) headers.now) }
+    ensures at_most_limit { IsWithinLimit result }
+    ensures fields_framing { result ≡ framing version (map (header_bytes buf.now) headers.now) }
 {
     if lacks_host(buf, headers, version) {
         return Framing::Bad;
@@ -163,9 +169,9 @@ pub fn read_framing(buf: &[u8], headers: &[HeaderSpan], version: u8) -> Framing
     framing_by_coding(version, codings, lengths)
 }
 
-/// What is left of some bytes without the blanks in front.
+/// The bytes without leading spaces and tabs.
 pub fn trim_start(mut bytes: &[u8]) -> &[u8]
-    ensures trims_the_start { result.now ≡ skip_ows bytes.now }
+    ensures exact { result.now ≡ skip_ows bytes.now }
 {
     'blanks: while let [first, rest @ ..] = bytes
         && is_space_or_tab(*first)
@@ -175,9 +181,9 @@ pub fn trim_start(mut bytes: &[u8]) -> &[u8]
     bytes
 }
 
-/// The same without those at the end.
+/// The bytes without trailing spaces and tabs.
 pub fn trim_end(mut bytes: &[u8]) -> &[u8]
-    ensures trims_the_end { result.now ≡ reverse (skip_ows (reverse bytes.now)) }
+    ensures exact { result.now ≡ reverse (skip_ows (reverse bytes.now)) }
 {
     'blanks: while let [rest @ .., last] = bytes
         && is_space_or_tab(*last)
@@ -189,26 +195,28 @@ pub fn trim_end(mut bytes: &[u8]) -> &[u8]
 
 #[tactic(auto, unfolding(httparse::specs::Grammar::trim_ows))]
 fn is_close(part: &[u8]) -> bool
-    ensures tells_whether_it_is_close { result ≡ same_word (trim_ows part.now) (codes "close") }
+    ensures exact { result ≡ same_ignoring_case (trim_ows part.now) (codes "close") }
 {
-    is_same_word(trim_end(trim_start(part)), b"close")
+    is_same_ignoring_case(trim_end(trim_start(part)), b"close")
 }
 
 #[tactic(auto, unfolding(crate::specs::Fields::has_close))]
 fn has_close(value: &[u8]) -> bool
-    ensures tells_whether_one_is_close { result ≡ has_close value.now }
+    ensures exact { result ≡ has_close value.now }
 {
     value.split(|b| *b == b',').any(|part| is_close(part))
 }
 
-// A `Connection` field asks that the connection ends.
+// Whether a `Connection` field asks to end the connection.
 #[tactic(auto, unfolding(crate::specs::Fields::asks_to_close))]
 pub fn asks_to_close(buf: &[u8], headers: &[HeaderSpan]) -> bool
     requires { All (IsHeaderWithin (length buf.now)) headers.now }
-    ensures tells_whether_it_asks_to_close { result ≡ asks_to_close (map (header_bytes buf.now) headers.now) }
+    ensures exact { result ≡ asks_to_close (map (header_bytes buf.now) headers.now) }
 {
     'fields: for header in headers {
-        if is_same_word(header.name.of(buf), b"connection") && has_close(header.value.of(buf)) {
+        if is_same_ignoring_case(header.name.of(buf), b"connection")
+            && has_close(header.value.of(buf))
+        {
             return true;
         }
     }

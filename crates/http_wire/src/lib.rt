@@ -1,26 +1,30 @@
-//! Requests of a connection, read from its bytes however they are cut, and replies written to it.
-//! Upward it promises: each answer is the next item of the connection's bytes, and a fault comes only with its count.
-//! HTTP/1.1 by RFC 9112, with the fields of RFC 9110.
+//! The requests of a connection, read from its bytes however they are cut into reads, and the
+//! replies written to it. Upward: `next_request` returns the first item of the connection's bytes
+//! (`Asks`, `IsNext`, `FirstItem`), and a read or write fails only if its fault counter rose; the
+//! laws say that the bytes have one sequence of items (`Talk`) and that bytes given so far decide.
+//! The limits are in `limits`. HTTP/1.1 by RFC 9112, with the fields of RFC 9110.
+//! A chunked body is decoded as it comes, into a second buffer, so nothing is copied until the
+//! request is whole. Chunk lines have a grammar of this crate's own.
 #![tactic(auto)]
 
-mod chunks;
-mod decoding;
-mod ended;
+mod body_decoder;
+mod chunk_decoder;
+mod close_reason;
 mod framing;
-mod heads;
+mod head_scan;
 mod laws;
 mod limits;
-mod replies;
+mod reply_writer;
 mod request;
-mod requests;
-mod wire;
+mod request_reader;
+mod request_sequence;
 
-pub use ended::Ended;
-// Fields found by their names, and words and blanks, by which the values of other fields are told too.
-pub use framing::{Named, find, is_same_word, trim_end, trim_start};
-pub use laws::{bytes_have_one_talk, given_bytes_decide, whole_items_stay};
+pub use close_reason::CloseReason;
+// Lookup of fields by name, and comparing and trimming, which readers of other fields use too.
+pub use framing::{FieldLookup, find, is_same_ignoring_case, trim_end, trim_start};
+pub use laws::{bytes_have_one_item_sequence, given_bytes_decide, whole_items_stay};
 pub use limits::{MAX_BODY, MAX_FIELDS, MAX_HEAD, MAX_REQUESTS};
-pub use replies::{write_reply, write_reply_through};
+pub use reply_writer::{write_reply, write_reply_through};
 pub use request::{Asked, Field, Request, token_text};
-pub use requests::next_request;
-pub use wire::{ReadFault, Wire};
+pub use request_reader::{ReadFault, RequestReader};
+pub use request_sequence::next_request;

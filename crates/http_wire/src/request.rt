@@ -1,4 +1,4 @@
-// A request, and what may stand in the place of one.
+// A request, and what may come in place of one.
 ghost use Rattle.std.specs.Prelude.{◌≡◌, ◌==◌, ◌||◌, All, IfOk, length, map, take};
 ghost use Rattle.httparse.specs.Spans.{IsHeaderWithin, IsRequestWithin, header_bytes, span_bytes};
 ghost use Rattle.http_wire.specs.Fields.{asks_to_close};
@@ -11,8 +11,8 @@ use std::alloc::Global;
 use xcap_io::{Bytes, NoMemory};
 use xml_tree::{List, Text};
 
-/// A field line of a head (RFC 9110, section 5): the name as it was spelled, and the value without the spaces and tabs at
-/// its ends.
+/// A field line of a head (RFC 9110, section 5): the name as it was spelled, and the value without
+/// spaces and tabs at its ends.
 #[derive(Drop)]
 pub struct Field {
     pub name: Text,
@@ -23,37 +23,37 @@ pub struct Field {
 #[derive(Drop)]
 pub struct Request {
     pub method: Text,
-    /// The target as it was sent, escapes and all.
+    /// The target as it was sent, with its escapes.
     pub target: Bytes,
     /// The connection ends after the reply.
     pub closes: bool,
     pub fields: List<Field>,
-    /// The body: of a chunked one the bytes of its chunks, joined.
+    /// The body; of a chunked one, the data of its chunks, joined.
     pub body: Bytes,
 }
 
-/// What stands next in the bytes of a connection.
+/// The next request of a connection, or why there is none.
 #[derive(Drop)]
 pub enum Asked {
     Request(Request),
-    /// No request of HTTP/1.1 as this server takes it: 400.
+    /// Not an acceptable request of HTTP/1.1: 400.
     Bad,
     /// A body beyond the limit: 413.
     TooLong,
-    /// A transfer coding that this server doesn't have: 501.
+    /// A transfer coding other than `chunked`: 501.
     Coded,
-    /// Nothing is left, or the wire is spent.
+    /// Nothing is left, or the reader is spent.
     End,
-    /// A request, but memory ran out before it was whole.
+    /// A request, but memory ran out before it was complete.
     NoMemory,
 }
 
 /// The text of a token, which is ASCII, so that its characters are its bytes.
 ///
 /// # Errors
-/// Want of memory alone.
+/// Out of memory, and nothing else.
 pub fn token_text(alloc: Global, token: &[u8]) -> Result<Text, NoMemory>
-    ensures characters_of_the_token { IfOk result (λ text. text ≡ token.now) }
+    ensures ok { IfOk result (λ text. text ≡ token.now) }
 {
     let mut text = Text::own(String::new(alloc));
     'token: for byte in token {
@@ -64,7 +64,8 @@ pub fn token_text(alloc: Global, token: &[u8]) -> Result<Text, NoMemory>
 
 fn fields_of(alloc: Global, bytes: &[u8], headers: &[HeaderSpan]) -> Result<List<Field>, NoMemory>
     requires { All (IsHeaderWithin (length bytes.now)) headers.now }
-    ensures fields_of_the_headers { IfOk result (λ fields. fields ≡ map field_of (map (header_bytes bytes.now) headers.now)) }
+    ensures ok { IfOk result
+        (λ fields. fields ≡ map field_of (map (header_bytes bytes.now) headers.now)) }
 {
     let mut fields = List::empty(alloc);
     'fields: for header in headers {
@@ -75,7 +76,8 @@ fn fields_of(alloc: Global, bytes: &[u8], headers: &[HeaderSpan]) -> Result<List
     Ok(fields)
 }
 
-// The request whose head the spans cover, with that body, behind so many requests.
+// Builds the request of the head that the spans cover and this body, after `before` earlier
+// requests of the connection.
 pub fn make_request(
     alloc: Global,
     bytes: &[u8],
@@ -85,12 +87,17 @@ pub fn make_request(
     before: usize,
 ) -> Result<Request, NoMemory>
     requires { IsRequestWithin bytes.now headers.now spans.now }
-    ensures has_the_method { IfOk result (λ request. request.method ≡ span_bytes bytes.now spans.now.method) }
-    ensures has_the_target { IfOk result (λ request. request.target ≡ span_bytes bytes.now spans.now.path) }
-    ensures closes_as_it_asks { IfOk result (λ request. request.closes ≡ ((before == 999) || ((spans.now.version == 0)
+    ensures method_of_head { IfOk result
+        (λ request. request.method ≡ span_bytes bytes.now spans.now.method) }
+    ensures target_of_head { IfOk result
+        (λ request. request.target ≡ span_bytes bytes.now spans.now.path) }
+    ensures closes_as_asked { IfOk result
+        (λ request. request.closes ≡ ((before == 999) || ((spans.now.version == 0)
         || asks_to_close (map (header_bytes bytes.now) (take spans.now.headers headers.now))))) }
-    ensures has_the_fields { IfOk result (λ request. request.fields ≡ map field_of (map (header_bytes bytes.now) (take spans.now.headers headers.now))) }
-    ensures has_the_body { IfOk result (λ request. request.body ≡ body.now) }
+    ensures fields_of_head { IfOk result
+        (λ request. request.fields
+        ≡ map field_of (map (header_bytes bytes.now) (take spans.now.headers headers.now))) }
+    ensures given_body { IfOk result (λ request. request.body ≡ body.now) }
 {
     let fields = &headers[..spans.headers];
     let closes = before == MAX_REQUESTS - 1 || spans.version == 0 || asks_to_close(bytes, fields);

@@ -1,15 +1,15 @@
--- What was gathered of a walk is its flat list.
+-- What was collected of a walk is its flat list.
 use Rattle.std.proofs.Common.{◌≡◌, ◌≤◌, ◌<◌, ◌+◌, ℕ, true, false, nat_lt, cond, List, [], ◌∷◌, fold, filter_map, count_by, Result, Ok, Err, IsErrAnd, subst, refl, sym, ap, ◌∙◌, arith}
 use Rattle.std.proofs.lemmas.Grind.{common_steps}
 use Rattle.list_resolve.specs.declared.fault.FlatFault.TheVariants.{NoService, TooWide, TooLarge}
 use Rattle.xml_tree.specs.declared.read_error.ReadError.TheVariants.{Fault, NoMemory}
 use Rattle.xml_tree.specs.Memory.{Answered}
 use Rattle.list_resolve.specs.Walks.{Item, address, mark}
-use Rattle.list_resolve.specs.declared.gatherer.TheConstants.{MARK_LIMIT}
+use Rattle.list_resolve.specs.declared.uri_collector.TheConstants.{MARK_LIMIT}
 use Rattle.list_resolve.specs.Flat.{item_address, is_mark, with_address, flat_of}
 use Rattle.list_resolve.specs.inner.Gathering.{FlatError, Tally, Fails, no_items, with_item, with_items}
 
--- the addresses of a walk, in order, and how many references it came by
+-- the addresses of a walk, in order, and the number of references that it met
 abbrev addresses : List Item → List (List ℕ)
 addresses items = filter_map item_address items
 

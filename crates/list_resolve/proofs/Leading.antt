@@ -1,10 +1,10 @@
--- Where references lead: each to one place at most, where the element is found again.
+-- Where references lead: each to at most one place, where the element is found again.
 use Rattle.std.proofs.Common.{◌≡◌, ℕ, Bool, true, false, cond, ◌&&◌, List, Option, None, Some, IfSome, Result, Ok, Err, option_and_then, option_map, encode_utf8_all, if◌then◌else◌, refl, sym, ap, ◌∙◌, subst}
 use Rattle.std.proofs.lemmas.Bool.{and_parts}
 use Rattle.xml_tree.specs.Tree.{Tree}
 use Rattle.node_select.specs.Selection.{selected_in}
 use Rattle.node_select.specs.declared.selector.Selector.{Selector}
-use Rattle.doc_names.specs.Same.{same_auid, same_home}
+use Rattle.doc_names.specs.Equality.{same_auid, same_home}
 use Rattle.doc_names.specs.declared.doc_id.Auid.TheVariants.{ResourceLists}
 use Rattle.doc_names.specs.declared.doc_id.Home.{Home}
 use Rattle.doc_names.specs.declared.doc_id.DocId.{DocId}
@@ -14,68 +14,68 @@ use Rattle.std.specs.Cmp.Lexicographic.{bytes_decides}
 use Rattle.xml_tree.specs.Memory.{Answered}
 use Rattle.xml_tree.specs.declared.read_error.ReadError.{ReadError}
 use Rattle.xml_tree.specs.declared.read_error.ReadError.TheVariants.{Fault}
-use Rattle.xcap_uri.specs.Targets.{TargetAnswer, is_element}
+use Rattle.xcap_uri.specs.Targets.{TargetResult, is_element}
 use Rattle.xcap_uri.specs.declared.fault.UriFault.{UriFault}
 use Rattle.xcap_uri.specs.declared.target.Target.{Target}
 use Rattle.xcap_uri.specs.declared.target.Target.TheVariants.{Document, Node, Deep, Feed, ElementFeed, Flat}
 use Rattle.xcap_uri.proofs.TargetAnswers.{one_target, some_target}
-use Rattle.list_resolve.specs.declared.place.Place.{Place}
-use Rattle.list_resolve.specs.declared.reference.Wanted.{Wanted}
+use Rattle.list_resolve.specs.declared.document_place.Place.{Place}
+use Rattle.list_resolve.specs.declared.reference.ReferenceTarget.{ReferenceTarget}
 use Rattle.list_resolve.specs.declared.reference.Reference.{Reference}
 use Rattle.list_resolve.specs.References.{is_wanted}
-use Rattle.list_resolve.specs.Spots.{Spot, list_spot}
-use Rattle.list_resolve.specs.Leads.{Ground, Lead, AreLeads, is_own, lead_at, lead_of, tree_held}
-use Rattle.list_resolve.specs.declared.leads.Lead.{Lead as CodeLead}
-use Rattle.list_resolve.specs.inner.Views.{lead_in, spot_in}
-use Rattle.list_resolve.specs.inner.Passing.{leads_in, lists_named, spot_at, target_meant}
+use Rattle.list_resolve.specs.ScopedElements.{ScopedElement, list_element}
+use Rattle.list_resolve.specs.Resolution.{ResolutionContext, ResolvedReference, AreLeads, is_own, lead_at, lead_of, tree_held}
+use Rattle.list_resolve.specs.declared.resolution.ResolvedReference.{ResolvedReference as CodeLead}
+use Rattle.list_resolve.specs.inner.Views.{lead_in, scoped_element_in}
+use Rattle.list_resolve.specs.inner.SkippedElements.{reference_resolved_in, lists_named, scoped_element_at, target_meant}
 
--- ---- by the one answer of a target
+-- ---- by the only result of a target
 
--- what a target means is the one answer that it has
-pub meant : (root target : List ℕ) (read : Result Target UriFault) → TargetAnswer root (encode_utf8_all target) read → read ≡ target_meant root target
+-- the meaning of a target is the only result that it has
+pub meant : (root target : List ℕ) (read : Result Target UriFault) → TargetResult root (encode_utf8_all target) read → read ≡ target_meant root target
 unfolding target_meant
 meant root target read is = one_target root (encode_utf8_all target) read (some_target root (encode_utf8_all target)).0 is (some_target root (encode_utf8_all target)).1
 
-pub led : (g : Ground) (r : Reference) (read : Result Target UriFault) → TargetAnswer g.root (encode_utf8_all r.target) read → lead_of g r.wanted read ≡ leads_in g r
+pub led : (g : ResolutionContext) (r : Reference) (read : Result Target UriFault) → TargetResult g.root (encode_utf8_all r.target) read → lead_of g r.wanted read ≡ reference_resolved_in g r
 led g r read is = ap (lead_of g r.wanted) (meant g.root r.target read is)
 
-is_meant : (root target : List ℕ) → TargetAnswer root (encode_utf8_all target) (target_meant root target)
+is_meant : (root target : List ℕ) → TargetResult root (encode_utf8_all target) (target_meant root target)
 unfolding target_meant
 is_meant root target = (some_target root (encode_utf8_all target)).1
 
-pub are_leads : (g : Ground) → AreLeads g (leads_in g)
+pub are_leads : (g : ResolutionContext) → AreLeads g (reference_resolved_in g)
 are_leads g = λ r. (target_meant g.root r.target, is_meant g.root r.target, refl)
 
-one_lead : (g : Ground) (r : Reference) (found : Option Lead) → ((read : Result Target UriFault) × TargetAnswer g.root (encode_utf8_all r.target) read × (found ≡ lead_of g r.wanted read)) → found ≡ leads_in g r
+one_lead : (g : ResolutionContext) (r : Reference) (found : Option ResolvedReference) → ((read : Result Target UriFault) × TargetResult g.root (encode_utf8_all r.target) read × (found ≡ lead_of g r.wanted read)) → found ≡ reference_resolved_in g r
 one_lead g r found (read, is, e) = e ∙ led g r read is
 
 -- there is one map of all references
-pub one_map : (g : Ground) (leads : Reference → Option Lead) → AreLeads g leads → leads ≡ leads_in g
-one_map g leads are = λ i r. one_lead g r (leads r) (are r) i
+pub one_map : (g : ResolutionContext) (resolve_reference : Reference → Option ResolvedReference) → AreLeads g resolve_reference → resolve_reference ≡ reference_resolved_in g
+one_map g resolve_reference are = λ i r. one_lead g r (resolve_reference r) (are r) i
 
-pub target_led : (g : Ground) (r : Reference) (bytes : List ℕ) (target : Target) → bytes ≡ encode_utf8_all r.target → TargetAnswer g.root bytes (Ok target) → lead_of g r.wanted (Ok target) ≡ leads_in g r
-target_led g r bytes target same is = led g r (Ok target) (subst (λ (z : List ℕ). TargetAnswer g.root z (Ok target)) same is)
+pub target_led : (g : ResolutionContext) (r : Reference) (bytes : List ℕ) (target : Target) → bytes ≡ encode_utf8_all r.target → TargetResult g.root bytes (Ok target) → lead_of g r.wanted (Ok target) ≡ reference_resolved_in g r
+target_led g r bytes target same is = led g r (Ok target) (subst (λ (z : List ℕ). TargetResult g.root z (Ok target)) same is)
 
-pub fault_led : (g : Ground) (r : Reference) (bytes : List ℕ) (error : ReadError UriFault) (fault : UriFault) → bytes ≡ encode_utf8_all r.target → error ≡ Fault fault
-    → Answered {A = Target} (TargetAnswer g.root bytes) (Err error) → None ≡ leads_in g r
+pub fault_led : (g : ResolutionContext) (r : Reference) (bytes : List ℕ) (error : ReadError UriFault) (fault : UriFault) → bytes ≡ encode_utf8_all r.target → error ≡ Fault fault
+    → Answered {A = Target} (TargetResult g.root bytes) (Err error) → None ≡ reference_resolved_in g r
 fault_led g r bytes error fault same told answers =
-    let is : TargetAnswer g.root bytes (Err fault) = subst (λ (e : ReadError UriFault). Answered {A = Target} (TargetAnswer g.root bytes) (Err e)) told answers in
-    led g r (Err fault) (subst (λ (z : List ℕ). TargetAnswer g.root z (Err fault)) same is)
+    let is : TargetResult g.root bytes (Err fault) = subst (λ (e : ReadError UriFault). Answered {A = Target} (TargetResult g.root bytes) (Err e)) told answers in
+    led g r (Err fault) (subst (λ (z : List ℕ). TargetResult g.root z (Err fault)) same is)
 
 -- ---- the place of what a reference leads to
 
 abbrev place_of : List ℕ → List ℕ → Place
 place_of name path = record { name = name; path = path }
 
-abbrev lead : Place → Spot → Lead
-lead place spot = record { place = place; spot = spot }
+abbrev lead : Place → ScopedElement → ResolvedReference
+lead place scoped_element = record { place = place; scoped_element = scoped_element }
 
--- the element at a place, if it is of the kind that is wanted
-abbrev lead_if : Wanted → Place → Spot → Option Lead
-lead_if wanted place spot = if is_wanted wanted spot.kind then Some (lead place spot) else None
+-- the element at a place, if it is of the expected kind
+abbrev lead_if : ReferenceTarget → Place → ScopedElement → Option ResolvedReference
+lead_if wanted place scoped_element = if is_wanted wanted scoped_element.kind then Some (lead place scoped_element) else None
 
 -- the element that a selector selects in a document with this name
-abbrev lead_by : Wanted → List ℕ → Selector → Tree → Option Lead
+abbrev lead_by : ReferenceTarget → List ℕ → Selector → Tree → Option ResolvedReference
 lead_by wanted name selector root = option_and_then (lead_at wanted name root) (selected_in selector.steps root)
 
 own_name : (home : Home) (doc : DocId) → is_own home doc ≡ true → doc ≡ lists_named home doc.name
@@ -83,44 +83,44 @@ own_name home doc own =
     let parts = and_parts (same_auid doc.auid ResourceLists) (same_home doc.home home) own in
     id_exact doc (lists_named home doc.name) (and_from _ _ parts.0 (and_from _ _ parts.1 ((bytes_decides doc.name doc.name).1 refl)))
 
-if_wanted : (b : Bool) (x l : Lead) → cond b (Some x) None ≡ Some l → x ≡ l
+if_wanted : (b : Bool) (x l : ResolvedReference) → cond b (Some x) None ≡ Some l → x ≡ l
 if_wanted true x l h = cc
 if_wanted false x l h = absurd cc
 
-at_place : (wanted : Wanted) (name : List ℕ) (root : Tree) (p : List ℕ) (s : Option Spot) (l : Lead)
-    → list_spot root p ≡ s → option_and_then (lead_if wanted (place_of name p)) s ≡ Some l → (l.place ≡ place_of name p) × (list_spot root p ≡ Some l.spot)
+at_place : (wanted : ReferenceTarget) (name : List ℕ) (root : Tree) (p : List ℕ) (s : Option ScopedElement) (l : ResolvedReference)
+    → list_element root p ≡ s → option_and_then (lead_if wanted (place_of name p)) s ≡ Some l → (l.place ≡ place_of name p) × (list_element root p ≡ Some l.scoped_element)
 at_place wanted name root p None l e h = absurd cc
 at_place wanted name root p (Some s) l e h =
     let same = if_wanted (is_wanted wanted s.kind) (lead (place_of name p) s) l h in
-    (sym (ap (λ (x : Lead). x.place) same), e ∙ ap Some (ap (λ (x : Lead). x.spot) same))
+    (sym (ap (λ (x : ResolvedReference). x.place) same), e ∙ ap Some (ap (λ (x : ResolvedReference). x.scoped_element) same))
 
-by_path : (wanted : Wanted) (name : List ℕ) (root : Tree) (path : Option (List ℕ)) (l : Lead)
-    → option_and_then (lead_at wanted name root) path ≡ Some l → (l.place.name ≡ name) × (list_spot root l.place.path ≡ Some l.spot)
+by_path : (wanted : ReferenceTarget) (name : List ℕ) (root : Tree) (path : Option (List ℕ)) (l : ResolvedReference)
+    → option_and_then (lead_at wanted name root) path ≡ Some l → (l.place.name ≡ name) × (list_element root l.place.path ≡ Some l.scoped_element)
 by_path wanted name root None l h = absurd cc
 by_path wanted name root (Some p) l h =
-    let found = at_place wanted name root p (list_spot root p) l refl h in
-    (ap (λ (x : Place). x.name) found.0, ap (λ (x : Place). list_spot root x.path) found.0 ∙ found.1)
+    let found = at_place wanted name root p (list_element root p) l refl h in
+    (ap (λ (x : Place). x.name) found.0, ap (λ (x : Place). list_element root x.path) found.0 ∙ found.1)
 
-in_tree : (wanted : Wanted) (name : List ℕ) (selector : Selector) (tree : Option Tree) (l : Lead)
-    → option_and_then (lead_by wanted name selector) tree ≡ Some l → (l.place.name ≡ name) × (option_and_then (λ root. list_spot root l.place.path) tree ≡ Some l.spot)
+in_tree : (wanted : ReferenceTarget) (name : List ℕ) (selector : Selector) (tree : Option Tree) (l : ResolvedReference)
+    → option_and_then (lead_by wanted name selector) tree ≡ Some l → (l.place.name ≡ name) × (option_and_then (λ root. list_element root l.place.path) tree ≡ Some l.scoped_element)
 in_tree wanted name selector None l h = absurd cc
 in_tree wanted name selector (Some root) l h = by_path wanted name root (selected_in selector.steps root) l h
 
-found_own : (g : Ground) (wanted : Wanted) (doc : DocId) (selector : Selector) (l : Lead) → is_own g.home doc ≡ true
-    → option_and_then (lead_by wanted doc.name selector) (tree_held g.documents doc) ≡ Some l → spot_at g l.place ≡ Some l.spot
+found_own : (g : ResolutionContext) (wanted : ReferenceTarget) (doc : DocId) (selector : Selector) (l : ResolvedReference) → is_own g.home doc ≡ true
+    → option_and_then (lead_by wanted doc.name selector) (tree_held g.documents doc) ≡ Some l → scoped_element_at g l.place ≡ Some l.scoped_element
 found_own g wanted doc selector l own h =
     let found = in_tree wanted doc.name selector (tree_held g.documents doc) l h in
     let same : doc ≡ lists_named g.home l.place.name = own_name g.home doc own ∙ ap (lists_named g.home) (sym found.0) in
-    ap (λ (d : DocId). option_and_then (λ root. list_spot root l.place.path) (tree_held g.documents d)) (sym same) ∙ found.1
+    ap (λ (d : DocId). option_and_then (λ root. list_element root l.place.path) (tree_held g.documents d)) (sym same) ∙ found.1
 
-if_own : (g : Ground) (wanted : Wanted) (doc : DocId) (selector : Selector) (l : Lead) (own element : Bool) → is_own g.home doc ≡ own
-    → cond (own && element) (option_and_then (lead_by wanted doc.name selector) (tree_held g.documents doc)) None ≡ Some l → spot_at g l.place ≡ Some l.spot
+if_own : (g : ResolutionContext) (wanted : ReferenceTarget) (doc : DocId) (selector : Selector) (l : ResolvedReference) (own element : Bool) → is_own g.home doc ≡ own
+    → cond (own && element) (option_and_then (lead_by wanted doc.name selector) (tree_held g.documents doc)) None ≡ Some l → scoped_element_at g l.place ≡ Some l.scoped_element
 if_own g wanted doc selector l true true e h = found_own g wanted doc selector l e h
 if_own g wanted doc selector l true false e h = absurd cc
 if_own g wanted doc selector l false element e h = absurd cc
 
 -- only the address of a node leads anywhere
-pub leads_nowhere : (g : Ground) (wanted : Wanted) (target : Target) → ((doc : DocId) (selector : Selector) → target ≡ Node doc selector → ⊥) → None ≡ lead_of g wanted (Ok target)
+pub leads_nowhere : (g : ResolutionContext) (wanted : ReferenceTarget) (target : Target) → ((doc : DocId) (selector : Selector) → target ≡ Node doc selector → ⊥) → None ≡ lead_of g wanted (Ok target)
 leads_nowhere g wanted (Node doc selector) h = absurd (h doc selector refl)
 leads_nowhere g wanted (Document doc) h = refl
 leads_nowhere g wanted (Deep auid home) h = refl
@@ -128,7 +128,7 @@ leads_nowhere g wanted (Feed mode tag doc) h = refl
 leads_nowhere g wanted (ElementFeed tag doc selector raw) h = refl
 leads_nowhere g wanted (Flat doc service) h = refl
 
-lead_there : (g : Ground) (wanted : Wanted) (read : Result Target UriFault) (l : Lead) → lead_of g wanted read ≡ Some l → spot_at g l.place ≡ Some l.spot
+lead_there : (g : ResolutionContext) (wanted : ReferenceTarget) (read : Result Target UriFault) (l : ResolvedReference) → lead_of g wanted read ≡ Some l → scoped_element_at g l.place ≡ Some l.scoped_element
 lead_there g wanted (Ok (Node doc selector)) l h = if_own g wanted doc selector l (is_own g.home doc) (is_element selector.end) refl h
 lead_there g wanted (Ok (Document doc)) l h = absurd cc
 lead_there g wanted (Ok (Deep auid home)) l h = absurd cc
@@ -138,9 +138,9 @@ lead_there g wanted (Ok (Flat doc service)) l h = absurd cc
 lead_there g wanted (Err fault) l h = absurd cc
 
 -- what a reference leads to is found again at its place
-there : (g : Ground) (r : Reference) (l : Lead) → leads_in g r ≡ Some l → spot_at g l.place ≡ Some l.spot
+there : (g : ResolutionContext) (r : Reference) (l : ResolvedReference) → reference_resolved_in g r ≡ Some l → scoped_element_at g l.place ≡ Some l.scoped_element
 there g r l h = lead_there g r.wanted (target_meant g.root r.target) l h
 
-pub found_there : (g : Ground) (r : Reference) (found : Option CodeLead) → option_map lead_in found ≡ leads_in g r → IfSome found (λ l. spot_at g l.place ≡ Some (spot_in l.spot))
+pub found_there : (g : ResolutionContext) (r : Reference) (found : Option CodeLead) → option_map lead_in found ≡ reference_resolved_in g r → IfSome found (λ l. scoped_element_at g l.place ≡ Some (scoped_element_in l.scoped_element))
 found_there g r None e = tt
 found_there g r (Some l) e = there g r (lead_in l) (sym e)

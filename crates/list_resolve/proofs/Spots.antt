@@ -1,7 +1,7 @@
--- An element below another is no higher than that.
+-- An element below another has no more levels than that.
 use Rattle.std.proofs.Common.{◌≡◌, ◌≤◌, ◌<◌, Option, Some, None, IfSome, ap, arith}
 use Rattle.xml_tree.specs.Tree.{Tree, height}
-use Rattle.list_resolve.specs.declared.spot.Spot.{Spot as CodeSpot}
+use Rattle.list_resolve.specs.declared.scoped_element.ScopedElement.{ScopedElement as CodeSpot}
 
 pub low_of : (r : Option CodeSpot) (k e : Tree) → IfSome r (λ s. s.element.now ≡ k) → height k < height e → IfSome r (λ s. height s.element.now ≤ height e)
 low_of None k e h lt = tt

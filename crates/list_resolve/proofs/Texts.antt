@@ -1,7 +1,7 @@
--- The text of an element, and white space at the ends of a text.
+-- The text of an element, and leading and trailing white space of a text.
 use Rattle.std.proofs.Common.{◌≡◌, ℕ, Bool, true, false, ◌&&◌, List, [], ◌∷◌, ◌++◌, refl, sym, ap, ◌∙◌, append_assoc, if◌then◌else◌, arith}
 use Rattle.std.specs.Str.{bytes_eq}
-use Rattle.xml_tree.specs.Tree.{Content, last, more, note}
+use Rattle.xml_tree.specs.Tree.{Content, last, more, comment_node}
 use Rattle.xml_tree.specs.Edits.{with_text_before}
 use Rattle.xml_tree.specs.Nodes.{content_of}
 use Rattle.xml_tree.specs.declared.tree.Node.{Node}
@@ -20,7 +20,7 @@ nodes_text (Comment x ∷ ns) = nodes_text ns
 text_before : (t : List ℕ) (c : Content) → text_of (with_text_before t c) ≡ t ++ text_of c
 text_before t (last u) = refl
 text_before t (more u n ds ats k rest) = append_assoc t u (text_of rest)
-text_before t (note u x rest) = append_assoc t u (text_of rest)
+text_before t (comment_node u x rest) = append_assoc t u (text_of rest)
 
 nodes_are : (ns : List Node) → nodes_text ns ≡ text_of (content_of ns)
 nodes_are [] = refl
@@ -31,7 +31,7 @@ nodes_are (Comment x ∷ ns) = nodes_are ns
 pub all_text : (ns : List Node) (content : Content) → content_of ns ≡ content → nodes_text ns ≡ text_of content
 all_text ns content e = nodes_are ns ∙ ap text_of e
 
--- ---- white space behind
+-- ---- trailing white space
 
 nil_not : (xs : List ℕ) (x : ℕ) → bytes_eq (xs ++ x ∷ []) [] ≡ false
 nil_not [] x = refl

@@ -1,71 +1,71 @@
--- A walk node by node, and what is gathered of it part by part.
+-- A walk node by node, and what is collected of it part by part.
 use Rattle.std.proofs.Common.{◌≡◌, ◌≤◌, ◌<◌, ◌+◌, ◌-◌, ℕ, zero, suc, List, [], ◌∷◌, ◌++◌, Option, drop, get_or, length, Result, Ok, Err, IsErrAnd, if◌then◌else◌, subst, refl, sym, ap, ◌∙◌, arith}
 use Rattle.std.specs.Option.{option_map_or}
 use Rattle.std.proofs.lemmas.List.{drop_more}
-use Rattle.xml_tree.specs.Tree.{Content, last, more, note, Tree}
+use Rattle.xml_tree.specs.Tree.{Content, last, more, comment_node, Tree}
 use Rattle.xml_tree.specs.Edits.{with_text_before}
 use Rattle.xml_tree.specs.Nodes.{content_of}
 use Rattle.xml_tree.specs.declared.tree.Node.{Node}
 use Rattle.xml_tree.specs.declared.tree.Node.TheVariants.{Elem, Chars, Comment}
-use Rattle.usage_docs.specs.declared.rows.Kind.{Kind}
-use Rattle.usage_docs.specs.Rows.{Scope}
+use Rattle.usage_docs.specs.declared.schema_table.ElementKind.{ElementKind}
+use Rattle.usage_docs.specs.SchemaTable.{Scope}
 use Rattle.list_resolve.specs.declared.fault.FlatFault.TheVariants.{NoService, TooWide, TooLarge}
 use Rattle.xml_tree.specs.declared.read_error.ReadError.TheVariants.{Fault, NoMemory}
 use Rattle.list_resolve.specs.declared.reference.Reference.{Reference}
-use Rattle.list_resolve.specs.declared.place.Place.{Place}
-use Rattle.list_resolve.specs.Leads.{Ground, Lead}
+use Rattle.list_resolve.specs.declared.document_place.Place.{Place}
+use Rattle.list_resolve.specs.Resolution.{ResolutionContext, ResolvedReference}
 use Rattle.list_resolve.specs.Places.{is_on}
-use Rattle.list_resolve.specs.Walks.{Item, address, mark, walked, spot_items, walk_behind}
-use Rattle.list_resolve.specs.inner.Kids.{kid_items}
+use Rattle.list_resolve.specs.Walks.{Item, address, mark, walked, scoped_element_items, walk_after}
+use Rattle.list_resolve.specs.inner.Kids.{child_items}
 use Rattle.list_resolve.specs.inner.Gathering.{FlatError, Tally, Gathered, Fails, with_item, with_items}
-use Rattle.list_resolve.specs.inner.Passing.{Gathers}
-use Rattle.list_resolve.specs.declared.gatherer.TheConstants.{MARK_LIMIT}
+use Rattle.list_resolve.specs.inner.SkippedElements.{Gathers}
+use Rattle.list_resolve.specs.declared.uri_collector.TheConstants.{MARK_LIMIT}
 
 -- ---- node by node
 
-abbrev pub nodes_items : (Reference → List Item) → List ℕ → Kind → Scope → List Node → List Item
+abbrev pub nodes_items : (Reference → List Item) → List ℕ → ElementKind → Scope → List Node → List Item
 nodes_items behind root row c [] = []
-nodes_items behind root row c (Elem e ∷ ns) = kid_items behind root row c e ++ nodes_items behind root row c ns
+nodes_items behind root row c (Elem e ∷ ns) = child_items behind root row c e ++ nodes_items behind root row c ns
 nodes_items behind root row c (Chars t ∷ ns) = nodes_items behind root row c ns
 nodes_items behind root row c (Comment x ∷ ns) = nodes_items behind root row c ns
 
-walked_before : (behind : Reference → List Item) (root : List ℕ) (row : Kind) (c : Scope) (t : List ℕ) (content : Content) → walked behind root row c (with_text_before t content) ≡ walked behind root row c content
+walked_before : (behind : Reference → List Item) (root : List ℕ) (row : ElementKind) (c : Scope) (t : List ℕ) (content : Content) → walked behind root row c (with_text_before t content) ≡ walked behind root row c content
 walked_before behind root row c t (last u) = refl
 walked_before behind root row c t (more u n ds ats k rest) = refl
-walked_before behind root row c t (note u x rest) = refl
+walked_before behind root row c t (comment_node u x rest) = refl
 
-nodes_are : (behind : Reference → List Item) (root : List ℕ) (row : Kind) (c : Scope) (ns : List Node) → nodes_items behind root row c ns ≡ walked behind root row c (content_of ns)
+nodes_are : (behind : Reference → List Item) (root : List ℕ) (row : ElementKind) (c : Scope) (ns : List Node) → nodes_items behind root row c ns ≡ walked behind root row c (content_of ns)
 nodes_are behind root row c [] = refl
-nodes_are behind root row c (Elem e ∷ ns) = ap (λ items. kid_items behind root row c e ++ items) (nodes_are behind root row c ns)
+nodes_are behind root row c (Elem e ∷ ns) = ap (λ items. child_items behind root row c e ++ items) (nodes_are behind root row c ns)
 nodes_are behind root row c (Chars t ∷ ns) = nodes_are behind root row c ns ∙ sym (walked_before behind root row c t (content_of ns))
 nodes_are behind root row c (Comment x ∷ ns) = nodes_are behind root row c ns
 
-pub all_nodes : (behind : Reference → List Item) (root : List ℕ) (row : Kind) (c : Scope) (ns : List Node) (content : Content) → content_of ns ≡ content → nodes_items behind root row c ns ≡ walked behind root row c content
+pub all_nodes : (behind : Reference → List Item) (root : List ℕ) (row : ElementKind) (c : Scope) (ns : List Node) (content : Content) → content_of ns ≡ content → nodes_items behind root row c ns ≡ walked behind root row c content
 all_nodes behind root row c ns content e = nodes_are behind root row c ns ∙ ap (walked behind root row c) e
 
--- an element and the nodes behind it
-pub at_elem : (behind : Reference → List Item) (root : List ℕ) (row : Kind) (c : Scope) (ns : List Node) (i : ℕ) (x : Node) (kid : Tree) → i < length ns → x ≡ get_or ns i x → x ≡ Elem kid
-    → nodes_items behind root row c (drop i ns) ≡ kid_items behind root row c kid ++ nodes_items behind root row c (drop (i + 1) ns)
-at_elem behind root row c ns i x kid lt there is =
+-- an element and the nodes after it
+pub at_elem : (behind : Reference → List Item) (root : List ℕ) (row : ElementKind) (c : Scope) (ns : List Node) (i : ℕ) (x : Node) (child_element : Tree) → i < length ns → x ≡ get_or ns i x → x ≡ Elem child_element
+    → nodes_items behind root row c (drop i ns) ≡ child_items behind root row c child_element ++ nodes_items behind root row c (drop (i + 1) ns)
+at_elem behind root row c ns i x child_element lt there is =
     ap (nodes_items behind root row c) (drop_more ns i x lt ∙ ap (λ y. y ∷ drop (i + 1) ns) (sym there ∙ is))
 
 -- ---- what references give
 
--- a reference gives a mark, and then what stands behind it
+-- a reference gives a mark, and then what it leads to
 abbrev pub reference_items : (Reference → List Item) → Option Reference → List Item
 reference_items behind found = option_map_or (λ r. mark ∷ behind r) found []
 
 -- an element that a reference leads to gives what it does unless it is on the chain
-abbrev pub lead_items : (List Place → Reference → List Item) → List ℕ → List Place → Lead → List Item
-lead_items behind root chain l = if is_on chain l.place then [] else spot_items (behind (l.place ∷ chain)) root l.spot
+abbrev pub lead_items : (List Place → Reference → List Item) → List ℕ → List Place → ResolvedReference → List Item
+lead_items behind root chain l = if is_on chain l.place then [] else scoped_element_items (behind (l.place ∷ chain)) root l.scoped_element
 
-abbrev pub led_items : (List Place → Reference → List Item) → List ℕ → List Place → Option Lead → List Item
+abbrev pub led_items : (List Place → Reference → List Item) → List ℕ → List Place → Option ResolvedReference → List Item
 led_items behind root chain found = option_map_or (lead_items behind root chain) found []
 
--- what stands behind a mark, where an element may still be added to the chain
-pub behind_left : (leads : Reference → Option Lead) (root : List ℕ) (left : ℕ) (chain : List Place) (r : Reference) → 0 < left → walk_behind leads root left chain r ≡ led_items (walk_behind leads root (left - 1)) root chain (leads r)
-behind_left leads root zero chain r h = absurd (omega arith)
-behind_left leads root (suc n) chain r h = let e : n ≡ suc n - 1 = omega arith in ap (λ (m : ℕ). led_items (walk_behind leads root m) root chain (leads r)) e
+-- what comes after a mark, where an element may still be added to the chain
+pub behind_left : (resolve_reference : Reference → Option ResolvedReference) (root : List ℕ) (left : ℕ) (chain : List Place) (r : Reference) → 0 < left → walk_after resolve_reference root left chain r ≡ led_items (walk_after resolve_reference root (left - 1)) root chain (resolve_reference r)
+behind_left resolve_reference root zero chain r h = absurd (omega arith)
+behind_left resolve_reference root (suc n) chain r h = let e : n ≡ suc n - 1 = omega arith in ap (λ (m : ℕ). led_items (walk_after resolve_reference root m) root chain (resolve_reference r)) e
 
 -- ---- part by part
 
@@ -91,7 +91,8 @@ fails_in_part items more_items s (Fault TooWide) h =
 fails_in_part items more_items s (Fault (TooLarge len)) h = h
 fails_in_part items more_items s NoMemory h = tt
 
--- where the gathered items and those of a part together make others, that part's failure is one of the others
+-- where the collected items and those of a part together make others, that part's failure is a
+-- failure of these
 pub fails_before : (items more_items whole : List Item) (s start : Tally) (fault : FlatError)
     → with_items s (items ++ more_items) ≡ with_items start whole → Fails items s fault → Fails whole start fault
 fails_before items more_items whole s start (Fault NoService) e h = h
@@ -102,7 +103,7 @@ fails_before items more_items whole s start (Fault TooWide) e h =
 fails_before items more_items whole s start (Fault (TooLarge len)) e h = h
 fails_before items more_items whole s start NoMemory e h = tt
 
--- a call that hands on the fault of another one
-pub hands_on : {T : Type 0} (g : Ground) (r : Result T FlatError) (items : List Item) (s new : Gathered) (fault : FlatError) → IsErrAnd r (λ e. e ≡ fault) → Fails items s.tally fault → Gathers g items s new r
+-- a call that returns the fault of another one
+pub hands_on : {T : Type 0} (g : ResolutionContext) (r : Result T FlatError) (items : List Item) (s new : Gathered) (fault : FlatError) → IsErrAnd r (λ e. e ≡ fault) → Fails items s.tally fault → Gathers g items s new r
 hands_on g (Ok x) items s new fault h f = absurd h
 hands_on g (Err e) items s new fault h f = subst (λ (x : FlatError). Fails items s.tally x) (sym h) f

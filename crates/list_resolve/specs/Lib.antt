@@ -1,8 +1,8 @@
 pub mod Documents
 pub mod Flat
-pub mod Leads
 pub mod Places
 pub mod References
-pub mod Spots
+pub mod Resolution
+pub mod ScopedElements
 pub mod Walks
 pub mod inner

@@ -1,10 +1,11 @@
--- Places of elements in the documents of lists of one user: the name of the document, and the path in it.
+-- Places of elements in one user's documents of lists: the name of the document, and the path in
+-- it.
 use Rattle.std.specs.Prelude.{Bool, ◌&&◌, List}
 use Rattle.std.specs.List.{list_any}
 use Rattle.std.specs.Str.{bytes_eq}
-use Rattle.list_resolve.specs.declared.place.Place.{Place}
+use Rattle.list_resolve.specs.declared.document_place.Place.{Place}
 
--- whether two places are one
+-- whether two places are equal
 abbrev pub same_place : Place → Place → Bool
 same_place a b = bytes_eq a.name b.name && bytes_eq a.path b.path
 

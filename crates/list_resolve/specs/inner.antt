@@ -1,8 +1,8 @@
--- What private functions and proofs speak of. No clause of a public call needs it.
+-- Definitions for private functions and proofs. No clause of a public call needs them.
 pub mod Chains
 pub mod Gathering
 pub mod Kids
-pub mod Passing
 pub mod PlaceCodes
 pub mod PlaceTests
+pub mod SkippedElements
 pub mod Views

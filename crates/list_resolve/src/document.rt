@@ -1,10 +1,10 @@
-//! The document that shows a flat list (RFC 4826, section 3.2).
+//! The document of a flat list (RFC 4826, section 3.2).
 ghost use Rattle.std.specs.Prelude.{◌≡◌, [], ◌∷◌, ◌++◌, IfOk, IsTrue, OnOk, codes, min};
 ghost use Rattle.usage_docs.specs.Services.{document_len};
 ghost use Rattle.usage_docs.specs.Words.{is_ascii};
 ghost use Rattle.xml_tree.specs.Expanded.{name_of};
 ghost use Rattle.xml_tree.specs.Memory.{Answered};
-ghost use Rattle.xml_tree.specs.Tree.{of_kids, tree_of};
+ghost use Rattle.xml_tree.specs.Tree.{of_children, tree_of};
 ghost use Rattle.list_resolve.specs.Documents.{entry_tree, flat_document, flat_tree, list_tree};
 
 use crate::fault::FlatFault;
@@ -13,10 +13,10 @@ use xml_tree::{
     Attr, Decl, Element, LocalName, Name, NoMemory, Prefix, ReadError, Text, printed_len,
 };
 
-/// The greatest length of the document, printed, in bytes.
+/// The greatest number of bytes of the printed document.
 const DOCUMENT_LIMIT: usize = 16_777_216;
 
-// The length of what stands before the root.
+// The length in bytes of a printed document before its root.
 const FRONT_LEN: usize = 39;
 
 const LISTS: &str = "urn:ietf:params:xml:ns:resource-lists";
@@ -25,7 +25,7 @@ const LISTS: &str = "urn:ietf:params:xml:ns:resource-lists";
 #[tactic(auto, using(usage_docs::proofs::Words::chars_ascii))]
 fn word(alloc: Global, word: &str) -> Result<Text, NoMemory>
     requires { IsTrue (is_ascii word.now) }
-    ensures text_of_these_letters { IfOk result (λ made. made ≡ word.now) }
+    ensures ok { IfOk result (λ made. made ≡ word.now) }
 {
     Text::from(alloc, word)
 }
@@ -34,12 +34,12 @@ fn word(alloc: Global, word: &str) -> Result<Text, NoMemory>
 #[tactic(auto, using(usage_docs::proofs::Words::chars_ascii))]
 fn local_name(alloc: Global, word: &str) -> Result<LocalName, NoMemory>
     requires { IsTrue (is_ascii word.now) }
-    ensures local_name_of_these_letters { IfOk result (λ made. made ≡ word.now) }
+    ensures ok { IfOk result (λ made. made ≡ word.now) }
 {
     LocalName::from(alloc, word)
 }
 
-// A name without prefix.
+// A name without a prefix.
 fn plain(alloc: Global, local: &str) -> Result<Name, NoMemory>
     requires { IsTrue (is_ascii local.now) }
     ensures name_without_prefix { IfOk result (λ made. made ≡ name_of [] local.now) }
@@ -49,10 +49,11 @@ fn plain(alloc: Global, local: &str) -> Result<Name, NoMemory>
     Ok(Name { prefix, local })
 }
 
-// An element of this name, with nothing in it.
+// An empty element of this name.
 fn empty(alloc: Global, local: &str) -> Result<Element, NoMemory>
     requires { IsTrue (is_ascii local.now) }
-    ensures has_the_name_alone { IfOk result (λ made. made ≡ tree_of (name_of [] local.now) [] [] (of_kids [])) }
+    ensures named_alone { IfOk result
+        (λ made. made ≡ tree_of (name_of [] local.now) [] [] (of_children [])) }
 {
     let name = plain(alloc, local)?;
     Ok(Element::new(alloc, name))
@@ -60,7 +61,8 @@ fn empty(alloc: Global, local: &str) -> Result<Element, NoMemory>
 
 // Adds an address to an entry.
 fn push_uri(alloc: Global, entry: &mut Element, uri: &Text) -> Result<(), NoMemory>
-    ensures adds_the_address { OnOk result (entry.new ≡ record entry.old { attrs = entry.old.attrs ++ record { name = name_of [] (codes "uri"); value = uri.now } ∷ [] }) }
+    ensures ok { OnOk result
+        (entry.new ≡ record entry.old { attrs = entry.old.attrs ++ record { name = name_of [] (codes "uri"); value = uri.now } ∷ [] }) }
 {
     let name = plain(alloc, "uri")?;
     let value = uri.copy(alloc)?;
@@ -69,17 +71,17 @@ fn push_uri(alloc: Global, entry: &mut Element, uri: &Text) -> Result<(), NoMemo
 
 // The entry of an address.
 fn entry(alloc: Global, uri: &Text) -> Result<Element, NoMemory>
-    ensures entry_of_the_address { IfOk result (λ made. made ≡ entry_tree uri.now) }
+    ensures ok { IfOk result (λ made. made ≡ entry_tree uri.now) }
 {
     let mut entry = empty(alloc, "entry")?;
     push_uri(alloc, &mut entry, uri)?;
     Ok(entry)
 }
 
-// Adds the entries of these addresses to a list that has none.
+// Appends the entries of these addresses to a list that has none.
 fn push_entries(alloc: Global, list: &mut Element, uris: &[Text]) -> Result<(), NoMemory>
     requires { list.old ≡ list_tree [] }
-    ensures adds_the_entries { OnOk result (list.new ≡ list_tree uris.now) }
+    ensures ok { OnOk result (list.new ≡ list_tree uris.now) }
 {
     for uri in uris {
         let entry = entry(alloc, uri)?;
@@ -90,17 +92,17 @@ fn push_entries(alloc: Global, list: &mut Element, uris: &[Text]) -> Result<(), 
 
 // The list of the entries of these addresses.
 fn list(alloc: Global, uris: &[Text]) -> Result<Element, NoMemory>
-    ensures list_of_the_entries { IfOk result (λ made. made ≡ list_tree uris.now) }
+    ensures ok { IfOk result (λ made. made ≡ list_tree uris.now) }
 {
     let mut list = empty(alloc, "list")?;
     push_entries(alloc, &mut list, uris)?;
     Ok(list)
 }
 
-// Declares the namespace of lists, and adds this list.
-#[tactic(auto, unfolding(usage_docs::specs::Rows::lists_space))]
+// Declares the namespace of lists, and appends the list.
+#[tactic(auto, unfolding(usage_docs::specs::SchemaTable::lists_namespace))]
 fn push_list(alloc: Global, root: &mut Element, uris: &[Text]) -> Result<(), NoMemory>
-    requires { root.old ≡ tree_of (name_of [] (codes "resource-lists")) [] [] (of_kids []) }
+    requires { root.old ≡ tree_of (name_of [] (codes "resource-lists")) [] [] (of_children []) }
     ensures declares_and_adds { OnOk result (root.new ≡ flat_tree uris.now) }
 {
     let uri = word(alloc, LISTS)?;
@@ -112,29 +114,29 @@ fn push_list(alloc: Global, root: &mut Element, uris: &[Text]) -> Result<(), NoM
     root.push_elem(list)
 }
 
-// The root with this list and nothing else.
+// The root, with this list and nothing else.
 fn tree(alloc: Global, uris: &[Text]) -> Result<Element, NoMemory>
-    ensures root_with_the_list { IfOk result (λ made. made ≡ flat_tree uris.now) }
+    ensures ok { IfOk result (λ made. made ≡ flat_tree uris.now) }
 {
     let mut root = empty(alloc, "resource-lists")?;
     push_list(alloc, &mut root, uris)?;
     Ok(root)
 }
 
-// The length of a document, printed; the greatest number where it is longer.
+// The length of a printed document; the greatest number where it is longer.
 fn document_len(root: &Element) -> usize
-    ensures counts_the_printed_document { result ≡ min (document_len root.now) usize.MAX }
+    ensures exact { result ≡ min (document_len root.now) usize.MAX }
 {
     printed_len(root).saturating_add(FRONT_LEN)
 }
 
-/// The document that shows a flat list.
+/// The document of a flat list.
 ///
 /// # Errors
-/// `TooLarge` exactly where the printed document would have more than `DOCUMENT_LIMIT` bytes, with their number, or with the greatest `usize` where
-/// that is less; `NoMemory` for want of memory.
+/// `TooLarge` exactly where the printed document would have more than `DOCUMENT_LIMIT` bytes, with
+/// their number, or with the greatest `usize` where that is less; `NoMemory` when out of memory.
 pub fn flat_document(alloc: Global, uris: &[Text]) -> Result<Element, ReadError<FlatFault>>
-    ensures document_of_the_list { Answered (λ answer. answer ≡ flat_document uris.now) result }
+    ensures list_document { Answered (λ answer. answer ≡ flat_document uris.now) result }
 {
     let root = tree(alloc, uris)?;
     let len = document_len(&root);

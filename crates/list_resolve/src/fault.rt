@@ -3,19 +3,19 @@
 use thiserror::Error;
 use xml_tree::ReadError;
 
-/// Why there is no flat list, or want of memory.
+/// Why there is no flat list, or out of memory.
 pub(crate) type FlatError = ReadError<FlatFault>;
 
 /// Why a service has no flat list, or a flat list no document.
 #[derive(Clone, Copy, Debug, Drop, PartialEq, Eq, Error)]
 pub enum FlatFault {
-    /// The document isn't held, or has no service with this address.
+    /// The document isn't stored, or has no service with this address.
     #[error("no such service")]
     NoService,
-    /// The walk comes by more than `MARK_LIMIT` references.
+    /// The walk meets more than `MARK_LIMIT` references.
     #[error("too many references")]
     TooWide,
-    /// The document would have so many bytes, printed, and that is too many.
+    /// The printed document would have this many bytes, which is too many.
     #[error("{0} bytes are too many")]
     TooLarge(usize),
 }

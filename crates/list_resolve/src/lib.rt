@@ -1,18 +1,21 @@
-//! The flat list of a service: the addresses of the entries of its list, with those that references lead to.
-//! Promises upward exactly the list that the walk of the documents held defines, for every web of references, circles among them.
-//! The standard is RFC 4826, sections 3 and 4.
+//! Flat lists of services: the addresses of the entries of a service's list, and of the lists and
+//! entries that references lead to. Upward: `flat_list` returns exactly the list that the walk of
+//! the stored documents defines (`IsFlatList`, `flat_of`), for every web of references, circles
+//! among them, and each service address has exactly one result (`services_have_one_flat_list`).
+//! The standard is RFC 4826, sections 3 and 4; the limits on chains and references are this
+//! server's own.
 #![tactic(auto)]
 
-mod chain;
 mod document;
+mod document_place;
 mod fault;
 mod flat;
-mod gatherer;
 mod laws;
-mod leads;
-mod place;
 mod reference;
-mod spot;
+mod resolution;
+mod scoped_element;
+mod uri_collector;
+mod visit_chain;
 mod walk;
 
 pub use document::flat_document;

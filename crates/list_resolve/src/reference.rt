@@ -1,7 +1,7 @@
-//! References, and the targets that they are (RFC 4826, sections 3.4.5 and 4.4.5).
+//! References, and their targets (RFC 4826, sections 3.4.5 and 4.4.5).
 ghost use Rattle.std.specs.Prelude.{◌≡◌, ◌∷◌, ◌++◌, [], IfOk, chars};
-ghost use Rattle.usage_docs.specs.declared.rows.Kind.TheVariants.{EntryRef, External};
-ghost use Rattle.usage_docs.specs.Forms.{trimmed, trim_front, trim_back};
+ghost use Rattle.usage_docs.specs.declared.schema_table.ElementKind.TheVariants.{EntryRef, External};
+ghost use Rattle.usage_docs.specs.Forms.{trim_text, trim_front, trim_back};
 ghost use Rattle.usage_docs.specs.Texts.{text_of};
 ghost use Rattle.xml_tree.specs.Characters.{is_space};
 ghost use Rattle.xml_tree.specs.Tree.{last};
@@ -9,33 +9,34 @@ ghost use Rattle.xcap_uri.specs.Roots.{slash};
 ghost use Rattle.list_resolve.specs.References.{is_wanted, reference_of};
 
 use std::alloc::Global;
-use tree_text::{decoded, no_text, text_of};
-use usage_docs::{Key, Kind, value_of};
+use tree_text::{chars_of_text, no_text, text_of};
+use usage_docs::{ElementKind, Key, value_of};
 use xcap_uri::Root;
 use xml_tree::{Attr, Element, NoMemory, Node, Text, is_space};
 
-/// What has to stand where a reference leads.
+/// The kind of element that a reference has to lead to.
 #[derive(Clone, Copy)]
-pub(crate) enum Wanted {
+pub(crate) enum ReferenceTarget {
     AnEntry,
     AList,
 }
 
-/// A reference: the target that it is, and what has to stand there.
+/// A reference: its target, and what that has to be.
 #[derive(Drop)]
 pub(crate) struct Reference {
-    pub(crate) wanted: Wanted,
+    pub(crate) wanted: ReferenceTarget,
     pub(crate) target: Text,
 }
 
-impl Wanted {
-    /// Whether a reference that wants this may lead to an element of this kind. Takes no memory.
-    pub(crate) fn admits(self, kind: Kind) -> bool
-        ensures tells_whether_it_is_wanted { result ≡ is_wanted self kind }
+impl ReferenceTarget {
+    /// Whether a reference to such a target may lead to an element of this kind. Does not
+    /// allocate.
+    pub(crate) fn admits(self, kind: ElementKind) -> bool
+        ensures exact { result ≡ is_wanted self kind }
     {
         match (self, kind) {
-            (Wanted::AnEntry, Kind::Entry) => true,
-            (Wanted::AList, Kind::EntryList) => true,
+            (ReferenceTarget::AnEntry, ElementKind::Entry) => true,
+            (ReferenceTarget::AList, ElementKind::EntryList) => true,
             _ => false,
         }
     }
@@ -43,7 +44,7 @@ impl Wanted {
 
 // The target of a `ref` with this value.
 fn from_root(alloc: Global, root: &Root, value: &str) -> Result<Text, NoMemory>
-    ensures target_under_the_root { IfOk result (λ made. made ≡ root.now ++ slash ∷ chars value.now) }
+    ensures ok { IfOk result (λ made. made ≡ root.now ++ slash ∷ chars value.now) }
 {
     let mut target = Text::from(alloc, root.text())?;
     target.push('/')?;
@@ -51,37 +52,37 @@ fn from_root(alloc: Global, root: &Root, value: &str) -> Result<Text, NoMemory>
     Ok(target)
 }
 
-// The reference that an entry-ref is.
+// The reference of an entry-ref.
 fn entry_ref(alloc: Global, root: &Root, attrs: &[Attr]) -> Result<Option<Reference>, NoMemory>
-    ensures reference_to_an_entry { IfOk result (λ made. made ≡ reference_of root.now EntryRef attrs.now (last [])) }
+    ensures ok { IfOk result (λ made. made ≡ reference_of root.now EntryRef attrs.now (last [])) }
 {
     let Some(value) = value_of(Key::Ref, attrs) else {
         return Ok(None);
     };
     let target = from_root(alloc, root, value)?;
     Ok(Some(Reference {
-        wanted: Wanted::AnEntry,
+        wanted: ReferenceTarget::AnEntry,
         target,
     }))
 }
 
-// The reference that an external list is.
+// The reference of an external list.
 fn external(alloc: Global, root: &Root, attrs: &[Attr]) -> Result<Option<Reference>, NoMemory>
-    ensures reference_to_a_list { IfOk result (λ made. made ≡ reference_of root.now External attrs.now (last [])) }
+    ensures ok { IfOk result (λ made. made ≡ reference_of root.now External attrs.now (last [])) }
 {
     let Some(value) = value_of(Key::Anchor, attrs) else {
         return Ok(None);
     };
     let target = Text::from(alloc, value)?;
     Ok(Some(Reference {
-        wanted: Wanted::AList,
+        wanted: ReferenceTarget::AList,
         target,
     }))
 }
 
 // The text of an element.
 fn text_inside(alloc: Global, element: &Element) -> Result<Text, NoMemory>
-    ensures joins_its_texts { IfOk result (λ text. text ≡ text_of element.now.content) }
+    ensures ok { IfOk result (λ text. text ≡ text_of element.now.content) }
 {
     let mut inside = no_text(alloc);
     for node in element.nodes() {
@@ -92,9 +93,9 @@ fn text_inside(alloc: Global, element: &Element) -> Result<Text, NoMemory>
     Ok(inside)
 }
 
-// Without the white space in front.
+// Without leading white space.
 fn trim_front(mut letters: &[char]) -> &[char]
-    ensures trims_the_front { result.now ≡ trim_front is_space letters.now }
+    ensures exact { result.now ≡ trim_front is_space letters.now }
 {
     'blanks: while let [first, rest @ ..] = letters
         && is_space(*first)
@@ -104,9 +105,9 @@ fn trim_front(mut letters: &[char]) -> &[char]
     letters
 }
 
-// Without the white space behind.
+// Without trailing white space.
 fn trim_back(mut letters: &[char]) -> &[char]
-    ensures trims_the_back { result.now ≡ trim_back is_space letters.now }
+    ensures exact { result.now ≡ trim_back is_space letters.now }
 {
     'blanks: while let Some((last, rest)) = letters.split_last()
         && is_space(*last)
@@ -116,35 +117,36 @@ fn trim_back(mut letters: &[char]) -> &[char]
     letters
 }
 
-// The text of an element without the white space at its ends.
-#[tactic(auto, unfolding(usage_docs::specs::Forms::trimmed))]
-fn trimmed(alloc: Global, element: &Element) -> Result<Text, NoMemory>
-    ensures trims_both_ends { IfOk result (λ text. text ≡ trimmed (text_of element.now.content)) }
+// The text of an element without leading and trailing white space.
+#[tactic(auto, unfolding(usage_docs::specs::Forms::trim_text))]
+fn trim_text(alloc: Global, element: &Element) -> Result<Text, NoMemory>
+    ensures trims_ends { IfOk result (λ text. text ≡ trim_text (text_of element.now.content)) }
 {
     let inside = text_inside(alloc, element)?;
-    let letters = decoded(alloc, inside.as_str())?;
+    let letters = chars_of_text(alloc, inside.as_str())?;
     text_of(alloc, trim_back(trim_front(&letters)))
 }
 
 /// The reference that an element of this kind is, under this root.
 ///
 /// # Errors
-/// `NoMemory` for want of memory.
+/// `NoMemory` when out of memory.
 pub(crate) fn reference_of(
     alloc: Global,
     root: &Root,
-    kind: Kind,
+    kind: ElementKind,
     element: &Element,
 ) -> Result<Option<Reference>, NoMemory>
-    ensures reference_by_the_kind { IfOk result (λ made. made ≡ reference_of root.now kind element.now.attrs element.now.content) }
+    ensures ok { IfOk result
+        (λ made. made ≡ reference_of root.now kind element.now.attrs element.now.content) }
 {
     match kind {
-        Kind::EntryRef => entry_ref(alloc, root, element.attrs()),
-        Kind::External => external(alloc, root, element.attrs()),
-        Kind::ResourceList => {
-            let target = trimmed(alloc, element)?;
+        ElementKind::EntryRef => entry_ref(alloc, root, element.attrs()),
+        ElementKind::External => external(alloc, root, element.attrs()),
+        ElementKind::ResourceList => {
+            let target = trim_text(alloc, element)?;
             Ok(Some(Reference {
-                wanted: Wanted::AList,
+                wanted: ReferenceTarget::AList,
                 target,
             }))
         }

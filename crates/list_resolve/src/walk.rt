@@ -1,271 +1,298 @@
-//! The walk of a list, with the lists that references lead to (RFC 4826, sections 3.2 and 4.2).
+//! The walk of a list, including the lists that references lead to (RFC 4826, sections 3.2 and
+//! 4.2).
 ghost use Rattle.std.specs.Prelude.{◌≡◌, ◌≤◌, ◌∷◌, [], Some, OnOk, if◌then◌else◌};
 ghost use Rattle.std.specs.Option.{option_map_or};
-ghost use Rattle.xml_tree.specs.Limits.{most_levels};
+ghost use Rattle.xml_tree.specs.Limits.{max_levels};
 ghost use Rattle.xml_tree.specs.Tree.{height};
-ghost use Rattle.usage_docs.specs.declared.rows.Key.TheVariants.{Uri};
-ghost use Rattle.usage_docs.specs.declared.rows.Kind.TheVariants.{EntryList};
+ghost use Rattle.usage_docs.specs.declared.schema_table.Key.TheVariants.{Uri};
+ghost use Rattle.usage_docs.specs.declared.schema_table.ElementKind.TheVariants.{EntryList};
 ghost use Rattle.usage_docs.specs.Keys.{value_of};
 ghost use Rattle.list_resolve.specs.References.{reference_of};
 ghost use Rattle.list_resolve.specs.Places.{is_on};
-ghost use Rattle.list_resolve.specs.Walks.{address, walk_behind, kind_items, mark, spot_items, walked};
-ghost use Rattle.list_resolve.specs.inner.Kids.{kid_items};
-ghost use Rattle.list_resolve.specs.inner.Passing.{Gathers, IsPassed, IsSound, leads_in, spot_at};
-ghost use Rattle.list_resolve.specs.inner.Views.{ground_in, spot_in};
+ghost use Rattle.list_resolve.specs.Walks.{address, walk_after, kind_items, mark, scoped_element_items, walked};
+ghost use Rattle.list_resolve.specs.inner.Kids.{child_items};
+ghost use Rattle.list_resolve.specs.inner.SkippedElements.{Gathers, IsPassed, IsSound, reference_resolved_in, scoped_element_at};
+ghost use Rattle.list_resolve.specs.inner.Views.{context_in, scoped_element_in};
 
-use crate::chain::Chain;
+use crate::document_place::Place;
 use crate::fault::FlatError;
-use crate::gatherer::Gatherer;
-use crate::leads::{Ground, Lead, leads};
-use crate::place::Place;
 use crate::reference::{Reference, reference_of};
-use usage_docs::{Key, Kind, kind_of, value_of};
-use xml_tree::{Around, Attr, Declared, Element, NoMemory, Node};
+use crate::resolution::{ResolutionContext, ResolvedReference, resolve_reference};
+use crate::uri_collector::UriCollector;
+use crate::visit_chain::VisitChain;
+use usage_docs::{ElementKind, Key, kind_of, value_of};
+use xml_tree::{Attr, Element, IndexedDecls, LinkedScope, NoMemory, Node};
 
-// Gathers the address of an entry with these attributes.
-fn add_entry(ground: &Ground<'_>, attrs: &[Attr], gatherer: &mut Gatherer) -> Result<(), FlatError>
-    requires sound { IsSound (ground_in ground.now) gatherer.old }
-    ensures gathers_the_address { Gathers (ground_in ground.now)
+// Collects the address of an entry with these attributes.
+fn add_entry(
+    ground: &ResolutionContext<'_>,
+    attrs: &[Attr],
+    collector: &mut UriCollector,
+) -> Result<(), FlatError>
+    requires is_sound { IsSound (context_in ground.now) collector.old }
+    ensures gathers_address { Gathers (context_in ground.now)
         (option_map_or (λ uri. address uri ∷ []) (value_of Uri attrs.now) [])
-        gatherer.old gatherer.new result }
+        collector.old collector.new result }
 {
     match value_of(Key::Uri, attrs) {
         None => Ok(()),
         Some(uri) => {
-            gatherer.add_uri(uri)?;
+            collector.add_uri(uri)?;
             Ok(())
         }
     }
 }
 
-/// Gathers what the children of an element of this row give, in the scope inside it, where so many elements may still be added to the chain.
+/// Collects what the children of an element of this kind give, in the scope inside it, where at
+/// most `left` more elements may be on the chain.
 ///
 /// # Errors
-/// `TooWide` where there are too many references, `NoMemory` for want of memory.
+/// `TooWide` where there are too many references, `NoMemory` when out of memory.
 #[cycle(walk)]
 pub(crate) fn walk_inside(
-    ground: &Ground<'_>,
+    ground: &ResolutionContext<'_>,
     left: usize,
-    chain: &Chain<'_>,
-    row: Kind,
-    scope: &Around<'_>,
+    chain: &VisitChain<'_>,
+    row: ElementKind,
+    scope: &LinkedScope<'_>,
     element: &Element,
-    gatherer: &mut Gatherer,
+    collector: &mut UriCollector,
 ) -> Result<(), FlatError>
-    requires sound { IsSound (ground_in ground.now) gatherer.old }
-    ensures gathers_the_walk { Gathers (ground_in ground.now)
-        (walked (walk_behind (leads_in (ground_in ground.now)) ground.now.root.now left chain.now) ground.now.root.now row scope.now element.now.content)
-        gatherer.old gatherer.new result }
+    requires is_sound { IsSound (context_in ground.now) collector.old }
+    ensures gathers_walk { Gathers (context_in ground.now)
+        (walked (walk_after (reference_resolved_in (context_in ground.now)) ground.now.root.now left
+        chain.now) ground.now.root.now row scope.now element.now.content)
+        collector.old collector.new result }
 {
     for node in element.nodes() {
-        if let Node::Elem(kid) = node {
-            walk_kid(ground, left, chain, row, scope, kid, gatherer)?;
+        if let Node::Elem(child_element) = node {
+            walk_child_element(ground, left, chain, row, scope, child_element, collector)?;
         }
     }
     Ok(())
 }
 
-// Gathers what a child of an element of this row gives, in the scope around it.
+// Collects what a child of an element of this kind gives, in the scope around it.
 #[cycle(walk)]
-fn walk_kid(
-    ground: &Ground<'_>,
+fn walk_child_element(
+    ground: &ResolutionContext<'_>,
     left: usize,
-    chain: &Chain<'_>,
-    row: Kind,
-    scope: &Around<'_>,
-    kid: &Element,
-    gatherer: &mut Gatherer,
+    chain: &VisitChain<'_>,
+    row: ElementKind,
+    scope: &LinkedScope<'_>,
+    child_element: &Element,
+    collector: &mut UriCollector,
 ) -> Result<(), FlatError>
-    requires sound { IsSound (ground_in ground.now) gatherer.old }
-    ensures gathers_what_the_child_gives { Gathers (ground_in ground.now)
-        (kid_items (walk_behind (leads_in (ground_in ground.now)) ground.now.root.now left chain.now) ground.now.root.now row scope.now kid.now)
-        gatherer.old gatherer.new result }
+    requires is_sound { IsSound (context_in ground.now) collector.old }
+    ensures gathers_child { Gathers (context_in ground.now)
+        (child_items (walk_after
+        (reference_resolved_in (context_in ground.now)) ground.now.root.now left chain.now)
+        ground.now.root.now row scope.now child_element.now)
+        collector.old collector.new result }
 {
-    let declared = Declared::indexed(ground.alloc, kid.decls())?;
+    let declared = IndexedDecls::with_index(ground.alloc, child_element.decls())?;
     let inside = (&*scope).inside(&declared);
-    match kind_of(row, &inside, kid.name()) {
+    match kind_of(row, &inside, child_element.name()) {
         None => Ok(()),
-        Some(kind) => walk_element(ground, left, chain, kind, &inside, kid, gatherer),
+        Some(kind) => walk_element(ground, left, chain, kind, &inside, child_element, collector),
     }
 }
 
-// Gathers what an element of this kind gives, in the scope inside it.
+// Collects what an element of this kind gives, in the scope inside it.
 #[cycle(walk)]
 fn walk_element(
-    ground: &Ground<'_>,
+    ground: &ResolutionContext<'_>,
     left: usize,
-    chain: &Chain<'_>,
-    kind: Kind,
-    scope: &Around<'_>,
+    chain: &VisitChain<'_>,
+    kind: ElementKind,
+    scope: &LinkedScope<'_>,
     element: &Element,
-    gatherer: &mut Gatherer,
+    collector: &mut UriCollector,
 ) -> Result<(), FlatError>
-    requires sound { IsSound (ground_in ground.now) gatherer.old }
-    ensures gathers_what_the_element_gives { Gathers (ground_in ground.now)
-        (kind_items (walk_behind (leads_in (ground_in ground.now)) ground.now.root.now left chain.now) ground.now.root.now kind element.now.attrs element.now.content
-        (walked (walk_behind (leads_in (ground_in ground.now)) ground.now.root.now left chain.now) ground.now.root.now EntryList scope.now element.now.content))
-        gatherer.old gatherer.new result }
+    requires is_sound { IsSound (context_in ground.now) collector.old }
+    ensures gathers_element { Gathers (context_in ground.now)
+        (kind_items (walk_after
+        (reference_resolved_in (context_in ground.now)) ground.now.root.now left chain.now)
+        ground.now.root.now kind element.now.attrs element.now.content
+        (walked (walk_after (reference_resolved_in (context_in ground.now)) ground.now.root.now left
+        chain.now) ground.now.root.now EntryList scope.now element.now.content))
+        collector.old collector.new result }
 {
     match kind {
-        Kind::Entry => add_entry(ground, element.attrs(), gatherer),
-        Kind::EntryList => walk_inside(
+        ElementKind::Entry => add_entry(ground, element.attrs(), collector),
+        ElementKind::EntryList => walk_inside(
             ground,
             left,
             chain,
-            Kind::EntryList,
+            ElementKind::EntryList,
             scope,
             element,
-            gatherer,
+            collector,
         ),
-        Kind::EntryRef | Kind::External | Kind::ResourceList => {
-            walk_reference(ground, left, chain, kind, element, gatherer)
+        ElementKind::EntryRef | ElementKind::External | ElementKind::ResourceList => {
+            walk_reference(ground, left, chain, kind, element, collector)
         }
-        Kind::ResourceLists
-        | Kind::DisplayName
-        | Kind::RlsServices
-        | Kind::Service
-        | Kind::Packages
-        | Kind::Package => Ok(()),
+        ElementKind::ResourceLists
+        | ElementKind::DisplayName
+        | ElementKind::RlsServices
+        | ElementKind::Service
+        | ElementKind::Packages
+        | ElementKind::Package => Ok(()),
     }
 }
 
-// Gathers the mark of a reference, and what stands behind it.
+// Collects the mark of a reference, and what the reference leads to.
 #[cycle(walk)]
 fn walk_reference(
-    ground: &Ground<'_>,
+    ground: &ResolutionContext<'_>,
     left: usize,
-    chain: &Chain<'_>,
-    kind: Kind,
+    chain: &VisitChain<'_>,
+    kind: ElementKind,
     element: &Element,
-    gatherer: &mut Gatherer,
+    collector: &mut UriCollector,
 ) -> Result<(), FlatError>
-    requires sound { IsSound (ground_in ground.now) gatherer.old }
-    ensures gathers_the_reference { Gathers (ground_in ground.now)
-        (option_map_or (λ r. mark ∷ walk_behind (leads_in (ground_in ground.now)) ground.now.root.now left chain.now r)
+    requires is_sound { IsSound (context_in ground.now) collector.old }
+    ensures gathers_reference { Gathers (context_in ground.now)
+        (option_map_or (λ r. mark ∷ walk_after
+        (reference_resolved_in (context_in ground.now)) ground.now.root.now left chain.now r)
         (reference_of ground.now.root.now kind element.now.attrs element.now.content) [])
-        gatherer.old gatherer.new result }
+        collector.old collector.new result }
 {
     let Some(reference) = reference_of(ground.alloc, ground.root, kind, element)? else {
         return Ok(());
     };
-    gatherer.add_mark()?;
-    walk_behind(ground, left, chain, &reference, gatherer)
+    collector.add_mark()?;
+    walk_after(ground, left, chain, &reference, collector)
 }
 
-// Gathers what stands behind the mark of a reference.
+// Collects what a reference leads to, after its mark.
 #[cycle(walk)]
-fn walk_behind(
-    ground: &Ground<'_>,
+fn walk_after(
+    ground: &ResolutionContext<'_>,
     left: usize,
-    chain: &Chain<'_>,
+    chain: &VisitChain<'_>,
     reference: &Reference,
-    gatherer: &mut Gatherer,
+    collector: &mut UriCollector,
 ) -> Result<(), FlatError>
-    requires sound { IsSound (ground_in ground.now) gatherer.old }
-    ensures gathers_what_stands_behind { Gathers (ground_in ground.now)
-        (walk_behind (leads_in (ground_in ground.now)) ground.now.root.now left chain.now reference.now)
-        gatherer.old gatherer.new result }
+    requires is_sound { IsSound (context_in ground.now) collector.old }
+    ensures gathers_reference { Gathers (context_in ground.now)
+        (walk_after (reference_resolved_in (context_in ground.now)) ground.now.root.now left
+        chain.now reference.now)
+        collector.old collector.new result }
 {
     if left == 0 {
         return Ok(());
     }
-    match leads(ground, reference)? {
+    match resolve_reference(ground, reference)? {
         None => Ok(()),
-        Some(lead) => walk_lead(ground, left - 1, chain, lead, gatherer),
+        Some(lead) => walk_lead(ground, left - 1, chain, lead, collector),
     }
 }
 
-// Gathers what an element gives that a reference leads to, unless it is on the chain.
+// Collects what an element that a reference leads to gives, unless it is on the chain.
 #[cycle(walk)]
 fn walk_lead(
-    ground: &Ground<'_>,
+    ground: &ResolutionContext<'_>,
     left: usize,
-    chain: &Chain<'_>,
-    lead: Lead<'_>,
-    gatherer: &mut Gatherer,
+    chain: &VisitChain<'_>,
+    lead: ResolvedReference<'_>,
+    collector: &mut UriCollector,
 ) -> Result<(), FlatError>
-    requires low { height lead.spot.element.now ≤ most_levels }
-    requires there { spot_at (ground_in ground.now) lead.place ≡ Some (spot_in lead.spot) }
-    requires sound { IsSound (ground_in ground.now) gatherer.old }
-    ensures gathers_what_it_leads_to { Gathers (ground_in ground.now)
+    requires height_bounded { height lead.scoped_element.element.now ≤ max_levels }
+    requires place_exists { scoped_element_at (context_in ground.now) lead.place
+        ≡ Some (scoped_element_in lead.scoped_element) }
+    requires is_sound { IsSound (context_in ground.now) collector.old }
+    ensures gathers_lead { Gathers (context_in ground.now)
         (if is_on chain.now lead.entry.place then [] else
-        spot_items (walk_behind (leads_in (ground_in ground.now)) ground.now.root.now left (lead.entry.place ∷ chain.now)) ground.now.root.now (spot_in lead.entry.spot))
-        gatherer.old gatherer.new result }
+        scoped_element_items
+        (walk_after (reference_resolved_in (context_in ground.now)) ground.now.root.now left
+        (lead.entry.place ∷ chain.now)) ground.now.root.now
+        (scoped_element_in lead.entry.scoped_element))
+        collector.old collector.new result }
 {
     if chain.has(&lead.place) {
         return Ok(());
     }
-    walk_once(ground, left, chain, lead, gatherer)
+    walk_once(ground, left, chain, lead, collector)
 }
 
-// Gathers what an element gives that isn't on the chain, unless it has no references and was gathered before.
+// Collects what an element that isn't on the chain gives, unless it has no references and was
+// collected before.
 #[cycle(walk)]
 fn walk_once(
-    ground: &Ground<'_>,
+    ground: &ResolutionContext<'_>,
     left: usize,
-    chain: &Chain<'_>,
-    lead: Lead<'_>,
-    gatherer: &mut Gatherer,
+    chain: &VisitChain<'_>,
+    lead: ResolvedReference<'_>,
+    collector: &mut UriCollector,
 ) -> Result<(), FlatError>
-    requires low { height lead.spot.element.now ≤ most_levels }
-    requires there { spot_at (ground_in ground.now) lead.place ≡ Some (spot_in lead.spot) }
-    requires sound { IsSound (ground_in ground.now) gatherer.old }
-    ensures gathers_what_the_element_gives { Gathers (ground_in ground.now)
-        (spot_items (walk_behind (leads_in (ground_in ground.now)) ground.now.root.now left (lead.entry.place ∷ chain.now)) ground.now.root.now (spot_in lead.entry.spot))
-        gatherer.old gatherer.new result }
+    requires height_bounded { height lead.scoped_element.element.now ≤ max_levels }
+    requires place_exists { scoped_element_at (context_in ground.now) lead.place
+        ≡ Some (scoped_element_in lead.scoped_element) }
+    requires is_sound { IsSound (context_in ground.now) collector.old }
+    ensures gathers_element { Gathers (context_in ground.now)
+        (scoped_element_items
+        (walk_after (reference_resolved_in (context_in ground.now)) ground.now.root.now left
+        (lead.entry.place ∷ chain.now)) ground.now.root.now
+        (scoped_element_in lead.entry.scoped_element))
+        collector.old collector.new result }
 {
-    if gatherer.has_passed(&lead.place) {
+    if collector.has_passed(&lead.place) {
         return Ok(());
     }
-    let marks = gatherer.marks();
-    walk_longer(ground, left, chain, &lead, gatherer)?;
-    keep_passed(ground, marks, lead.place, gatherer)?;
+    let marks = collector.marks();
+    walk_longer(ground, left, chain, &lead, collector)?;
+    keep_passed(ground, marks, lead.place, collector)?;
     Ok(())
 }
 
-// Gathers what an element gives, with its place on the chain.
+// Collects what an element gives, with its place on the chain.
 #[cycle(walk)]
 fn walk_longer(
-    ground: &Ground<'_>,
+    ground: &ResolutionContext<'_>,
     left: usize,
-    chain: &Chain<'_>,
-    lead: &Lead<'_>,
-    gatherer: &mut Gatherer,
+    chain: &VisitChain<'_>,
+    lead: &ResolvedReference<'_>,
+    collector: &mut UriCollector,
 ) -> Result<(), FlatError>
-    requires low { height lead.now.spot.element.now ≤ most_levels }
-    requires sound { IsSound (ground_in ground.now) gatherer.old }
-    ensures gathers_what_the_element_gives { Gathers (ground_in ground.now)
-        (spot_items (walk_behind (leads_in (ground_in ground.now)) ground.now.root.now left (lead.now.place ∷ chain.now)) ground.now.root.now (spot_in lead.now.spot))
-        gatherer.old gatherer.new result }
+    requires height_bounded { height lead.now.scoped_element.element.now ≤ max_levels }
+    requires is_sound { IsSound (context_in ground.now) collector.old }
+    ensures gathers_element { Gathers (context_in ground.now)
+        (scoped_element_items
+        (walk_after (reference_resolved_in (context_in ground.now)) ground.now.root.now left
+        (lead.now.place ∷ chain.now)) ground.now.root.now
+        (scoped_element_in lead.now.scoped_element))
+        collector.old collector.new result }
 {
     let longer = (&*chain).with(&lead.place);
-    let scope = Around::given(&lead.spot.scope);
+    let scope = LinkedScope::from_scope(&lead.scoped_element.scope);
     walk_element(
         ground,
         left,
         &longer,
-        lead.spot.kind,
+        lead.scoped_element.kind,
         &scope,
-        lead.spot.element,
-        gatherer,
+        lead.scoped_element.element,
+        collector,
     )
 }
 
-// Keeps the place of an element that was gathered, where no reference was counted since.
+// Records the place of a collected element, if no reference was counted since.
 fn keep_passed(
-    ground: &Ground<'_>,
+    ground: &ResolutionContext<'_>,
     marks: usize,
     place: Place,
-    gatherer: &mut Gatherer,
+    collector: &mut UriCollector,
 ) -> Result<(), NoMemory>
-    requires passed { gatherer.old.tally.marks ≡ marks → IsPassed (ground_in ground.now) gatherer.old.tally.uris place }
-    requires sound { IsSound (ground_in ground.now) gatherer.old }
-    ensures tally_stays { OnOk result (gatherer.new.tally ≡ gatherer.old.tally) }
-    ensures stays_sound { OnOk result (IsSound (ground_in ground.now) gatherer.new) }
+    requires passed { collector.old.tally.marks ≡ marks
+        → IsPassed (context_in ground.now) collector.old.tally.uris place }
+    requires is_sound { IsSound (context_in ground.now) collector.old }
+    ensures same_tally { OnOk result (collector.new.tally ≡ collector.old.tally) }
+    ensures stays_sound { OnOk result (IsSound (context_in ground.now) collector.new) }
 {
     let _ground = ground;
-    if gatherer.marks() == marks {
-        gatherer.pass(place)?;
+    if collector.marks() == marks {
+        collector.pass(place)?;
     }
     Ok(())
 }

@@ -1,34 +1,35 @@
--- The parts of selectors are read exactly: names, references and values, whatever stands behind them, as far as it doesn't go on with them.
+-- The parts of selectors are read exactly: names, references and values, whatever comes after
+-- them, as long as it doesn't continue them.
 use Rattle.std.proofs.Common.{◌≡◌, ℕ, Bool, true, false, List, [], ◌∷◌, inl, refl, sym, ap, ◌∙◌, arith}
 use Rattle.std.specs.Prelude.{◌||◌, ◌&&◌, not, ◌==◌}
 use Rattle.std.proofs.lemmas.Bool.{eqb-true, eq-eqb}
 use Rattle.std.specs.Int.{is_in_range as within}
 use Rattle.std.specs.Char.{is_ascii_digit as is_digit, is_ascii_hexdigit as is_hex_digit}
 use Rattle.xml_tree.specs.Characters.{is_char, is_name_start, is_name_char}
-use Rattle.grammar_rules.specs.Digits.{decimal_digits, hexadecimal}
-use Rattle.grammar_rules.specs.Rules.{word, run, either, valued, optional, between, keeping_first, keeping_second, number}
-use Rattle.grammar_rules.specs.Reading.{starts, read_word, read_valued}
-use Rattle.grammar_rules.specs.readers.Functions.{read_either}
-use Rattle.grammar_rules.specs.Answers.{Faults}
-use Rattle.grammar_rules.proofs.Exact.{Rest, ahead, Exact, exact_sequence}
-use Rattle.grammar_rules.proofs.Leaves.{exact_word}
-use Rattle.grammar_rules.proofs.Greedy.{exact_number}
-use Rattle.grammar_rules.proofs.Carry.{exact_valued}
-use Rattle.grammar_rules.proofs.Closed.{exact_only, heads_unless}
-use Rattle.grammar_rules.proofs.Heads.{Heads, Starts, Not, heads_starts, heads_weaker, heads_optional, starts_word, starts_weaker, starts_valued, starts_either, starts_sequence, starts_number, starts_judged}
-use Rattle.grammar_rules.proofs.Laws.{Lawful, Quiet, Inside, inside_ahead, quiet_valued, quiet_sequence, quiet_optional, quiet_behind, quiet_word, quiet_name_of, quiet_only, lawful_valued, lawful_sequence, lawful_optional, lawful_behind, lawful_before, lawful_word, lawful_name_of, lawful_either, lawful_number, lawful_between, lawful_run, lawful_quoted, lawful_only, lawful_some_of}
-use Rattle.grammar_rules.proofs.Led.{led_valued, led_word}
-use Rattle.grammar_rules.proofs.Shapes.{exact_before, exact_behind, exact_name_of, exact_some_of, exact_quoted, starts_name_of, starts_behind}
-use Rattle.grammar_rules.proofs.Tests.{exact_either_head, exact_optional_head, exact_between_run_head, exact_either_next}
+use Rattle.xml_grammar.specs.Digits.{decimal_digits, hexadecimal}
+use Rattle.xml_grammar.specs.Rules.{word, run, either, valued, optional, between, keeping_first, keeping_second, number}
+use Rattle.xml_grammar.specs.Reading.{starts, read_word, read_valued}
+use Rattle.xml_grammar.specs.readers.Functions.{read_either}
+use Rattle.xml_grammar.specs.Answers.{Faults}
+use Rattle.xml_grammar.proofs.Exact.{Rest, ahead, Exact, exact_sequence}
+use Rattle.xml_grammar.proofs.Leaves.{exact_word}
+use Rattle.xml_grammar.proofs.Greedy.{exact_number}
+use Rattle.xml_grammar.proofs.Carry.{exact_valued}
+use Rattle.xml_grammar.proofs.Closed.{exact_only, heads_unless}
+use Rattle.xml_grammar.proofs.Heads.{Heads, Starts, Not, heads_starts, heads_weaker, heads_optional, starts_word, starts_weaker, starts_valued, starts_either, starts_sequence, starts_number, starts_judged}
+use Rattle.xml_grammar.proofs.Laws.{Lawful, Quiet, Inside, inside_ahead, quiet_valued, quiet_sequence, quiet_optional, quiet_behind, quiet_word, quiet_name_of, quiet_only, lawful_valued, lawful_sequence, lawful_optional, lawful_behind, lawful_before, lawful_word, lawful_name_of, lawful_either, lawful_number, lawful_between, lawful_run, lawful_quoted, lawful_only, lawful_some_of}
+use Rattle.xml_grammar.proofs.Led.{led_valued, led_word}
+use Rattle.xml_grammar.proofs.Shapes.{exact_before, exact_behind, exact_name_of, exact_some_of, exact_quoted, starts_name_of, starts_behind}
+use Rattle.xml_grammar.proofs.Tests.{exact_either_head, exact_optional_head, exact_between_run_head, exact_either_next}
 use Rattle.xml_tree.specs.declared.names.Decl.{Decl}
-use Rattle.tree_text.specs.declared.kind.Kind.{Kind}
+use Rattle.tree_text.specs.declared.fault_kind.FaultKind.{FaultKind}
 use Rattle.tree_text.specs.readers.Words.{colon, ampersand, semicolon, hash, small_x, amp, lt, gt, quot, apos}
 use Rattle.tree_text.specs.Pieces.{qname_of}
 use Rattle.tree_text.specs.Grammar.{name, qname, stands_for, entity, char_ref, reference, last_char, is_quote, is_raw, is_raw_in}
 use Rattle.tree_text.specs.readers.Texts.{read_qname, read_stands_for, read_entity, read_numbered, read_reference}
 use Rattle.node_select.specs.declared.selector.NameTest.TheVariants.{Any}
 use Rattle.node_select.specs.Grammar.{position_of, node_name, position, IsUnbound, names_attribute, attribute, literal_value, value, test}
-use Rattle.node_select.specs.readers.Made.{attr_test, element_test}
+use Rattle.node_select.specs.readers.SelectorValues.{attr_test, element_test}
 use Rattle.node_select.specs.readers.Words.{star, at_sign, open_bracket, close_bracket, equals_sign}
 use Rattle.node_select.specs.readers.Selectors.{read_position, read_inside_quotes, read_value}
 use Rattle.node_select.specs.Faults.{marks}
@@ -42,7 +43,7 @@ Is d c = c ≡ d
 pub clash : (b : Bool) → b ≡ true → b ≡ false → ⊥
 clash b t f = cc
 
--- what is of the class isn't a character that is not
+-- a character of the class isn't a character outside it
 pub other : (p : ℕ → Bool) (c d : ℕ) → p d ≡ false → p c ≡ true → (c == d) ≡ false
 other p c d no_d t = by (c == d) refl
   where
@@ -68,11 +69,11 @@ and_not false b h = refl
 abbrev pub in_qname : ℕ → Bool
 in_qname c = is_name_char c || (c == 58)
 
-module _ {K : Rest Kind} where
+module _ {K : Rest FaultKind} where
   colon_heads : Heads (Not in_qname) K → (cs : List ℕ) → Heads (Not is_name_char) (ahead (optional (keeping_second (word colon) name)) (λ _. K))
   colon_heads h cs = heads_optional (starts_behind name (starts_word refl)) (heads_weaker (λ c m. left_false (is_name_char c) (c == 58) m) h)
 
-module _ {faults : Faults Kind} {K : Rest Kind} where
+module _ {faults : Faults FaultKind} {K : Rest FaultKind} where
   pub exact_qname : Heads (Not in_qname) K → Exact faults qname (λ _. K) read_qname
   exact_qname h =
       exact_valued qname_of (exact_sequence (exact_name_of (colon_heads h)) (λ _.
@@ -99,7 +100,7 @@ starts_a p h = starts_either (starts_stands 39 97 (112 ∷ 111 ∷ 115 ∷ []) h
 starts_entity : (p : ℕ → Bool) → p 108 ≡ false → p 103 ≡ false → p 113 ≡ false → p 97 ≡ false → Starts (Not p) entity
 starts_entity p l g q a = starts_either (starts_stands 60 108 (116 ∷ []) l) (starts_either (starts_stands 62 103 (116 ∷ []) g) (starts_either (starts_stands 34 113 (117 ∷ 111 ∷ 116 ∷ []) q) (starts_a p a)))
 
-module _ {faults : Faults Kind} {K : ℕ → Rest Kind} where
+module _ {faults : Faults FaultKind} {K : ℕ → Rest FaultKind} where
   exact_stands : (c : ℕ) (w : List ℕ) → Exact faults (stands_for c w) K (read_valued (λ _. c) (read_word w))
   exact_stands c w = exact_valued (λ _. c) exact_word
 
@@ -128,7 +129,7 @@ module _ {faults : Faults Kind} {K : ℕ → Rest Kind} where
       (exact_behind exact_word (exact_number hexadecimal last_char is_char h))
       (exact_number decimal_digits last_char is_char (λ n. heads_weaker (λ c m. left_false (within 48 57 c) (within 65 70 c) (left_false (within 48 57 c || within 65 70 c) (within 97 102 c) m)) (h n))))
 
-module _ {faults : Faults Kind} {K : ℕ → Rest Kind} where
+module _ {faults : Faults FaultKind} {K : ℕ → Rest FaultKind} where
   pub exact_reference : Exact faults reference K read_reference
   exact_reference =
       exact_behind exact_word
@@ -151,7 +152,7 @@ raw_not_quote q c e = and_not (is_raw c) (c == q) (eq-eqb c q e)
 quote_not_ampersand : (q c : ℕ) → is_quote q ≡ true → (c == 38) ≡ true → c ≡ q → ⊥
 quote_not_ampersand q c is t e = let same : q ≡ 38 = sym e ∙ eqb-true c 38 t in let z : true ≡ false = sym is ∙ ap is_quote same in cc
 
-module _ {faults : Faults Kind} {K : Rest Kind} where
+module _ {faults : Faults FaultKind} {K : Rest FaultKind} where
   exact_inside : (q : ℕ) → is_quote q ≡ true → Exact faults (valued literal_value (between (run (is_raw_in q)) reference)) (λ _. ahead (word (q ∷ [])) (λ _. K)) (read_inside_quotes q)
   exact_inside q is =
       exact_valued literal_value
@@ -165,7 +166,7 @@ module _ {faults : Faults Kind} {K : Rest Kind} where
   pub exact_position : Exact faults position (λ _. K) read_position
   exact_position = exact_behind exact_word (exact_before (exact_valued position_of (exact_some_of (λ _. heads_starts (starts_word refl)))) (λ _. exact_word))
 
--- ---- what they keep to
+-- ---- the laws of these rules
 pub lawful_reference : Lawful reference
 lawful_reference =
     lawful_behind (lawful_word ampersand)
@@ -198,7 +199,7 @@ module _ (bindings : List Decl) (default : List ℕ) where
   pub lawful_node_name : Lawful (node_name bindings default)
   lawful_node_name = lawful_either (lawful_valued (λ _. Any) (lawful_word star)) (lawful_valued (element_test bindings default) (lawful_named bindings lawful_qname (λ u n m. m)))
 
-module _ (bindings : List Decl) (default : List ℕ) (on : Bool) {K : Rest Kind} (inside : Inside K) where
+module _ (bindings : List Decl) (default : List ℕ) (on : Bool) {K : Rest FaultKind} (inside : Inside K) where
   pub exact_attribute : Heads (Not in_qname) K → Exact (marks on) (attribute bindings default) (λ _. K) (judged_attribute bindings default on)
   exact_attribute h =
       exact_behind exact_word
@@ -212,7 +213,7 @@ module _ (bindings : List Decl) (default : List ℕ) (on : Bool) {K : Rest Kind}
       (exact_valued (λ _. Any) exact_word)
       (exact_valued (element_test bindings default) (exact_name bindings on lawful_qname quiet_qname (λ u n m. m) prefixed inside (exact_qname h)))
 
-module _ (bindings : List Decl) (default : List ℕ) (on : Bool) {K : Rest Kind} (inside : Inside K) where
+module _ (bindings : List Decl) (default : List ℕ) (on : Bool) {K : Rest FaultKind} (inside : Inside K) where
   pub exact_test : Exact (marks on) (test bindings default) (λ _. K) (judged_test bindings default on)
   exact_test =
       exact_behind exact_word

@@ -4,23 +4,23 @@ use Rattle.std.specs.Prelude.{◌||◌, not, ◌==◌, Option, None, Some}
 use Rattle.std.proofs.lemmas.Bool.{eqb-true}
 use Rattle.std.proofs.lemmas.List.{append_cancel_right, append_cancel_left, length-append, take-append-drop}
 use Rattle.xml_tree.specs.Characters.{is_name_start}
-use Rattle.grammar_rules.specs.Rules.{Event, Begin, Mark, Rule, word, many, only, judged, optional, keeping_second, valued}
-use Rattle.grammar_rules.specs.Reading.{Stop, Syntax, Faulty, ◌>>=◌, Reader, head_is, starts, read_word, read_valued}
-use Rattle.grammar_rules.specs.readers.Functions.{all_of, read_behind, read_optional, read_whole}
-use Rattle.grammar_rules.specs.Answers.{Answers, Faults}
-use Rattle.grammar_rules.proofs.Exact.{Rest, ahead, Exact, IsRead, IsStopped, exact_sequence}
-use Rattle.grammar_rules.proofs.Leaves.{exact_word}
-use Rattle.grammar_rules.proofs.Carry.{Idle, Covers, exact_valued, covers_either, covers_valued, covers_sequence}
-use Rattle.grammar_rules.proofs.Heads.{Heads, Starts, Not, heads_starts, heads_optional, heads_valued, starts_word, starts_valued, starts_sequence, starts_covers, uses}
-use Rattle.grammar_rules.proofs.Repeats.{exact_many, heads_many}
-use Rattle.grammar_rules.proofs.Laws.{Lawful, Inside, inside_ahead, lawful_valued, lawful_sequence, lawful_optional, lawful_behind, lawful_word, lawful_either, lawful_many}
-use Rattle.grammar_rules.proofs.Led.{led_word, led_behind, led_covers_rest, next_false, stopped_covers}
-use Rattle.grammar_rules.proofs.Fronts.{starts_is}
-use Rattle.grammar_rules.proofs.Shapes.{exact_behind, covers_by, covers_empty, covered_valued, covered_sequence, starts_behind}
-use Rattle.grammar_rules.proofs.Tests.{exact_either_head, exact_optional_head, failed_covers, heads_covers}
-use Rattle.grammar_rules.proofs.Whole.{ends, heads_ends, inside_ends, answers_whole, told_alike}
+use Rattle.xml_grammar.specs.Rules.{Event, Begin, Mark, Rule, word, many, only, judged, optional, keeping_second, valued}
+use Rattle.xml_grammar.specs.Reading.{Stop, Syntax, Faulty, ◌>>=◌, Reader, head_is, starts, read_word, read_valued}
+use Rattle.xml_grammar.specs.readers.Functions.{all_of, read_behind, read_optional, read_whole}
+use Rattle.xml_grammar.specs.Answers.{Answers, Faults}
+use Rattle.xml_grammar.proofs.Exact.{Rest, ahead, Exact, IsRead, IsStopped, exact_sequence}
+use Rattle.xml_grammar.proofs.Leaves.{exact_word}
+use Rattle.xml_grammar.proofs.Carry.{Idle, Covers, exact_valued, covers_either, covers_valued, covers_sequence}
+use Rattle.xml_grammar.proofs.Heads.{Heads, Starts, Not, heads_starts, heads_optional, heads_valued, starts_word, starts_valued, starts_sequence, starts_covers, uses}
+use Rattle.xml_grammar.proofs.Repeats.{exact_many, heads_many}
+use Rattle.xml_grammar.proofs.Laws.{Lawful, Inside, inside_ahead, lawful_valued, lawful_sequence, lawful_optional, lawful_behind, lawful_word, lawful_either, lawful_many}
+use Rattle.xml_grammar.proofs.Led.{led_word, led_behind, led_covers_rest, next_false, stopped_covers}
+use Rattle.xml_grammar.proofs.Fronts.{starts_is}
+use Rattle.xml_grammar.proofs.Shapes.{exact_behind, covers_by, covers_empty, covered_valued, covered_sequence, starts_behind}
+use Rattle.xml_grammar.proofs.Tests.{exact_either_head, exact_optional_head, failed_covers, heads_covers}
+use Rattle.xml_grammar.proofs.Whole.{ends, heads_ends, inside_ends, answers_whole, told_alike}
 use Rattle.xml_tree.specs.declared.names.Name.{Name}
-use Rattle.tree_text.specs.declared.kind.Kind.{Kind}
+use Rattle.tree_text.specs.declared.fault_kind.FaultKind.{FaultKind}
 use Rattle.tree_text.specs.Grammar.{qname}
 use Rattle.node_select.specs.declared.selector.NameTest.TheVariants.{Named}
 use Rattle.node_select.specs.declared.selector.Step.{Step}
@@ -30,7 +30,7 @@ use Rattle.node_select.specs.declared.selector.PatchEnd.{PatchEnd}
 use Rattle.node_select.specs.declared.selector.PatchEnd.TheVariants as patch_ends
 use Rattle.node_select.specs.Grammar
 use Rattle.node_select.specs.Grammar.{IsUnbound, names_attribute, position}
-use Rattle.node_select.specs.readers.Made.{attribute_end, patch_attribute_end, first_step_of, end_or_element, selector_of, patch_end_or_element, patch_selector_of}
+use Rattle.node_select.specs.readers.SelectorValues.{attribute_end, patch_attribute_end, first_step_of, end_or_element, selector_of, patch_end_or_element, patch_selector_of}
 use Rattle.node_select.specs.readers.Words.{slash, at_sign, namespaces, text_test}
 use Rattle.node_select.specs.readers.Selectors.{step_follows, patch_step_follows, slash_follows, namespace_axis, text_call}
 use Rattle.xml_tree.specs.declared.names.Decl.{Decl}
@@ -46,7 +46,7 @@ use Rattle.node_select.specs.readers.Raw
 use Rattle.node_select.specs.readers.Selectors as reader
 use Rattle.node_select.specs.readers.Whole as raw
 use Rattle.node_select.specs.readers.Whole.{meant, selector_read, patch_selector_read}
-use Rattle.node_select.specs.Faults.{marks, byte_of, stop_place, IsSelectorAnswer, IsPatchSelectorAnswer, selector_told as told}
+use Rattle.node_select.specs.Faults.{marks, byte_of, stop_place, IsSelectorAnswer, IsPatchSelectorAnswer, selector_result as told}
 use Rattle.node_select.proofs.Agreeing.{Agrees, verdict, counted, dropped}
 use Rattle.node_select.proofs.Resolved.{selector_follows, patch_selector_follows}
 use Rattle.node_select.proofs.Judging.{judged_steps, judged_end, judged_selector, judged_patch_end, judged_patch_selector}
@@ -54,8 +54,8 @@ use Rattle.node_select.proofs.ExactParts.{Is, clash, other, exact_attribute, exa
 use Rattle.node_select.proofs.StepFronts.{fronted_step}
 use Rattle.node_select.proofs.ExactSteps.{into_optional, and_left, exact_step, lawful_step, starts_step, read_covers}
 
--- ---- behind a slash
-slash_covers : {faults : Faults Kind} {J X : Rest Kind} (t : List ℕ) → Covers faults t J X → Covers faults (47 ∷ t) (ahead (word slash) (λ _. J)) (ahead (word slash) (λ _. X))
+-- ---- after a slash
+slash_covers : {faults : Faults FaultKind} {J X : Rest FaultKind} (t : List ℕ) → Covers faults t J X → Covers faults (47 ∷ t) (ahead (word slash) (λ _. J)) (ahead (word slash) (λ _. X))
 slash_covers {faults} {J} {X} t h = record {
   events = λ e v w j m. ⊎_elim (λ l. inl (inl l)) (λ l. behind_slash e v w j l.1.front l.1.back l.1.joined l.1.front_is l.1.back_is) m;
   whole = λ m. h.whole (subst J.Whole (sym (behind_is m.1.front m.1.back m.1.front_is m.1.joined)) m.1.back_is);
@@ -64,7 +64,7 @@ slash_covers {faults} {J} {X} t h = record {
     behind_is : (front back : List ℕ) → front ≡ slash → 47 ∷ t ≡ front ++ back → t ≡ back
     behind_is front back s j = append_cancel_left slash t back (j ∙ ap (λ (z : List ℕ). z ++ back) s)
 
-    slash_alone : (e : Event Kind) (v back : List ℕ) → v ≡ slash ++ back → Idle faults e back → (ahead (word slash) (λ _. X)).Meets e v ⊎ Idle faults e v
+    slash_alone : (e : Event FaultKind) (v back : List ℕ) → v ≡ slash ++ back → Idle faults e back → (ahead (word slash) (λ _. X)).Meets e v ⊎ Idle faults e v
     slash_alone Begin v back j i = inl (inl ([], sym (j ∙ ap (λ (z : List ℕ). slash ++ z) i ∙ refl) ∙ sym (nothing v)))
       where
         nothing : (v : List ℕ) → v ++ [] ≡ v
@@ -72,59 +72,59 @@ slash_covers {faults} {J} {X} t h = record {
         nothing (c ∷ v) = ap (λ (z : List ℕ). c ∷ z) (nothing v)
     slash_alone (Mark k b) v back j i = inr i
 
-    behind_slash : (e : Event Kind) (v w : List ℕ) → 47 ∷ t ≡ v ++ w → (front back : List ℕ) → v ≡ front ++ back → front ≡ slash → J.Meets e back → (ahead (word slash) (λ _. X)).Meets e v ⊎ Idle faults e v
+    behind_slash : (e : Event FaultKind) (v w : List ℕ) → 47 ∷ t ≡ v ++ w → (front back : List ℕ) → v ≡ front ++ back → front ≡ slash → J.Meets e back → (ahead (word slash) (λ _. X)).Meets e v ⊎ Idle faults e v
     behind_slash e v w j front back k s m =
         let at : v ≡ slash ++ back = k ∙ ap (λ (z : List ℕ). z ++ back) s in
         let rest : t ≡ back ++ w = append_cancel_left slash t (back ++ w) (j ∙ ap (λ (z : List ℕ). z ++ w) at) in
         ⊎_elim (λ l. inl (inr (tt, record { front = slash; back = back; joined = at; front_is = refl; back_is = l }))) (λ i. slash_alone e v back at i) (h.events e back w rest m)
 
 module _ (bindings : List Decl) (default : List ℕ) (on : Bool) where
-  abbrev faults : Faults Kind
+  abbrev faults : Faults FaultKind
   faults = marks on
 
-  abbrev attribute : Rule Kind Name
+  abbrev attribute : Rule FaultKind Name
   attribute = Grammar.attribute bindings default
 
-  abbrev step : Rule Kind Step
+  abbrev step : Rule FaultKind Step
   step = Grammar.step bindings default
 
-  abbrev next_step : Rule Kind Step
+  abbrev next_step : Rule FaultKind Step
   next_step = keeping_second (word slash) step
 
-  abbrev steps : Rule Kind (List Step)
+  abbrev steps : Rule FaultKind (List Step)
   steps = Grammar.steps bindings default
 
-  abbrev end : Rule Kind End
+  abbrev end : Rule FaultKind End
   end = Grammar.end bindings default
 
-  abbrev selector : Rule Kind Selector
+  abbrev selector : Rule FaultKind Selector
   selector = Grammar.selector bindings default
 
-  abbrev patch_end : Rule Kind PatchEnd
+  abbrev patch_end : Rule FaultKind PatchEnd
   patch_end = Grammar.patch_end bindings default
 
-  abbrev patch_selector : Rule Kind PatchSelector
+  abbrev patch_selector : Rule FaultKind PatchSelector
   patch_selector = Grammar.patch_selector bindings default
 
-  abbrev read_steps : (List ℕ → Bool) → Reader Kind (List Step)
+  abbrev read_steps : (List ℕ → Bool) → Reader FaultKind (List Step)
   read_steps = judged_steps bindings default on
 
-  abbrev read_end : Reader Kind End
+  abbrev read_end : Reader FaultKind End
   read_end = judged_end bindings default on
 
-  abbrev read_selector : Reader Kind Selector
+  abbrev read_selector : Reader FaultKind Selector
   read_selector = judged_selector bindings default on
 
-  abbrev read_patch_end : Reader Kind PatchEnd
+  abbrev read_patch_end : Reader FaultKind PatchEnd
   read_patch_end = judged_patch_end bindings default on
 
-  abbrev read_patch_selector : Reader Kind PatchSelector
+  abbrev read_patch_selector : Reader FaultKind PatchSelector
   read_patch_selector = judged_patch_selector bindings default on
 
   abbrev chars_end : Option ℕ → PatchEnd
   chars_end n = patch_ends.Chars n
 
-  -- ---- steps, and then an end behind a slash, if there is one
+  -- ---- steps, and then an end after a slash, if there is one
   starts_next : {P : ℕ → Type 0} → P 47 → Starts P next_step
   starts_next h = starts_behind step (starts_word h)
 
@@ -134,17 +134,17 @@ module _ (bindings : List Decl) (default : List ℕ) (on : Bool) where
   lawful_steps : Lawful steps
   lawful_steps = lawful_valued first_step_of (lawful_sequence (lawful_step bindings default) (λ _. lawful_many lawful_next (inl (slash, refl))))
 
-  module _ {E : Type 0} (last : Rule Kind E) (f : Option E → E) (lawful_last : Lawful last) where
-    abbrev pub tail : Rule Kind E
+  module _ {E : Type 0} (last : Rule FaultKind E) (f : Option E → E) (lawful_last : Lawful last) where
+    abbrev pub tail : Rule FaultKind E
     tail = valued f (optional (keeping_second (word slash) last))
 
-    abbrev pub tail_rest : Rest Kind
+    abbrev pub tail_rest : Rest FaultKind
     tail_rest = ahead tail (λ _. ends)
 
     heads_tail : Heads (Is 47) tail_rest
     heads_tail = heads_valued f (heads_optional (starts_behind last (starts_word refl)) heads_ends)
 
-    abbrev pub after_step : Rest Kind
+    abbrev pub after_step : Rest FaultKind
     after_step = ahead (many next_step) (λ _. tail_rest)
 
     pub heads_after : Heads (Is 47) after_step
@@ -153,7 +153,7 @@ module _ (bindings : List Decl) (default : List ℕ) (on : Bool) where
     inside_after : Inside after_step
     inside_after = inside_ahead (lawful_many lawful_next (inl (slash, refl))) (λ _. inside_ahead (lawful_valued f (lawful_optional (lawful_behind (lawful_word slash) lawful_last))) (λ _. inside_ends))
 
-    -- the test tells steps from the end, behind a slash
+    -- the test distinguishes steps from the end, after a slash
     pub record Apart (follows : List ℕ → Bool) : Type 0 where
       pub at_end : follows [] ≡ false
       pub slashed : (text : List ℕ) → follows text ≡ true → head_is (λ c. c == 47) text ≡ true
@@ -196,7 +196,7 @@ module _ (bindings : List Decl) (default : List ℕ) (on : Bool) where
             stops = λ text h. stops text (head_is (λ c. c == 47) text) refl h;
           }) (exact_behind exact_word (exact_step bindings default on heads_after inside_after))))
 
-    pub exact_tail : {p : Reader Kind E} → Exact faults last (λ _. ends) p → Exact faults tail (λ _. ends) (read_valued f (read_optional slash_follows (read_behind (read_word slash) p)))
+    pub exact_tail : {p : Reader FaultKind E} → Exact faults last (λ _. ends) p → Exact faults tail (λ _. ends) (read_valued f (read_optional slash_follows (read_behind (read_word slash) p)))
     exact_tail h = exact_valued f (exact_optional_head (λ c. c == 47) (starts_behind last (starts_word refl)) (λ c m. m) (heads_ends {P = λ _. ⊥}) (λ c t m. m) (exact_behind exact_word h))
 
   -- ---- what a step is where the end of a selector begins
@@ -212,7 +212,7 @@ module _ (bindings : List Decl) (default : List ℕ) (on : Bool) where
   no_at : (t : List ℕ) → starts at_sign t ≡ false → (c : ℕ) (x : List ℕ) → t ≡ c ∷ x → c ≡ 64 → ⊥
   no_at t f c x j e = let same : t ≡ 64 ∷ x = j ∙ ap (λ (z : ℕ). z ∷ x) e in let yes : starts at_sign t ≡ true = ap (starts at_sign) same in clash (starts at_sign t) yes f
 
-  step_no_at : {J : Step → Rest Kind} {X : Rest Kind} (t : List ℕ) → starts at_sign t ≡ true → Covers faults t (ahead step J) X
+  step_no_at : {J : Step → Rest FaultKind} {X : Rest FaultKind} (t : List ℕ) → starts at_sign t ≡ true → Covers faults t (ahead step J) X
   step_no_at t h =
       let j = starts_is at_sign t h in
       heads_covers 64 _ (heads_starts (starts_step bindings default {P = Not (λ c. c == 64)} refl (λ c m. other is_name_start c 64 refl m))) j (λ m. cc)
@@ -234,7 +234,7 @@ module _ (bindings : List Decl) (default : List ℕ) (on : Bool) where
   abbrev text_name : List ℕ
   text_name = 116 ∷ 101 ∷ 120 ∷ 116 ∷ []
 
-  module _ {K : Rest Kind} (h : Heads (Is 47) K) (inside : Inside K) where
+  module _ {K : Rest FaultKind} (h : Heads (Is 47) K) (inside : Inside K) where
     axis_stops : (x : List ℕ) → IsStopped faults step (λ _. K) (axis ++ (58 ∷ x)) (58 ∷ x)
     axis_stops x = (exact_step bindings default on h inside).by (axis ++ (58 ∷ x))
 
@@ -258,7 +258,7 @@ module _ (bindings : List Decl) (default : List ℕ) (on : Bool) where
     text_begins u x j = (fronted_step bindings default).front u x (subst (λ (z : List ℕ). step.Meets Begin z) (text_used [] ∙ j) ((lawful_step bindings default).whole (text_read []).used text_raw (text_read []).spelled))
 
   -- ---- selectors
-  abbrev after_node : Rest Kind
+  abbrev after_node : Rest FaultKind
   after_node = after_step end end_or_element lawful_end
 
   node_no_end : (t : List ℕ) → starts at_sign t ≡ false → starts namespace_axis t ≡ false → Covers faults t (ahead end (λ _. ends)) (ahead step (λ _. after_node))
@@ -307,12 +307,12 @@ module _ (bindings : List Decl) (default : List ℕ) (on : Bool) where
   lawful_selector : Lawful selector
   lawful_selector = lawful_valued selector_of (lawful_sequence lawful_steps (λ _. lawful_valued end_or_element (lawful_optional (lawful_behind (lawful_word slash) lawful_end))))
 
-  -- reading a whole selector answers what the grammar says
+  -- reading a whole selector returns what the grammar says
   pub selector_answers : (text : List ℕ) → Answers faults selector text (read_whole read_selector text)
   selector_answers text = answers_whole lawful_selector exact_selector text
 
   -- ---- selectors of patches
-  abbrev after_patch : Rest Kind
+  abbrev after_patch : Rest FaultKind
   after_patch = after_step patch_end patch_end_or_element lawful_patch_end
 
   patch_no_end : (t : List ℕ) → starts at_sign t ≡ false → starts text_call t ≡ false → Covers faults t (ahead patch_end (λ _. ends)) (ahead step (λ _. after_patch))
@@ -374,11 +374,11 @@ module _ (bindings : List Decl) (default : List ℕ) (on : Bool) where
       lawful_behind (lawful_optional (lawful_word slash))
       (lawful_valued patch_selector_of (lawful_sequence lawful_steps (λ _. lawful_valued patch_end_or_element (lawful_optional (lawful_behind (lawful_word slash) lawful_patch_end)))))
 
-  -- reading a whole selector of a patch answers what the grammar says
+  -- reading a whole selector of a patch returns what the grammar says
   pub patch_selector_answers : (text : List ℕ) → Answers faults patch_selector text (read_whole read_patch_selector text)
   patch_selector_answers text = answers_whole lawful_patch_selector exact_patch_selector text
 
--- ---- what is answered
+-- ---- answers
 
 place_same : (text : List ℕ) (n : ℕ) → byte_of text (length (chars text) - length (drop n (chars text))) ≡ byte_of text n
 place_same text n = ap (λ (l : List ℕ). length text - length (encode_utf8_all l)) (again (chars text))
@@ -389,46 +389,46 @@ place_same text n = ap (λ (l : List ℕ). length text - length (encode_utf8_all
         ap (λ (k : ℕ). drop k xs) front ∙ ap (drop (length (take n xs))) (sym (take-append-drop n xs)) ∙ dropped (take n xs) (drop n xs)
 
 module _ {A B : Type 0} (text : List ℕ) (f : A → B) (u : ℕ → A → Option ℕ) where
-  abbrev raw_told : Result A (Stop Kind) → Result B SelectorFault
+  abbrev raw_told : Result A (Stop FaultKind) → Result B SelectorFault
   raw_told (Ok raw) = meant text (u 0 raw) (f raw)
   raw_told (Err stop) = Err (BadSelector (stop_place text stop))
 
-  abbrev all_in : {C : Type 0} → Result (C × List ℕ) (Stop Kind) → Result C (Stop Kind)
+  abbrev all_in : {C : Type 0} → Result (C × List ℕ) (Stop FaultKind) → Result C (Stop FaultKind)
   all_in out = out >>= λ x. all_of x.0 x.1
 
   by_place : (a : A) (o : Option ℕ) → meant text o (f a) ≡ told text (all_in (verdict false (chars text) (counted false (chars text) o) (f a) [])) (all_in (verdict true (chars text) (counted true (chars text) o) (f a) []))
   by_place a None = refl
   by_place a (Some n) = ap (λ (k : ℕ). let r : Result B SelectorFault = Err (UnboundPrefix k) in r) (sym (place_same text n))
 
-  more_told : (a : A) (o : Option ℕ) (c : ℕ) (cs : List ℕ) (names : Result B (Stop Kind))
+  more_told : (a : A) (o : Option ℕ) (c : ℕ) (cs : List ℕ) (names : Result B (Stop FaultKind))
       → raw_told (Err (Syntax (c ∷ cs))) ≡ told text (all_in (verdict false (chars text) (counted false (chars text) o) (f a) (c ∷ cs))) names
   more_told a None c cs names = refl
   more_told a (Some n) c cs names = refl
 
-  agreed : (out : Result (A × List ℕ) (Stop Kind)) (form names : Result (B × List ℕ) (Stop Kind)) → Agrees false (chars text) f u 0 (chars text) out form → Agrees true (chars text) f u 0 (chars text) out names
+  agreed : (out : Result (A × List ℕ) (Stop FaultKind)) (form names : Result (B × List ℕ) (Stop FaultKind)) → Agrees false (chars text) f u 0 (chars text) out form → Agrees true (chars text) f u 0 (chars text) out names
       → raw_told (all_in out) ≡ told text (all_in form) (all_in names)
   agreed (Ok (a, [])) form names h i =
-      by_place a (u 0 a) ∙ ap (λ (r : Result (B × List ℕ) (Stop Kind)). told text (all_in r) (all_in (verdict true (chars text) (counted true (chars text) (u 0 a)) (f a) []))) (sym h.1) ∙ ap (λ (r : Result (B × List ℕ) (Stop Kind)). told text (all_in form) (all_in r)) (sym i.1)
-  agreed (Ok (a, c ∷ cs)) form names h i = more_told a (u 0 a) c cs (all_in names) ∙ ap (λ (r : Result (B × List ℕ) (Stop Kind)). told text (all_in r) (all_in names)) (sym h.1)
-  agreed (Err e) form names h i = ap (λ (r : Result (B × List ℕ) (Stop Kind)). told text (all_in r) (all_in names)) (sym (h refl))
+      by_place a (u 0 a) ∙ ap (λ (r : Result (B × List ℕ) (Stop FaultKind)). told text (all_in r) (all_in (verdict true (chars text) (counted true (chars text) (u 0 a)) (f a) []))) (sym h.1) ∙ ap (λ (r : Result (B × List ℕ) (Stop FaultKind)). told text (all_in form) (all_in r)) (sym i.1)
+  agreed (Ok (a, c ∷ cs)) form names h i = more_told a (u 0 a) c cs (all_in names) ∙ ap (λ (r : Result (B × List ℕ) (Stop FaultKind)). told text (all_in r) (all_in names)) (sym h.1)
+  agreed (Err e) form names h i = ap (λ (r : Result (B × List ℕ) (Stop FaultKind)). told text (all_in r) (all_in names)) (sym (h refl))
 
 -- the answers do not depend on which fault of the names is found
-told_names : {A : Type 0} (text : List ℕ) (form : Result A (Stop Kind)) (kind other : Kind) (left : List ℕ) → told text form (Err (Faulty kind left)) ≡ told text form (Err (Faulty other left))
+told_names : {A : Type 0} (text : List ℕ) (form : Result A (Stop FaultKind)) (kind other : FaultKind) (left : List ℕ) → told text form (Err (Faulty kind left)) ≡ told text form (Err (Faulty other left))
 told_names text (Ok value) kind other left = refl
 told_names text (Err stop) kind other left = refl
 
 module _ (bindings : List Decl) (default text : List ℕ) where
-  abbrev form_of : Bool → Result Selector (Stop Kind)
+  abbrev form_of : Bool → Result Selector (Stop FaultKind)
   form_of on = read_whole (judged_selector bindings default on) (chars text)
 
-  abbrev patch_form_of : Bool → Result PatchSelector (Stop Kind)
+  abbrev patch_form_of : Bool → Result PatchSelector (Stop FaultKind)
   patch_form_of on = read_whole (judged_patch_selector bindings default on) (chars text)
 
-  raw_selector_told : (r : Result Raw.RawSelector (Stop Kind)) → raw.selector_told_so bindings default text r ≡ raw_told text (Raw.selector_of bindings default) (λ n x. Raw.unbound_from bindings n x.0 (Raw.unbound_end bindings x.1)) r
+  raw_selector_told : (r : Result Raw.RawSelector (Stop FaultKind)) → raw.selector_result_of bindings default text r ≡ raw_told text (Raw.selector_of bindings default) (λ n x. Raw.unbound_from bindings n x.0 (Raw.unbound_end bindings x.1)) r
   raw_selector_told (Ok x) = refl
   raw_selector_told (Err stop) = refl
 
-  raw_patch_told : (r : Result Raw.RawPatchSelector (Stop Kind)) → raw.patch_told bindings default text r ≡ raw_told text (Raw.patch_selector_of bindings default) (λ n x. Raw.unbound_from bindings (n + x.0) x.1.0 (Raw.unbound_patch_end bindings x.1.1)) r
+  raw_patch_told : (r : Result Raw.RawPatchSelector (Stop FaultKind)) → raw.patch_result bindings default text r ≡ raw_told text (Raw.patch_selector_of bindings default) (λ n x. Raw.unbound_from bindings (n + x.0) x.1.0 (Raw.unbound_patch_end bindings x.1.1)) r
   raw_patch_told (Ok x) = ap (λ (k : ℕ). meant text (Raw.unbound_from bindings k x.1.0 (Raw.unbound_patch_end bindings x.1.1)) (Raw.patch_selector_of bindings default x)) (let e : x.0 ≡ 0 + x.0 = omega arith in e)
   raw_patch_told (Err stop) = refl
 

@@ -1,35 +1,35 @@
--- Steps are read exactly, before what begins with a slash.
+-- Steps are read exactly, where what follows begins with a slash.
 use Rattle.std.proofs.Common.{◌≡◌, ℕ, ◌≤◌, Bool, true, false, List, [], ◌∷◌, ◌++◌, length, ◌⊎◌, inl, inr, ⊎_elim, refl, sym, ap, ◌∙◌, subst, arith, append_assoc}
 use Rattle.std.specs.Prelude.{◌&&◌, not, ◌==◌, Some}
 use Rattle.std.proofs.lemmas.List.{append_cancel_left, append-nil, length-append}
 use Rattle.xml_tree.specs.Characters.{is_name_start}
 use Rattle.xml_tree.specs.declared.names.Decl.{Decl}
 use Rattle.std.specs.Char.{is_ascii_digit as is_digit}
-use Rattle.grammar_rules.specs.Rules.{Event, Begin, Mark, Rule, word, sequence, optional, keeping_first, keeping_second, valued, some_of}
-use Rattle.grammar_rules.specs.Reading.{head_is, starts}
-use Rattle.grammar_rules.specs.readers.Functions.{read_optional}
-use Rattle.grammar_rules.specs.Answers.{Faults}
-use Rattle.grammar_rules.proofs.Exact.{Rest, ahead, Exact, IsRead, Passed, exact_sequence}
-use Rattle.grammar_rules.proofs.Carry.{Idle, Covers, exact_valued, covers_either, covers_valued}
-use Rattle.grammar_rules.proofs.Fronts.{GoesOn, compare}
-use Rattle.grammar_rules.proofs.Heads.{Heads, Starts, Not, heads_weaker, heads_optional, starts_word, starts_weaker, starts_valued, starts_either, starts_sequence, starts_judged}
-use Rattle.grammar_rules.proofs.Laws.{Lawful, Inside, inside_ahead, lawful_valued, lawful_sequence, lawful_optional}
-use Rattle.grammar_rules.proofs.Led.{Led, led_valued, led_then}
-use Rattle.grammar_rules.proofs.Shapes.{exact_optional, covers_by, covers_empty, starts_behind, starts_before, starts_some_of}
-use Rattle.grammar_rules.proofs.Tests.{exact_optional_head, passed_covers, failed_covers, next_covers, other_covers}
-use Rattle.tree_text.specs.declared.kind.Kind.{Kind}
+use Rattle.xml_grammar.specs.Rules.{Event, Begin, Mark, Rule, word, sequence, optional, keeping_first, keeping_second, valued, some_of}
+use Rattle.xml_grammar.specs.Reading.{head_is, starts}
+use Rattle.xml_grammar.specs.readers.Functions.{read_optional}
+use Rattle.xml_grammar.specs.Answers.{Faults}
+use Rattle.xml_grammar.proofs.Exact.{Rest, ahead, Exact, IsRead, Passed, exact_sequence}
+use Rattle.xml_grammar.proofs.Carry.{Idle, Covers, exact_valued, covers_either, covers_valued}
+use Rattle.xml_grammar.proofs.Fronts.{GoesOn, compare}
+use Rattle.xml_grammar.proofs.Heads.{Heads, Starts, Not, heads_weaker, heads_optional, starts_word, starts_weaker, starts_valued, starts_either, starts_sequence, starts_judged}
+use Rattle.xml_grammar.proofs.Laws.{Lawful, Inside, inside_ahead, lawful_valued, lawful_sequence, lawful_optional}
+use Rattle.xml_grammar.proofs.Led.{Led, led_valued, led_then}
+use Rattle.xml_grammar.proofs.Shapes.{exact_optional, covers_by, covers_empty, starts_behind, starts_before, starts_some_of}
+use Rattle.xml_grammar.proofs.Tests.{exact_optional_head, passed_covers, failed_covers, next_covers, other_covers}
+use Rattle.tree_text.specs.declared.fault_kind.FaultKind.{FaultKind}
 use Rattle.node_select.specs.declared.selector.NameTest.TheVariants.{Any}
 use Rattle.node_select.specs.declared.selector.AttrTest.{AttrTest}
 use Rattle.node_select.specs.Grammar.{IsUnbound, node_name, position_of, position, attribute, value, test, step}
-use Rattle.node_select.specs.readers.Made.{element_test, attr_test, step_of}
+use Rattle.node_select.specs.readers.SelectorValues.{element_test, attr_test, step_of}
 use Rattle.node_select.specs.readers.Words.{at_sign, open_bracket, close_bracket, equals_sign}
 use Rattle.node_select.specs.readers.Selectors.{position_follows, test_follows, read_position}
 use Rattle.node_select.specs.Faults.{marks}
 use Rattle.node_select.proofs.Judging.{judged_test, judged_step}
 use Rattle.node_select.proofs.ExactParts.{Is, clash, in_qname, starts_qname, exact_position, exact_test, exact_node_name, lawful_position, lawful_test, lawful_node_name}
 
--- what a member begins, the optional member begins
-pub into_optional : {A : Type 0} (r : Rule Kind A) (K : Rest Kind) (e : Event Kind) (v : List ℕ) → (ahead r (λ _. K)).Meets e v → (ahead (optional r) (λ _. K)).Meets e v
+-- a beginning of a member is a beginning of the optional member
+pub into_optional : {A : Type 0} (r : Rule FaultKind A) (K : Rest FaultKind) (e : Event FaultKind) (v : List ℕ) → (ahead r (λ _. K)).Meets e v → (ahead (optional r) (λ _. K)).Meets e v
 into_optional r K e v (inl m) = inl (inl m)
 into_optional r K e v (inr l) = inr (Some l.0, record { front = l.1.front; back = l.1.back; joined = l.1.joined; front_is = inl (l.0, l.1.front_is, refl); back_is = l.1.back_is })
 
@@ -53,7 +53,7 @@ starts_position : {P : ℕ → Type 0} → P 91 → Starts P position
 starts_position h = starts_behind (keeping_first (valued position_of (some_of is_digit)) (word close_bracket)) (starts_word h)
 
 module _ (bindings : List Decl) (default : List ℕ) where
-  abbrev tested : Rule Kind AttrTest
+  abbrev tested : Rule FaultKind AttrTest
   tested = test bindings default
 
   led_test : Led open_bracket (Is 64) tested
@@ -75,8 +75,8 @@ module _ (bindings : List Decl) (default : List ℕ) where
       names : Starts P (node_name bindings default)
       names = starts_either (starts_valued (λ _. Any) (starts_word a)) (starts_valued (element_test bindings default) (starts_judged (IsUnbound bindings) (starts_weaker b starts_qname)))
 
-  module _ (on : Bool) {K : Rest Kind} (h : Heads (Is 47) K) (inside : Inside K) where
-    abbrev rest_test : Rest Kind
+  module _ (on : Bool) {K : Rest FaultKind} (h : Heads (Is 47) K) (inside : Inside K) where
+    abbrev rest_test : Rest FaultKind
     rest_test = ahead (optional tested) (λ _. K)
 
     slash_not : (p : ℕ → Bool) → p 47 ≡ false → Heads (Not p) K
@@ -114,8 +114,8 @@ module _ (bindings : List Decl) (default : List ℕ) where
         exact_valued step_of
         (exact_sequence (exact_sequence (exact_node_name bindings default on inside_position (heads_position in_qname refl refl)) (λ _. exact_optional_position)) (λ _. exact_optional_test))
 
--- ---- a step that was read, or broke off, and nothing that can follow it: that is all that is there
-pub read_covers : {faults : Faults Kind} {A : Type 0} {r : Rule Kind A} {M X : Rest Kind} {text : List ℕ} {a : A} (c : ℕ) (x : List ℕ) → (i : IsRead faults r (λ _. M) text a (c ∷ x)) → Heads (Is 47) M → (c ≡ 47 → ⊥) → ((u y : List ℕ) → i.used ≡ u ++ y → X.Meets Begin u ⊎ (u ≡ [])) → Covers faults text (ahead r (λ _. M)) X
+-- ---- a step that was read, or broke off, where nothing can follow it: nothing else is there
+pub read_covers : {faults : Faults FaultKind} {A : Type 0} {r : Rule FaultKind A} {M X : Rest FaultKind} {text : List ℕ} {a : A} (c : ℕ) (x : List ℕ) → (i : IsRead faults r (λ _. M) text a (c ∷ x)) → Heads (Is 47) M → (c ≡ 47 → ⊥) → ((u y : List ℕ) → i.used ≡ u ++ y → X.Meets Begin u ⊎ (u ≡ [])) → Covers faults text (ahead r (λ _. M)) X
 read_covers {faults} {A} {r} {M} {X} {text} {a} c x i h no_slash fronts = record {
   events = λ e v w j m. ⊎_elim (λ p. by_front e v w j p) (λ l. by_rest e v w j l.0 l.1 l.2) (i.settled e v w j m);
   whole = λ m. by_whole m.0 m.1.front m.1.back m.1.joined m.1.front_is m.1.back_is;
@@ -125,11 +125,11 @@ read_covers {faults} {A} {r} {M} {X} {text} {a} c x i h no_slash fronts = record
     front_of_used v w j n (inl k) = fronts v k.0 k.1
     front_of_used v w j n (inr k) = absurd (omega (arith, n, ap length k.front, length-append i.used (k.c ∷ k.rest)))
 
-    by_front : (e : Event Kind) (v w : List ℕ) → text ≡ v ++ w → Passed faults e v i.used → X.Meets e v ⊎ Idle faults e v
+    by_front : (e : Event FaultKind) (v w : List ℕ) → text ≡ v ++ w → Passed faults e v i.used → X.Meets e v ⊎ Idle faults e v
     by_front Begin v w j p = front_of_used v w j p (compare v w i.used (c ∷ x) (sym j ∙ i.joined))
     by_front (Mark k b) v w j p = inr p
 
-    by_rest : (e : Event Kind) (v w : List ℕ) → text ≡ v ++ w → (y : List ℕ) → v ≡ i.used ++ y → M.Meets e y → X.Meets e v ⊎ Idle faults e v
+    by_rest : (e : Event FaultKind) (v w : List ℕ) → text ≡ v ++ w → (y : List ℕ) → v ≡ i.used ++ y → M.Meets e y → X.Meets e v ⊎ Idle faults e v
     by_rest Begin v w j [] k m = let same : v ≡ i.used = k ∙ append-nil i.used in fronts v [] (sym same ∙ sym (append-nil v))
     by_rest (Mark q b) v w j [] k m = absurd (h.none q b m)
     by_rest e v w j (d ∷ y) k m =

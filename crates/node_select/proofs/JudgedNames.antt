@@ -1,4 +1,5 @@
--- Names whose unbound prefixes are marked are read exactly: each front of a name that has a prefix has the prefix of the name.
+-- Names whose unbound prefixes are marked are read exactly: each front of a name that has a
+-- prefix has the prefix of the name.
 use Rattle.std.proofs.Common.{◌≡◌, ◌≢◌, ℕ, ◌+◌, ◌-◌, ◌≤◌, ◌<◌, Bool, true, false, cond, List, [], ◌∷◌, ◌++◌, length, drop, Result, Ok, Err, ◌⊎◌, inl, inr, refl, sym, ap, ◌∙◌, subst, append_assoc, arith}
 use Rattle.std.specs.Prelude.{◌&&◌, not, ◌==◌, Option, None, Some}
 use Rattle.std.specs.Str.{bytes_eq}
@@ -7,13 +8,13 @@ use Rattle.std.proofs.lemmas.List.{length-append, append-nil}
 use Rattle.xml_tree.specs.declared.names.Name.{Name}
 use Rattle.xml_tree.specs.declared.names.Decl.{Decl}
 use Rattle.xml_tree.specs.Characters.{is_name_start, is_name_char}
-use Rattle.grammar_rules.specs.Rules.{Event, Begin, Mark, Rule, AllPass, word, only, judged, optional, keeping_second}
-use Rattle.grammar_rules.specs.Reading.{Stop, Syntax, Faulty, Reader, ◌>>=◌, front_of, after_front}
-use Rattle.grammar_rules.specs.readers.Functions.{read_judged, read_only, judgement}
-use Rattle.grammar_rules.proofs.Exact.{Rest, ahead, Exact, IsRead, IsAtFault, Outcome, Passed, Behind, Later}
-use Rattle.grammar_rules.proofs.Laws.{Lawful, Quiet, Inside, inside_ahead, lawful_judged}
-use Rattle.tree_text.specs.declared.kind.Kind.{Kind}
-use Rattle.tree_text.specs.declared.kind.Kind.TheVariants.{Unbound}
+use Rattle.xml_grammar.specs.Rules.{Event, Begin, Mark, Rule, AllPass, word, only, judged, optional, keeping_second}
+use Rattle.xml_grammar.specs.Reading.{Stop, Syntax, Faulty, Reader, ◌>>=◌, front_of, after_front}
+use Rattle.xml_grammar.specs.readers.Functions.{read_judged, read_only, judgement}
+use Rattle.xml_grammar.proofs.Exact.{Rest, ahead, Exact, IsRead, IsAtFault, Outcome, Passed, Behind, Later}
+use Rattle.xml_grammar.proofs.Laws.{Lawful, Quiet, Inside, inside_ahead, lawful_judged}
+use Rattle.tree_text.specs.declared.fault_kind.FaultKind.{FaultKind}
+use Rattle.tree_text.specs.declared.fault_kind.FaultKind.TheVariants.{Unbound}
 use Rattle.tree_text.specs.readers.Words.{colon}
 use Rattle.tree_text.specs.Pieces.{written, qname_of}
 use Rattle.tree_text.specs.Grammar.{name, qname}
@@ -46,7 +47,7 @@ is_name_of u n m =
       others = m.1.back_is.0;
     }
 
--- the name in front of a text
+-- the name at the front of a text
 front_name : (p : ℕ → Bool) (u v : List ℕ) (c : ℕ) → AllPass p u → p c ≡ false → (front_of p (u ++ (c ∷ v)) ≡ u) × (after_front p (u ++ (c ∷ v)) ≡ c ∷ v)
 front_name p [] v c h f = (rw f refl, rw f refl)
 front_name p (d ∷ u) v c h f = let more = front_name p u v c h.1 f in (rw h.0 (ap (λ (z : List ℕ). d ∷ z) more.0), rw h.0 more.1)
@@ -58,7 +59,7 @@ before_colon u v n m =
     let cut = front_name is_name_char i.rest v 58 i.others refl in
     ap (λ (z : List ℕ). read_name (z ++ (58 ∷ v))) i.joined
     ∙ whole i.first i.rest (i.rest ++ (58 ∷ v)) i.begins cut.0 cut.1
-    ∙ ap (λ (z : List ℕ). let x : List ℕ × List ℕ = (z, 58 ∷ v) in let r : Result (List ℕ × List ℕ) (Stop Kind) = Ok x in r) (sym i.joined)
+    ∙ ap (λ (z : List ℕ). let x : List ℕ × List ℕ = (z, 58 ∷ v) in let r : Result (List ℕ × List ℕ) (Stop FaultKind) = Ok x in r) (sym i.joined)
   where
     whole : (c : ℕ) (cs text : List ℕ) → is_name_start c ≡ true → front_of is_name_char text ≡ cs → after_front is_name_char text ≡ 58 ∷ v → read_name (c ∷ text) ≡ Ok (c ∷ cs, 58 ∷ v)
     whole c cs text b e f = rw (b, e, f) refl
@@ -75,7 +76,7 @@ some_name u w n m =
 -- ---- names with prefixes
 
 -- what a name with a prefix is read as
-pub record ReadSo (p : Reader Kind Name) (text : List ℕ) (n : Name) : Type 0 where
+pub record ReadSo (p : Reader FaultKind Name) (text : List ℕ) (n : Name) : Type 0 where
   pub read : Name
   pub rest : List ℕ
   pub read_is : p text ≡ Ok (read, rest)
@@ -84,7 +85,7 @@ pub record ReadSo (p : Reader Kind Name) (text : List ℕ) (n : Name) : Type 0 w
 abbrev pub HasPrefix : Name → Type 0
 HasPrefix n = bytes_eq n.prefix [] ≡ false
 
-prefixed_by : (text u v w f : List ℕ) (o : Option (List ℕ)) → text ≡ (u ++ v) ++ w → name.Spells u f → (optional (keeping_second (word {Kind = Kind} colon) name)).Spells v o → HasPrefix (qname_of (f, o)) → ReadSo read_qname text (qname_of (f, o))
+prefixed_by : (text u v w f : List ℕ) (o : Option (List ℕ)) → text ≡ (u ++ v) ++ w → name.Spells u f → (optional (keeping_second (word {Kind = FaultKind} colon) name)).Spells v o → HasPrefix (qname_of (f, o)) → ReadSo read_qname text (qname_of (f, o))
 prefixed_by text u v w f None j m s h = absurd cc
 prefixed_by text u v w f (Some l) j m (inl s) h =
     let sp = s.1.1 in
@@ -114,7 +115,7 @@ prefixed_attribute text v w n j m h =
     record { read = s.read; rest = s.rest; read_is = rw (s.read_is, may_name n s.read s.prefix_is h) refl; prefix_is = s.prefix_is }
 
 -- how long a name is
-written_long : (u v f : List ℕ) (o : Option (List ℕ)) → name.Spells u f → (optional (keeping_second (word {Kind = Kind} colon) name)).Spells v o → length (written (qname_of (f, o))) ≡ length (u ++ v)
+written_long : (u v f : List ℕ) (o : Option (List ℕ)) → name.Spells u f → (optional (keeping_second (word {Kind = FaultKind} colon) name)).Spells v o → length (written (qname_of (f, o))) ≡ length (u ++ v)
 written_long u v f None m (inl s) = absurd (let e = s.2 in cc)
 written_long u v f None m (inr s) = ap length ((is_name_of u f m).same ∙ sym (append-nil u) ∙ ap (λ (z : List ℕ). u ++ z) (sym s.0))
 written_long u v f (Some l) m (inr s) = absurd (let e = s.1 in cc)
@@ -142,7 +143,7 @@ qname_some u n m =
 
 -- ---- judged names
 
--- a test, either way
+-- a test, in both cases
 on_test : {P : Type 0} (b : Bool) → (b ≡ true → P) → (b ≡ false → P) → P
 on_test true f g = f refl
 on_test false f g = g refl
@@ -159,16 +160,16 @@ both_on : (b on : Bool) → (b && on) ≡ true → (b ≡ true) × (on ≡ true)
 both_on true on h = (refl, h)
 both_on false on h = absurd cc
 
-named_within : (bindings : List Decl) (u : List ℕ) (n : Name) (k : Kind) (b : ℕ) → qname.Spells u n → IsUnbound bindings n k b → (0 < b) × (b ≤ length u)
+named_within : (bindings : List Decl) (u : List ℕ) (n : Name) (k : FaultKind) (b : ℕ) → qname.Spells u n → IsUnbound bindings n k b → (0 < b) × (b ≤ length u)
 named_within bindings u n k b m says = let l = qname_long u n m in let s = qname_some u n m in (omega (arith, says.2, l, s), omega (arith, says.2, l))
 
-pub lawful_named : (bindings : List Decl) {r : Rule Kind Name} → Lawful r → ((u : List ℕ) (n : Name) → r.Spells u n → qname.Spells u n) → Lawful (judged (IsUnbound bindings) r)
+pub lawful_named : (bindings : List Decl) {r : Rule FaultKind Name} → Lawful r → ((u : List ℕ) (n : Name) → r.Spells u n → qname.Spells u n) → Lawful (judged (IsUnbound bindings) r)
 lawful_named bindings lawful named = lawful_judged (IsUnbound bindings) (λ u n k b m says. named_within bindings u n k b (named u n m) says) lawful
 
-module _ (bindings : List Decl) (on : Bool) {r : Rule Kind Name} {K : Rest Kind} {p : Reader Kind Name} (lawful : Lawful r) (quiet : Quiet r)
+module _ (bindings : List Decl) (on : Bool) {r : Rule FaultKind Name} {K : Rest FaultKind} {p : Reader FaultKind Name} (lawful : Lawful r) (quiet : Quiet r)
     (named : (u : List ℕ) (n : Name) → r.Spells u n → qname.Spells u n)
     (so : (text v w : List ℕ) (n : Name) → text ≡ v ++ w → r.Spells v n → HasPrefix n → ReadSo p text n) (inside : Inside K) where
-  abbrev Judged : Rule Kind Name
+  abbrev Judged : Rule FaultKind Name
   Judged = judged (IsUnbound bindings) r
 
   inside_all : Inside (ahead Judged (λ _. K))
@@ -184,17 +185,17 @@ module _ (bindings : List Decl) (on : Bool) {r : Rule Kind Name} {K : Rest Kind}
     unbound_so : (v w : List ℕ) (n : Name) → text ≡ v ++ w → r.Spells v n → is_unbound bindings n ≡ true → is_unbound bindings a ≡ true
     unbound_so v w n j m t =
         let s = read_unbound text v w n j m t in
-        let both : (let q : Result (Name × List ℕ) (Stop Kind) = Ok s.0 in q ≡ Ok (a, left)) = sym s.1 ∙ read in
+        let both : (let q : Result (Name × List ℕ) (Stop FaultKind) = Ok s.0 in q ≡ Ok (a, left)) = sym s.1 ∙ read in
         let same : s.0 ≡ (a, left) = cc in
         ap (λ (z : Name × List ℕ). is_unbound bindings z.0) (sym same) ∙ s.2
 
-    bound_settled : (is_unbound bindings a && on) ≡ false → (e : Event Kind) (v w : List ℕ) → text ≡ v ++ w → (ahead Judged (λ _. K)).Meets e v → Passed (marks on) e v h.used ⊎ Later (marks on) K e v h.used
+    bound_settled : (is_unbound bindings a && on) ≡ false → (e : Event FaultKind) (v w : List ℕ) → text ≡ v ++ w → (ahead Judged (λ _. K)).Meets e v → Passed (marks on) e v h.used ⊎ Later (marks on) K e v h.used
     bound_settled none Begin v w j (inl m) = h.settled Begin v w j (inl m)
     bound_settled none (Mark k b) v w j (inl (inl m)) = inl (off (is_unbound bindings a) on (unbound_so v w m.0 j m.1 m.2.0) none)
     bound_settled none (Mark k b) v w j (inl (inr m)) = absurd (quiet.no_mark k b v m)
     bound_settled none e v w j (inr m) = h.settled e v w j (inr m)
 
-    fault_settled : (e : Event Kind) (v w : List ℕ) → text ≡ v ++ w → (ahead Judged (λ _. K)).Meets e v → Behind (marks on) Unbound e v []
+    fault_settled : (e : Event FaultKind) (v w : List ℕ) → text ≡ v ++ w → (ahead Judged (λ _. K)).Meets e v → Behind (marks on) Unbound e v []
     fault_settled Begin v w j m = tt
     fault_settled (Mark k b) v w j m = λ t. in_order b (length v) (inside_all.within k b v m)
       where
@@ -220,14 +221,14 @@ module _ (bindings : List Decl) (on : Bool) {r : Rule Kind Name} {K : Rest Kind}
           beyond = λ v w n j m k. qname_some v n (named v n m);
         })
 
-  by_outcome : (text : List ℕ) (out : Result (Name × List ℕ) (Stop Kind)) → p text ≡ out → Outcome (marks on) r (λ _. K) text out → Outcome (marks on) Judged (λ _. K) text (out >>= λ x. judgement text x (judge bindings on x.0))
+  by_outcome : (text : List ℕ) (out : Result (Name × List ℕ) (Stop FaultKind)) → p text ≡ out → Outcome (marks on) r (λ _. K) text out → Outcome (marks on) Judged (λ _. K) text (out >>= λ x. judgement text x (judge bindings on x.0))
   by_outcome text (Ok x) e h = by_mark text x.1 x.0 e h (is_unbound bindings x.0 && on) refl
   by_outcome text (Err (Faulty kind left)) e h = absurd (quiet.no_mark kind (length h.seen) (h.used ++ h.seen) h.met)
   by_outcome text (Err (Syntax left)) e h = record { used = h.used; joined = h.joined; begun = h.begun; settled = stopped; none = h.none }
     where
-      stopped : (e : Event Kind) (v w : List ℕ) → text ≡ v ++ w → (ahead Judged (λ _. K)).Meets e v → Passed (marks on) e v h.used
+      stopped : (e : Event FaultKind) (v w : List ℕ) → text ≡ v ++ w → (ahead Judged (λ _. K)).Meets e v → Passed (marks on) e v h.used
       stopped Begin v w j (inl m) = h.settled Begin v w j (inl m)
-      stopped (Mark k b) v w j (inl (inl m)) = absurd (let s = read_unbound text v w m.0 j m.1 m.2.0 in let never : (let q : Result (Name × List ℕ) (Stop Kind) = Err (Syntax left) in q ≡ Ok s.0) = sym e ∙ s.1 in cc)
+      stopped (Mark k b) v w j (inl (inl m)) = absurd (let s = read_unbound text v w m.0 j m.1 m.2.0 in let never : (let q : Result (Name × List ℕ) (Stop FaultKind) = Err (Syntax left) in q ≡ Ok s.0) = sym e ∙ s.1 in cc)
       stopped (Mark k b) v w j (inl (inr m)) = absurd (quiet.no_mark k b v m)
       stopped e v w j (inr m) = h.settled e v w j (inr m)
 

@@ -1,12 +1,13 @@
--- Reading functions that resolve the names of a selector where they stand, and stop at an unbound prefix where that counts.
+-- Reading functions that resolve the names of a selector at their places, and stop at an unbound
+-- prefix where that counts.
 use Rattle.std.proofs.Common.{ℕ, Bool, List, length}
 use Rattle.std.specs.Prelude.{◌&&◌, Option, None, Some, if◌then◌else◌}
 use Rattle.xml_tree.specs.declared.names.Name.{Name}
 use Rattle.xml_tree.specs.declared.names.Decl.{Decl}
-use Rattle.grammar_rules.specs.Reading.{Reader, read_word, read_sequence, read_valued}
-use Rattle.grammar_rules.specs.readers.Functions.{read_either, read_many, read_judged, read_only, read_optional, read_before, read_behind}
-use Rattle.tree_text.specs.declared.kind.Kind.{Kind}
-use Rattle.tree_text.specs.declared.kind.Kind.TheVariants.{Unbound}
+use Rattle.xml_grammar.specs.Reading.{Reader, read_word, read_sequence, read_valued}
+use Rattle.xml_grammar.specs.readers.Functions.{read_either, read_many, read_judged, read_only, read_optional, read_before, read_behind}
+use Rattle.tree_text.specs.declared.fault_kind.FaultKind.{FaultKind}
+use Rattle.tree_text.specs.declared.fault_kind.FaultKind.TheVariants.{Unbound}
 use Rattle.tree_text.specs.Pieces.{written}
 use Rattle.tree_text.specs.readers.Texts.{read_qname}
 use Rattle.node_select.specs.declared.selector.NameTest.{NameTest}
@@ -21,52 +22,52 @@ use Rattle.node_select.specs.declared.selector.PatchEnd.TheVariants as patch_end
 use Rattle.node_select.specs.declared.selector.PatchSelector.{PatchSelector}
 use Rattle.node_select.specs.Names.{is_unbound}
 use Rattle.node_select.specs.Grammar
-use Rattle.node_select.specs.readers.Made
+use Rattle.node_select.specs.readers.SelectorValues
 use Rattle.node_select.specs.readers.Words
 use Rattle.node_select.specs.readers.Selectors.{star_follows, position_follows, read_position, read_value, test_follows, slash_follows, attribute_follows, step_follows, patch_step_follows}
 
 -- the mark of a name that counts
-abbrev pub judge : List Decl → Bool → Name → Option (Kind × ℕ)
+abbrev pub judge : List Decl → Bool → Name → Option (FaultKind × ℕ)
 judge bindings on name = if is_unbound bindings name && on then Some (Unbound, length (written name)) else None
 
 module _ (bindings : List Decl) (default : List ℕ) (on : Bool) where
-  abbrev pub judged_node_name : Reader Kind NameTest
-  judged_node_name = read_either star_follows (read_valued (λ _. Any) (read_word Words.star)) (read_valued (Made.element_test bindings default) (read_judged (judge bindings on) read_qname))
+  abbrev pub judged_node_name : Reader FaultKind NameTest
+  judged_node_name = read_either star_follows (read_valued (λ _. Any) (read_word Words.star)) (read_valued (SelectorValues.element_test bindings default) (read_judged (judge bindings on) read_qname))
 
-  abbrev pub judged_attribute : Reader Kind Name
+  abbrev pub judged_attribute : Reader FaultKind Name
   judged_attribute = read_behind (read_word Words.at_sign) (read_judged (judge bindings on) (read_only Grammar.names_attribute read_qname))
 
-  abbrev pub judged_test : Reader Kind AttrTest
+  abbrev pub judged_test : Reader FaultKind AttrTest
   judged_test =
       read_behind (read_word Words.open_bracket)
-      (read_before (read_valued (Made.attr_test bindings default) (read_sequence judged_attribute (λ _. read_behind (read_word Words.equals_sign) read_value))) (read_word Words.close_bracket))
+      (read_before (read_valued (SelectorValues.attr_test bindings default) (read_sequence judged_attribute (λ _. read_behind (read_word Words.equals_sign) read_value))) (read_word Words.close_bracket))
 
-  abbrev pub judged_step : Reader Kind Step
+  abbrev pub judged_step : Reader FaultKind Step
   judged_step =
-      read_valued Made.step_of
+      read_valued SelectorValues.step_of
       (read_sequence (read_sequence judged_node_name (λ _. read_optional position_follows read_position)) (λ _. read_optional test_follows judged_test))
 
-  abbrev pub judged_next : Reader Kind Step
+  abbrev pub judged_next : Reader FaultKind Step
   judged_next = read_behind (read_word Words.slash) judged_step
 
-  abbrev pub judged_steps : (List ℕ → Bool) → Reader Kind (List Step)
-  judged_steps follows = read_valued Made.first_step_of (read_sequence judged_step (λ _. read_many follows judged_next))
+  abbrev pub judged_steps : (List ℕ → Bool) → Reader FaultKind (List Step)
+  judged_steps follows = read_valued SelectorValues.first_step_of (read_sequence judged_step (λ _. read_many follows judged_next))
 
-  abbrev pub judged_end : Reader Kind End
-  judged_end = read_either attribute_follows (read_valued (Made.attribute_end bindings default) judged_attribute) (read_valued (λ _. Namespaces) (read_word Words.namespaces))
+  abbrev pub judged_end : Reader FaultKind End
+  judged_end = read_either attribute_follows (read_valued (SelectorValues.attribute_end bindings default) judged_attribute) (read_valued (λ _. Namespaces) (read_word Words.namespaces))
 
-  abbrev pub judged_selector : Reader Kind Selector
+  abbrev pub judged_selector : Reader FaultKind Selector
   judged_selector =
-      read_valued Made.selector_of
-      (read_sequence (judged_steps step_follows) (λ _. read_valued Made.end_or_element (read_optional slash_follows (read_behind (read_word Words.slash) judged_end))))
+      read_valued SelectorValues.selector_of
+      (read_sequence (judged_steps step_follows) (λ _. read_valued SelectorValues.end_or_element (read_optional slash_follows (read_behind (read_word Words.slash) judged_end))))
 
-  abbrev pub judged_patch_end : Reader Kind PatchEnd
+  abbrev pub judged_patch_end : Reader FaultKind PatchEnd
   judged_patch_end =
-      read_either attribute_follows (read_valued (Made.patch_attribute_end bindings default) judged_attribute)
+      read_either attribute_follows (read_valued (SelectorValues.patch_attribute_end bindings default) judged_attribute)
       (read_valued (λ n. patch_ends.Chars n) (read_behind (read_word Words.text_test) (read_optional test_follows read_position)))
 
-  abbrev pub judged_patch_selector : Reader Kind PatchSelector
+  abbrev pub judged_patch_selector : Reader FaultKind PatchSelector
   judged_patch_selector =
       read_behind (read_optional slash_follows (read_word Words.slash))
-      (read_valued Made.patch_selector_of
-      (read_sequence (judged_steps patch_step_follows) (λ _. read_valued Made.patch_end_or_element (read_optional slash_follows (read_behind (read_word Words.slash) judged_patch_end)))))
+      (read_valued SelectorValues.patch_selector_of
+      (read_sequence (judged_steps patch_step_follows) (λ _. read_valued SelectorValues.patch_end_or_element (read_optional slash_follows (read_behind (read_word Words.slash) judged_patch_end)))))

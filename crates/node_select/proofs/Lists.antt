@@ -2,7 +2,7 @@
 use Rattle.std.proofs.Common.{◌≡◌, ◌≤◌, ◌<◌, ◌-◌, ℕ, List, [], ◌∷◌, ◌++◌, Bor, length, map, take, drop, get_or, refl, ap, arith, append-nil, append_assoc}
 use Rattle.xml_tree.specs.declared.names.Decl.{Decl}
 
--- what lists that are lent hold
+-- what borrowed lists hold
 abbrev held : List (Bor (List Decl)) → List (List Decl)
 held ls = map (λ x. x.now) ls
 

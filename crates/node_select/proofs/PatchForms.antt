@@ -1,18 +1,18 @@
--- What the selector of a patch ends in is read as the grammar says.
+-- The form of the last part of a patch's selector is read as the grammar says.
 use Rattle.std.proofs.Common.{◌≡◌, ℕ, ◌+◌, false, List, [], ◌∷◌, Option, Some, None, Result, Ok, Err, IfOk, refl, sym, ap, ◌∙◌, subst}
 use Rattle.std.specs.Str.{chars}
 use Rattle.std.specs.declared.alloc.AllocError.{AllocError}
-use Rattle.grammar_rules.specs.Reading.{Stop, ◌>>=◌}
-use Rattle.grammar_rules.specs.readers.Functions.{all_of, read_whole}
-use Rattle.grammar_rules.proofs.Whole.{told_alike}
-use Rattle.tree_text.specs.declared.kind.Kind.{Kind}
+use Rattle.xml_grammar.specs.Reading.{Stop, ◌>>=◌}
+use Rattle.xml_grammar.specs.readers.Functions.{all_of, read_whole}
+use Rattle.xml_grammar.proofs.Whole.{told_alike}
+use Rattle.tree_text.specs.declared.fault_kind.FaultKind.{FaultKind}
 use Rattle.node_select.specs.declared.selector.PatchForm.{PatchForm}
 use Rattle.node_select.specs.declared.selector.PatchSelector.{PatchSelector}
-use Rattle.node_select.specs.Faults.{IsPatchFormAnswer, form_of, form_told, marks}
+use Rattle.node_select.specs.Faults.{IsPatchFormAnswer, form_of, form_if_parsed, marks}
 use Rattle.node_select.specs.Grammar.{patch_selector}
 use Rattle.node_select.specs.readers.Raw.{RawPatchEnd, RawPatchSelector, PatchElement, PatchAttribute, PatchChars, patch_end_of, patch_selector_of, unbound_from, unbound_patch_end}
 use Rattle.node_select.specs.readers.Selectors.{read_patch_selector}
-use Rattle.node_select.specs.readers.Whole.{patch_form_read, raw_form_of, raw_form_told}
+use Rattle.node_select.specs.readers.Whole.{patch_form_read, raw_form_of, raw_form_if_parsed}
 use Rattle.node_select.proofs.Agreeing.{Agrees, counted, verdict}
 use Rattle.node_select.proofs.ExactSelectors.{patch_selector_answers}
 use Rattle.node_select.proofs.Judging.{judged_patch_selector}
@@ -24,29 +24,29 @@ same_form (PatchAttribute name) = refl
 same_form (PatchChars position) = refl
 
 module _ (text : List ℕ) where
-  abbrev all_in : {C : Type 0} → Result (C × List ℕ) (Stop Kind) → Result C (Stop Kind)
+  abbrev all_in : {C : Type 0} → Result (C × List ℕ) (Stop FaultKind) → Result C (Stop FaultKind)
   all_in out = out >>= λ x. all_of x.0 x.1
 
-  -- where no name counts, what is read is read whether its names mean something or not
-  abbrev alike : RawPatchSelector → Option ℕ → List ℕ → Result (PatchSelector × List ℕ) (Stop Kind)
+  -- where no name counts, reading doesn't depend on what its names mean
+  abbrev alike : RawPatchSelector → Option ℕ → List ℕ → Result (PatchSelector × List ℕ) (Stop FaultKind)
   alike raw o rest = verdict false (chars text) (counted false (chars text) o) (patch_selector_of [] [] raw) rest
 
-  ended : (raw : RawPatchSelector) (o : Option ℕ) → raw_form_told (Ok raw) ≡ form_told (all_in (alike raw o []))
+  ended : (raw : RawPatchSelector) (o : Option ℕ) → raw_form_if_parsed (Ok raw) ≡ form_if_parsed (all_in (alike raw o []))
   ended raw None = ap (λ (f : PatchForm). Some f) (same_form raw.1.1)
   ended raw (Some n) = ap (λ (f : PatchForm). Some f) (same_form raw.1.1)
 
-  left_over : (raw : RawPatchSelector) (o : Option ℕ) (c : ℕ) (cs : List ℕ) → None ≡ form_told (all_in (alike raw o (c ∷ cs)))
+  left_over : (raw : RawPatchSelector) (o : Option ℕ) (c : ℕ) (cs : List ℕ) → None ≡ form_if_parsed (all_in (alike raw o (c ∷ cs)))
   left_over raw None c cs = refl
   left_over raw (Some n) c cs = refl
 
   abbrev place : ℕ → RawPatchSelector → Option ℕ
   place n x = unbound_from [] (n + x.0) x.1.0 (unbound_patch_end [] x.1.1)
 
-  agreed : (out : Result (RawPatchSelector × List ℕ) (Stop Kind)) (other : Result (PatchSelector × List ℕ) (Stop Kind)) → Agrees false (chars text) (patch_selector_of [] []) place 0 (chars text) out other
-      → raw_form_told (all_in out) ≡ form_told (all_in other)
-  agreed (Ok (raw, [])) other h = ended raw (place 0 raw) ∙ ap (λ (r : Result (PatchSelector × List ℕ) (Stop Kind)). form_told (all_in r)) (sym h.1)
-  agreed (Ok (raw, c ∷ cs)) other h = left_over raw (place 0 raw) c cs ∙ ap (λ (r : Result (PatchSelector × List ℕ) (Stop Kind)). form_told (all_in r)) (sym h.1)
-  agreed (Err e) other h = ap (λ (r : Result (PatchSelector × List ℕ) (Stop Kind)). form_told (all_in r)) (sym (h refl))
+  agreed : (out : Result (RawPatchSelector × List ℕ) (Stop FaultKind)) (other : Result (PatchSelector × List ℕ) (Stop FaultKind)) → Agrees false (chars text) (patch_selector_of [] []) place 0 (chars text) out other
+      → raw_form_if_parsed (all_in out) ≡ form_if_parsed (all_in other)
+  agreed (Ok (raw, [])) other h = ended raw (place 0 raw) ∙ ap (λ (r : Result (PatchSelector × List ℕ) (Stop FaultKind)). form_if_parsed (all_in r)) (sym h.1)
+  agreed (Ok (raw, c ∷ cs)) other h = left_over raw (place 0 raw) c cs ∙ ap (λ (r : Result (PatchSelector × List ℕ) (Stop FaultKind)). form_if_parsed (all_in r)) (sym h.1)
+  agreed (Err e) other h = ap (λ (r : Result (PatchSelector × List ℕ) (Stop FaultKind)). form_if_parsed (all_in r)) (sym (h refl))
 
   pub form_answer : IsPatchFormAnswer text (patch_form_read text)
   form_answer = record {
@@ -57,7 +57,7 @@ module _ (text : List ℕ) where
 
   pub one_form : (a b : Option PatchForm) → IsPatchFormAnswer text a → IsPatchFormAnswer text b → a ≡ b
   one_form a b x y =
-      x.is_told ∙ told_alike (marks false) (patch_selector [] []) (chars text) form_told (λ kind other left k o same. refl) x.stated y.stated x.by_grammar y.by_grammar ∙ sym y.is_told
+      x.is_told ∙ told_alike (marks false) (patch_selector [] []) (chars text) form_if_parsed (λ kind other left k o same. refl) x.stated y.stated x.by_grammar y.by_grammar ∙ sym y.is_told
 
   pub form_answered : (r : Result (Option PatchForm) AllocError) → IfOk r (λ form. form ≡ patch_form_read text) → IfOk r (IsPatchFormAnswer text)
   form_answered (Ok form) h = subst (IsPatchFormAnswer text) (sym h) form_answer

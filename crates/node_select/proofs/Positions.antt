@@ -1,8 +1,8 @@
 -- Numbers that only grow as digits follow.
 use Rattle.std.proofs.Common.{◌≡◌, ℕ, ◌+◌, ◌-◌, ◌*◌, ◌<◌, ◌≤◌, false, cond, List, [], ◌∷◌, sym, ap, ◌∙◌, arith}
 use Rattle.std.specs.Prelude.{nat_le}
-use Rattle.grammar_rules.specs.Digits.{decimal_digits}
-use Rattle.grammar_rules.specs.Rules.{number_from}
+use Rattle.xml_grammar.specs.Digits.{decimal_digits}
+use Rattle.xml_grammar.specs.Rules.{number_from}
 use Rattle.node_select.specs.Grammar.{greatest_position, position_of}
 
 not_less : (cs : List ℕ) (n : ℕ) → n ≤ number_from decimal_digits n cs

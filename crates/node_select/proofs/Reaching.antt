@@ -1,16 +1,16 @@
 -- What steps select, as a relation and computed, and how far first steps lead.
 use Rattle.std.proofs.Common.{◌≡◌, ◌↔◌, ℕ, zero, suc, ◌<◌, ◌≤◌, Bool, true, false, cond, List, [], ◌∷◌, ◌++◌, length, take, Option, None, Some, slice_get, option_map, option_and_then, refl, sym, ap, ◌∙◌, subst, arith, append_assoc}
 use Rattle.std.proofs.lemmas.Option.{same_Some, none-some}
-use Rattle.step_laws.specs.Selection.{Matches, Selects, matches, selected, only_item}
-use Rattle.step_laws.proofs.Selecting.{matches_is, selected_is}
-use Rattle.xml_tree.specs.Tree.{Tree, kids_of}
+use Rattle.node_select.specs.StepSelection.{Matches, Selects, matches, selected, only_item}
+use Rattle.node_select.proofs.Selecting.{matches_is, selected_is}
+use Rattle.xml_tree.specs.Tree.{Tree, child_elements_of}
 use Rattle.xml_tree.specs.declared.names.Decl.{Decl}
 use Rattle.xml_tree.specs.Scopes.{inside}
 use Rattle.node_select.specs.declared.selector.Step.{Step}
 use Rattle.node_select.specs.Selection.{is_named, is_tested, SelectsChild, SelectsAmong, SelectsPath, IsLongestMatch, selected_child, selected_among, selected_in, deeper, depth_among, longest_in}
 
 -- ---- some children and one step
--- what an answer says of the two steps that it came from
+-- the two steps that a path came from
 two : (o : Option ℕ) (g : ℕ → Option (List ℕ)) (p : List ℕ) → option_and_then (λ i. option_map (λ q. i ∷ q) (g i)) o ≡ Some p
     → (i : ℕ) × (q : List ℕ) × (o ≡ Some i) × (g i ≡ Some q) × (p ≡ i ∷ q)
 two None g p h = cc
@@ -20,28 +20,28 @@ two (Some i) g p h = by (g i) refl h
     by None e h' = cc
     by (Some q) e h' = (i, q, refl, e, cc)
 
-inner : (o : Option Tree) (g : Tree → Option (List ℕ)) (q : List ℕ) → option_and_then g o ≡ Some q → (kid : Tree) × (o ≡ Some kid) × (g kid ≡ Some q)
+inner : (o : Option Tree) (g : Tree → Option (List ℕ)) (q : List ℕ) → option_and_then g o ≡ Some q → (child_element : Tree) × (o ≡ Some child_element) × (g child_element ≡ Some q)
 inner None g q h = cc
-inner (Some kid) g q h = (kid, refl, h)
+inner (Some child_element) g q h = (child_element, refl, h)
 
--- the relation and the computed path are one
-pub among_to : (steps : List Step) (c : List (List Decl)) (kids : List Tree) (p : List ℕ) → selected_among c kids steps ≡ Some p → SelectsAmong c kids steps p
-among_to [] c kids [] h = tt
-among_to [] c kids (i ∷ p) h = cc
-among_to (s ∷ steps) c kids p h =
-    let r = two (selected_child c s kids) (λ i. option_and_then (λ kid. selected_among (inside c kid) (kids_of kid) steps) (slice_get kids i)) p h in
-    let k = inner (slice_get kids r.0) (λ kid. selected_among (inside c kid) (kids_of kid) steps) r.1 r.3 in
-    let one : SelectsChild c s kids r.0 = (selected_is (is_named c s) (is_tested c s) s.position kids r.0).0 r.2 in
-    subst (λ q. SelectsAmong c kids (s ∷ steps) q) (sym r.4) (one, (k.0, k.1, among_to steps (inside c k.0) (kids_of k.0) r.1 k.2))
+-- the relation and the computed path agree
+pub among_to : (steps : List Step) (c : List (List Decl)) (child_elements : List Tree) (p : List ℕ) → selected_among c child_elements steps ≡ Some p → SelectsAmong c child_elements steps p
+among_to [] c child_elements [] h = tt
+among_to [] c child_elements (i ∷ p) h = cc
+among_to (s ∷ steps) c child_elements p h =
+    let r = two (selected_child c s child_elements) (λ i. option_and_then (λ child_element. selected_among (inside c child_element) (child_elements_of child_element) steps) (slice_get child_elements i)) p h in
+    let k = inner (slice_get child_elements r.0) (λ child_element. selected_among (inside c child_element) (child_elements_of child_element) steps) r.1 r.3 in
+    let one : SelectsChild c s child_elements r.0 = (selected_is (is_named c s) (is_tested c s) s.position child_elements r.0).0 r.2 in
+    subst (λ q. SelectsAmong c child_elements (s ∷ steps) q) (sym r.4) (one, (k.0, k.1, among_to steps (inside c k.0) (child_elements_of k.0) r.1 k.2))
 
-pub among_from : (steps : List Step) (c : List (List Decl)) (kids : List Tree) (p : List ℕ) → SelectsAmong c kids steps p → selected_among c kids steps ≡ Some p
-among_from [] c kids [] h = refl
-among_from [] c kids (i ∷ p) h = absurd h
-among_from (s ∷ steps) c kids [] h = absurd h
-among_from (s ∷ steps) c kids (i ∷ p) h =
-    let one = (selected_is (is_named c s) (is_tested c s) s.position kids i).1 h.0 in
+pub among_from : (steps : List Step) (c : List (List Decl)) (child_elements : List Tree) (p : List ℕ) → SelectsAmong c child_elements steps p → selected_among c child_elements steps ≡ Some p
+among_from [] c child_elements [] h = refl
+among_from [] c child_elements (i ∷ p) h = absurd h
+among_from (s ∷ steps) c child_elements [] h = absurd h
+among_from (s ∷ steps) c child_elements (i ∷ p) h =
+    let one = (selected_is (is_named c s) (is_tested c s) s.position child_elements i).1 h.0 in
     let k = h.1 in
-    let rest = among_from steps (inside c k.0) (kids_of k.0) p k.2 in
+    let rest = among_from steps (inside c k.0) (child_elements_of k.0) p k.2 in
     rw one (rw k.1 (ap (option_map (λ q. i ∷ q)) rest))
 
 -- ---- the document, whose one child is the root
@@ -50,15 +50,15 @@ only_zero x y zero h = refl
 only_zero x y (suc k) h = cc
 
 sole_selects : {A : Type 0} (named tested : A → Bool) (position : Option ℕ) (x : A) → Matches named tested position (x ∷ []) 0 → Selects named tested position (x ∷ []) 0
-sole_selects named tested position x m = record { this = m; alone = λ k m'. only_zero x m'.kid k m'.there }
+sole_selects named tested position x m = record { this = m; alone = λ k m'. only_zero x m'.child_element k m'.there }
 
 path_by : (s : Step) (steps : List Step) (root : Tree) (p : List ℕ) (b : Bool) → matches (is_named [] s) (is_tested [] s) s.position (root ∷ []) 0 ≡ b
-    → (cond b (selected_among (root.decls ∷ []) (kids_of root) steps) None ≡ Some p) ↔ SelectsPath (s ∷ steps) root p
+    → (cond b (selected_among (root.decls ∷ []) (child_elements_of root) steps) None ≡ Some p) ↔ SelectsPath (s ∷ steps) root p
 path_by s steps root p true e = (
-  λ h. (sole_selects (is_named [] s) (is_tested [] s) s.position root ((matches_is (is_named [] s) (is_tested [] s) s.position (root ∷ []) 0).0 e), (root, refl, among_to steps (root.decls ∷ []) (kids_of root) p h)),
+  λ h. (sole_selects (is_named [] s) (is_tested [] s) s.position root ((matches_is (is_named [] s) (is_tested [] s) s.position (root ∷ []) 0).0 e), (root, refl, among_to steps (root.decls ∷ []) (child_elements_of root) p h)),
   λ h. let k = h.1 in
       let same : k.0 ≡ root = sym (same_Some root k.0 k.1) in
-      among_from steps (root.decls ∷ []) (kids_of root) p (subst (λ (t : Tree). SelectsAmong (inside [] t) (kids_of t) steps p) same k.2),
+      among_from steps (root.decls ∷ []) (child_elements_of root) p (subst (λ (t : Tree). SelectsAmong (inside [] t) (child_elements_of t) steps p) same k.2),
 )
 path_by s steps root p false e = (
   λ h. cc,
@@ -71,41 +71,41 @@ path_is (s ∷ steps) root p = path_by s steps root p (matches (is_named [] s) (
 
 -- ---- how far first steps lead
 
-pub depth_within : (steps : List Step) (c : List (List Decl)) (kids : List Tree) → depth_among c kids steps ≤ length steps
-depth_within [] c kids = omega arith
-depth_within (s ∷ steps) c kids = by (option_and_then (slice_get kids) (selected_child c s kids)) (λ kid. depth_within steps (inside c kid) (kids_of kid))
+pub depth_within : (steps : List Step) (c : List (List Decl)) (child_elements : List Tree) → depth_among c child_elements steps ≤ length steps
+depth_within [] c child_elements = omega arith
+depth_within (s ∷ steps) c child_elements = by (option_and_then (slice_get child_elements) (selected_child c s child_elements)) (λ child_element. depth_within steps (inside c child_element) (child_elements_of child_element))
   where
-    by : (o : Option Tree) → ((kid : Tree) → depth_among (inside c kid) (kids_of kid) steps ≤ length steps) → deeper (option_map (λ kid. depth_among (inside c kid) (kids_of kid) steps) o) ≤ length (s ∷ steps)
+    by : (o : Option Tree) → ((child_element : Tree) → depth_among (inside c child_element) (child_elements_of child_element) steps ≤ length steps) → deeper (option_map (λ child_element. depth_among (inside c child_element) (child_elements_of child_element) steps) o) ≤ length (s ∷ steps)
     by None h = omega arith
-    by (Some kid) h = omega (arith, h kid)
+    by (Some child_element) h = omega (arith, h child_element)
 
-child_of : (o : Option ℕ) (kids : List Tree) (kid : Tree) → option_and_then (slice_get kids) o ≡ Some kid → (i : ℕ) × (o ≡ Some i) × (slice_get kids i ≡ Some kid)
-child_of None kids kid h = cc
-child_of (Some i) kids kid h = (i, refl, h)
+child_of : (o : Option ℕ) (child_elements : List Tree) (child_element : Tree) → option_and_then (slice_get child_elements) o ≡ Some child_element → (i : ℕ) × (o ≡ Some i) × (slice_get child_elements i ≡ Some child_element)
+child_of None child_elements child_element h = cc
+child_of (Some i) child_elements child_element h = (i, refl, h)
 
-pub depth_selects : (steps : List Step) (c : List (List Decl)) (kids : List Tree) → (p : List ℕ) × SelectsAmong c kids (take (depth_among c kids steps) steps) p
-depth_selects [] c kids = ([], tt)
-depth_selects (s ∷ steps) c kids = by (option_and_then (slice_get kids) (selected_child c s kids)) refl (λ kid. depth_selects steps (inside c kid) (kids_of kid))
+pub depth_selects : (steps : List Step) (c : List (List Decl)) (child_elements : List Tree) → (p : List ℕ) × SelectsAmong c child_elements (take (depth_among c child_elements steps) steps) p
+depth_selects [] c child_elements = ([], tt)
+depth_selects (s ∷ steps) c child_elements = by (option_and_then (slice_get child_elements) (selected_child c s child_elements)) refl (λ child_element. depth_selects steps (inside c child_element) (child_elements_of child_element))
   where
-    by : (o : Option Tree) → option_and_then (slice_get kids) (selected_child c s kids) ≡ o
-        → ((kid : Tree) → (p : List ℕ) × SelectsAmong (inside c kid) (kids_of kid) (take (depth_among (inside c kid) (kids_of kid) steps) steps) p)
-        → (p : List ℕ) × SelectsAmong c kids (take (deeper (option_map (λ kid. depth_among (inside c kid) (kids_of kid) steps) o)) (s ∷ steps)) p
+    by : (o : Option Tree) → option_and_then (slice_get child_elements) (selected_child c s child_elements) ≡ o
+        → ((child_element : Tree) → (p : List ℕ) × SelectsAmong (inside c child_element) (child_elements_of child_element) (take (depth_among (inside c child_element) (child_elements_of child_element) steps) steps) p)
+        → (p : List ℕ) × SelectsAmong c child_elements (take (deeper (option_map (λ child_element. depth_among (inside c child_element) (child_elements_of child_element) steps) o)) (s ∷ steps)) p
     by None e h = ([], tt)
-    by (Some kid) e h =
-        let i = child_of (selected_child c s kids) kids kid e in
-        let rest = h kid in
-        (i.0 ∷ rest.0, ((selected_is (is_named c s) (is_tested c s) s.position kids i.0).0 i.1, (kid, i.2, rest.1)))
+    by (Some child_element) e h =
+        let i = child_of (selected_child c s child_elements) child_elements child_element e in
+        let rest = h child_element in
+        (i.0 ∷ rest.0, ((selected_is (is_named c s) (is_tested c s) s.position child_elements i.0).0 i.1, (child_element, i.2, rest.1)))
 
-pub depth_longest : (steps : List Step) (c : List (List Decl)) (kids : List Tree) (j : ℕ) (p : List ℕ) → depth_among c kids steps < j → j ≤ length steps → SelectsAmong c kids (take j steps) p → ⊥
-depth_longest [] c kids j p lt le h = omega arith
-depth_longest (s ∷ steps) c kids zero p lt le h = omega arith
-depth_longest (s ∷ steps) c kids (suc j) [] lt le h = absurd h
-depth_longest (s ∷ steps) c kids (suc j) (i ∷ p) lt le h =
+pub depth_longest : (steps : List Step) (c : List (List Decl)) (child_elements : List Tree) (j : ℕ) (p : List ℕ) → depth_among c child_elements steps < j → j ≤ length steps → SelectsAmong c child_elements (take j steps) p → ⊥
+depth_longest [] c child_elements j p lt le h = omega arith
+depth_longest (s ∷ steps) c child_elements zero p lt le h = omega arith
+depth_longest (s ∷ steps) c child_elements (suc j) [] lt le h = absurd h
+depth_longest (s ∷ steps) c child_elements (suc j) (i ∷ p) lt le h =
     let k = h.1 in
-    let one = (selected_is (is_named c s) (is_tested c s) s.position kids i).1 h.0 in
-    let there : option_and_then (slice_get kids) (selected_child c s kids) ≡ Some k.0 = ap (option_and_then (slice_get kids)) one ∙ k.1 in
-    let deep : depth_among c kids (s ∷ steps) ≡ suc (depth_among (inside c k.0) (kids_of k.0) steps) = ap (λ o. deeper (option_map (λ kid. depth_among (inside c kid) (kids_of kid) steps) o)) there in
-    depth_longest steps (inside c k.0) (kids_of k.0) j p (omega arith) (omega arith) k.2
+    let one = (selected_is (is_named c s) (is_tested c s) s.position child_elements i).1 h.0 in
+    let there : option_and_then (slice_get child_elements) (selected_child c s child_elements) ≡ Some k.0 = ap (option_and_then (slice_get child_elements)) one ∙ k.1 in
+    let deep : depth_among c child_elements (s ∷ steps) ≡ suc (depth_among (inside c k.0) (child_elements_of k.0) steps) = ap (λ o. deeper (option_map (λ child_element. depth_among (inside c child_element) (child_elements_of child_element) steps) o)) there in
+    depth_longest steps (inside c k.0) (child_elements_of k.0) j p (omega arith) (omega arith) k.2
 
 from_root : (steps : List Step) (root : Tree) (p : List ℕ) → 0 < length steps → SelectsAmong [] (root ∷ []) steps p → (q : List ℕ) × SelectsPath steps root q
 from_root [] root p lt h = absurd (omega arith)
@@ -142,18 +142,18 @@ pub longer : (path : List ℕ) (i : ℕ) (o : Option (List ℕ)) → option_map 
 longer path i None = refl
 longer path i (Some q) = ap Some (append_assoc path (i ∷ []) q)
 
-pub among_next : (c : List (List Decl)) (kids : List Tree) (s : Step) (steps : List Step) (i : ℕ) (kid : Tree) → selected_child c s kids ≡ Some i → slice_get kids i ≡ Some kid
-    → selected_among c kids (s ∷ steps) ≡ option_map (λ q. i ∷ q) (selected_among (inside c kid) (kids_of kid) steps)
-among_next c kids s steps i kid one there = rw one (rw there refl)
+pub among_next : (c : List (List Decl)) (child_elements : List Tree) (s : Step) (steps : List Step) (i : ℕ) (child_element : Tree) → selected_child c s child_elements ≡ Some i → slice_get child_elements i ≡ Some child_element
+    → selected_among c child_elements (s ∷ steps) ≡ option_map (λ q. i ∷ q) (selected_among (inside c child_element) (child_elements_of child_element) steps)
+among_next c child_elements s steps i child_element one there = rw one (rw there refl)
 
-pub among_missing : (c : List (List Decl)) (kids : List Tree) (s : Step) (steps : List Step) (i : ℕ) → selected_child c s kids ≡ Some i → slice_get kids i ≡ None → ⊥
-among_missing c kids s steps i one none =
-    let r = (selected_is (is_named c s) (is_tested c s) s.position kids i).0 one in
-    none-some r.this.kid (sym none ∙ r.this.there)
+pub among_missing : (c : List (List Decl)) (child_elements : List Tree) (s : Step) (steps : List Step) (i : ℕ) → selected_child c s child_elements ≡ Some i → slice_get child_elements i ≡ None → ⊥
+among_missing c child_elements s steps i one none =
+    let r = (selected_is (is_named c s) (is_tested c s) s.position child_elements i).0 one in
+    none-some r.this.child_element (sym none ∙ r.this.there)
 
-pub depth_next : (c : List (List Decl)) (kids : List Tree) (s : Step) (steps : List Step) (i : ℕ) (kid : Tree) → selected_child c s kids ≡ Some i → slice_get kids i ≡ Some kid
-    → depth_among c kids (s ∷ steps) ≡ suc (depth_among (inside c kid) (kids_of kid) steps)
-depth_next c kids s steps i kid one there = rw one (rw there refl)
+pub depth_next : (c : List (List Decl)) (child_elements : List Tree) (s : Step) (steps : List Step) (i : ℕ) (child_element : Tree) → selected_child c s child_elements ≡ Some i → slice_get child_elements i ≡ Some child_element
+    → depth_among c child_elements (s ∷ steps) ≡ suc (depth_among (inside c child_element) (child_elements_of child_element) steps)
+depth_next c child_elements s steps i child_element one there = rw one (rw there refl)
 
 pub length-take-le : {A : Type 0} (n : ℕ) (xs : List A) → length (take n xs) ≤ n
 length-take-le zero xs = omega arith

@@ -1,17 +1,18 @@
--- A selector that is read with widths and then resolved is the one that is read where each name is resolved at its place.
+-- A selector that is read with widths and then resolved equals the one that is read with each
+-- name resolved at its place.
 use Rattle.std.proofs.Common.{◌≡◌, ℕ, zero, suc, ◌+◌, ◌-◌, Bool, true, false, cond, List, [], ◌∷◌, length, Result, Ok, Err, refl, sym, ap, ◌∙◌, arith}
 use Rattle.std.specs.Prelude.{Option, None, Some, option_map, nat_eq, map}
-use Rattle.grammar_rules.specs.Rules.{word, keeping_second, only}
-use Rattle.grammar_rules.specs.Reading.{Stop, Syntax, Reader, ◌>>=◌, read_word, read_sequence, read_valued}
-use Rattle.grammar_rules.specs.readers.Functions.{read_sized, read_only, read_optional, read_behind}
-use Rattle.grammar_rules.proofs.Exact.{Exact}
-use Rattle.grammar_rules.proofs.Leaves.{exact_word}
-use Rattle.grammar_rules.proofs.Closed.{exact_only, heads_unless}
-use Rattle.grammar_rules.proofs.Shapes.{exact_behind}
-use Rattle.grammar_rules.proofs.Whole.{ends, heads_ends}
+use Rattle.xml_grammar.specs.Rules.{word, keeping_second, only}
+use Rattle.xml_grammar.specs.Reading.{Stop, Syntax, Reader, ◌>>=◌, read_word, read_sequence, read_valued}
+use Rattle.xml_grammar.specs.readers.Functions.{read_sized, read_only, read_optional, read_behind}
+use Rattle.xml_grammar.proofs.Exact.{Exact}
+use Rattle.xml_grammar.proofs.Leaves.{exact_word}
+use Rattle.xml_grammar.proofs.Closed.{exact_only, heads_unless}
+use Rattle.xml_grammar.proofs.Shapes.{exact_behind}
+use Rattle.xml_grammar.proofs.Whole.{ends, heads_ends}
 use Rattle.xml_tree.specs.declared.names.Name.{Name}
 use Rattle.xml_tree.specs.declared.names.Decl.{Decl}
-use Rattle.tree_text.specs.declared.kind.Kind.{Kind}
+use Rattle.tree_text.specs.declared.fault_kind.FaultKind.{FaultKind}
 use Rattle.tree_text.specs.Grammar.{qname}
 use Rattle.tree_text.specs.readers.Texts.{read_qname}
 use Rattle.node_select.specs.declared.selector.NameTest.TheVariants.{Any}
@@ -19,11 +20,11 @@ use Rattle.node_select.specs.declared.selector.Step.{Step}
 use Rattle.node_select.specs.declared.selector.End.TheVariants.{Namespaces}
 use Rattle.node_select.specs.declared.selector.PatchSelector.{PatchSelector}
 use Rattle.node_select.specs.declared.selector.PatchEnd.TheVariants as patch_ends
-use Rattle.node_select.specs.readers.Made
+use Rattle.node_select.specs.readers.SelectorValues
 use Rattle.node_select.specs.Grammar.{position, value, names_attribute}
 use Rattle.node_select.specs.readers.Words.{slash, star, at_sign, open_bracket, close_bracket, equals_sign, namespaces, text_test}
 use Rattle.node_select.specs.readers.Raw
-use Rattle.node_select.specs.readers.Raw.{RawStep, RawEnd, AtAttribute, AtNamespaces, RawPatchEnd, PatchAttribute, PatchChars, first_of, unbound_at, unbound_name, unbound_test, unbound_in, unbound_from, unbound_end, unbound_patch_end, no_end, name_test, widths, slash_width}
+use Rattle.node_select.specs.readers.Raw.{RawStep, RawEnd, AtAttribute, AtNamespaces, RawPatchEnd, PatchAttribute, PatchChars, first_of, unbound_at, unbound_name, unbound_test, unbound_in, unbound_from, unbound_end, unbound_patch_end, no_end, name_test, steps_size, slash_width}
 use Rattle.node_select.specs.readers.Selectors.{star_follows, read_node_name, position_follows, read_position, read_attribute, read_value, test_follows, read_test, read_step, slash_follows, step_follows, patch_step_follows, read_next_step, read_steps, attribute_follows, read_end, read_selector, read_patch_end, read_patch_selector}
 use Rattle.node_select.specs.Faults.{marks}
 use Rattle.node_select.proofs.Agreeing.{Follows, no_name, if_some, plain, name, valued, sized, left, right, either, optional, sequence, many, first_none}
@@ -34,34 +35,34 @@ use Rattle.node_select.proofs.Widths.{step_fills, next_fills, steps_wide}
 
 -- ---- widths
 
-word_by : (b : Bool) (c : ℕ) (cs text : List ℕ) (x : Unit {0} × List ℕ) → ((y : Unit {0} × List ℕ) → read_word {Kind = Kind} cs text ≡ Ok y → length cs + length y.1 ≡ length text)
-    → cond b (read_word {Kind = Kind} cs text) (Err (Syntax (c ∷ text))) ≡ Ok x → length cs + length x.1 ≡ length text
+word_by : (b : Bool) (c : ℕ) (cs text : List ℕ) (x : Unit {0} × List ℕ) → ((y : Unit {0} × List ℕ) → read_word {Kind = FaultKind} cs text ≡ Ok y → length cs + length y.1 ≡ length text)
+    → cond b (read_word {Kind = FaultKind} cs text) (Err (Syntax (c ∷ text))) ≡ Ok x → length cs + length x.1 ≡ length text
 word_by true c cs text x h e = h x e
 word_by false c cs text x h e = absurd cc
 
-word_wide : (w text : List ℕ) (x : Unit {0} × List ℕ) → read_word {Kind = Kind} w text ≡ Ok x → length w + length x.1 ≡ length text
+word_wide : (w text : List ℕ) (x : Unit {0} × List ℕ) → read_word {Kind = FaultKind} w text ≡ Ok x → length w + length x.1 ≡ length text
 word_wide [] text x e = let same : (tt, text) ≡ x = cc in let left = ap (λ (z : Unit {0} × List ℕ). length z.1) same in omega (arith, left)
 word_wide (c ∷ cs) [] x e = absurd cc
 word_wide (c ∷ cs) (d ∷ text) x e = let h = word_by (nat_eq c d) d cs text x (λ y f. word_wide cs text y f) e in omega (arith, h)
 
-sized_by : {A : Type 0} (n : ℕ) (out : Result (A × List ℕ) (Stop Kind)) (z : (A × ℕ) × List ℕ) → out >>= (λ x. Ok ((x.0, n - length x.1), x.1)) ≡ Ok z → z.0.1 ≡ n - length z.1
+sized_by : {A : Type 0} (n : ℕ) (out : Result (A × List ℕ) (Stop FaultKind)) (z : (A × ℕ) × List ℕ) → out >>= (λ x. Ok ((x.0, n - length x.1), x.1)) ≡ Ok z → z.0.1 ≡ n - length z.1
 sized_by {A} n (Ok x) z e =
-    let r : (let p : Result ((A × ℕ) × List ℕ) (Stop Kind) = Ok ((x.0, n - length x.1), x.1) in p ≡ Ok z) = e in
+    let r : (let p : Result ((A × ℕ) × List ℕ) (Stop FaultKind) = Ok ((x.0, n - length x.1), x.1) in p ≡ Ok z) = e in
     let same : ((x.0, n - length x.1), x.1) ≡ z = cc in
     sym (ap (λ (y : (A × ℕ) × List ℕ). y.0.1) same) ∙ ap (λ (y : (A × ℕ) × List ℕ). n - length y.1) same
 sized_by n (Err y) z e = absurd cc
 
-sized_wide : {A : Type 0} (p : Reader Kind A) (text : List ℕ) (z : (A × ℕ) × List ℕ) → read_sized p text ≡ Ok z → z.0.1 ≡ length text - length z.1
+sized_wide : {A : Type 0} (p : Reader FaultKind A) (text : List ℕ) (z : (A × ℕ) × List ℕ) → read_sized p text ≡ Ok z → z.0.1 ≡ length text - length z.1
 sized_wide p text z e = sized_by (length text) (p text) z e
 
-slash_by : (b : Bool) (text : List ℕ) (out : Result (Unit {0} × List ℕ) (Stop Kind)) (z : ℕ × List ℕ) → ((y : Unit {0} × List ℕ) → out ≡ Ok y → 1 + length y.1 ≡ length text)
-    → cond b (out >>= λ x. let r : Result (Option (Unit {0}) × List ℕ) (Stop Kind) = Ok (Some x.0, x.1) in r) (Ok (None, text)) >>= (λ x. let r : Result (ℕ × List ℕ) (Stop Kind) = Ok (slash_width x.0, x.1) in r) ≡ Ok z → z.0 + length z.1 ≡ length text
+slash_by : (b : Bool) (text : List ℕ) (out : Result (Unit {0} × List ℕ) (Stop FaultKind)) (z : ℕ × List ℕ) → ((y : Unit {0} × List ℕ) → out ≡ Ok y → 1 + length y.1 ≡ length text)
+    → cond b (out >>= λ x. let r : Result (Option (Unit {0}) × List ℕ) (Stop FaultKind) = Ok (Some x.0, x.1) in r) (Ok (None, text)) >>= (λ x. let r : Result (ℕ × List ℕ) (Stop FaultKind) = Ok (slash_width x.0, x.1) in r) ≡ Ok z → z.0 + length z.1 ≡ length text
 slash_by true text (Ok y) z h e =
     let same : (1, y.1) ≡ z = one (1, y.1) z e in
     let left = ap (λ (x : ℕ × List ℕ). x.0 + length x.1) same in
     sym left ∙ h y refl
   where
-    one : (x z : ℕ × List ℕ) → (let r : Result (ℕ × List ℕ) (Stop Kind) = Ok x in r ≡ Ok z) → x ≡ z
+    one : (x z : ℕ × List ℕ) → (let r : Result (ℕ × List ℕ) (Stop FaultKind) = Ok x in r ≡ Ok z) → x ≡ z
     one x z e = cc
 slash_by true text (Err y) z h e = absurd cc
 slash_by false text out z h e =
@@ -69,10 +70,10 @@ slash_by false text out z h e =
     let left = ap (λ (x : ℕ × List ℕ). x.0 + length x.1) same in
     omega (arith, left)
   where
-    one : (x z : ℕ × List ℕ) → (let r : Result (ℕ × List ℕ) (Stop Kind) = Ok x in r ≡ Ok z) → x ≡ z
+    one : (x z : ℕ × List ℕ) → (let r : Result (ℕ × List ℕ) (Stop FaultKind) = Ok x in r ≡ Ok z) → x ≡ z
     one x z e = cc
 
-slash_wide : (text : List ℕ) (z : ℕ × List ℕ) → read_valued {Kind = Kind} slash_width (read_optional slash_follows (read_word slash)) text ≡ Ok z → z.0 + length z.1 ≡ length text
+slash_wide : (text : List ℕ) (z : ℕ × List ℕ) → read_valued {Kind = FaultKind} slash_width (read_optional slash_follows (read_word slash)) text ≡ Ok z → z.0 + length z.1 ≡ length text
 slash_wide text z e = slash_by (slash_follows text) text (read_word slash text) z (λ y f. word_wide slash text y f) e
 
 option_same : {A : Type 0} (o : Option A) → option_map (λ a. a) o ≡ o
@@ -108,7 +109,7 @@ module _ (bindings : List Decl) (default : List ℕ) (on : Bool) (whole : List �
   node_name_follows =
       either on whole star_follows
       (valued on whole (word_follows star) (λ _. None) (λ _. Any) (name_test bindings default) (unbound_name bindings) (λ a. refl) (λ n a. refl))
-      (valued on whole (name on whole bindings (λ u n m. m) qname_exact) (λ a. Some a) (Made.element_test bindings default) (name_test bindings default) (unbound_name bindings) (λ a. refl) (λ n a. refl))
+      (valued on whole (name on whole bindings (λ u n m. m) qname_exact) (λ a. Some a) (SelectorValues.element_test bindings default) (name_test bindings default) (unbound_name bindings) (λ a. refl) (λ n a. refl))
 
   attribute_follows_so : Follows on whole read_attribute (judged_attribute bindings default on) (λ a. a) (λ n a. unbound_at bindings (n + 1) a)
   attribute_follows_so =
@@ -118,11 +119,11 @@ module _ (bindings : List Decl) (default : List ℕ) (on : Bool) (whole : List �
       (λ x. x.1) (λ x. x.1) (λ a. a) (λ n a. unbound_at bindings (n + 1) a) (λ x. refl) (λ n x. refl)
 
   tested_follows : Follows on whole (read_sequence read_attribute (λ _. read_behind (read_word equals_sign) read_value))
-      (read_valued (Made.attr_test bindings default) (read_sequence (judged_attribute bindings default on) (λ _. read_behind (read_word equals_sign) read_value))) (Raw.attr_test bindings) (λ n x. unbound_at bindings (n + 1) x.0)
+      (read_valued (SelectorValues.attr_test bindings default) (read_sequence (judged_attribute bindings default on) (λ _. read_behind (read_word equals_sign) read_value))) (Raw.attr_test bindings) (λ n x. unbound_at bindings (n + 1) x.0)
   tested_follows =
       right on whole
       (sequence on whole attribute_follows_so equals_follows (λ n x. unbound_at bindings (n + 1) x.0) (λ n w text rest a c e fills. sym (first_none (unbound_at bindings (n + 1) a))))
-      (Made.attr_test bindings default) (Raw.attr_test bindings) (λ x. refl)
+      (SelectorValues.attr_test bindings default) (Raw.attr_test bindings) (λ x. refl)
 
   test_follows_so : Follows on whole read_test (judged_test bindings default on) (Raw.attr_test bindings) (λ n x. unbound_at bindings (n + 2) x.0)
   test_follows_so =
@@ -151,7 +152,7 @@ module _ (bindings : List Decl) (default : List ℕ) (on : Bool) (whole : List �
       (λ n w text rest a c e fills.
       let front : a.1 ≡ w = omega (arith, sized_wide (read_sequence read_node_name (λ _. read_optional position_follows read_position)) text (a, rest) e, fills) in
       ap (first_of (unbound_name bindings n a.0.0)) (behind_front n w a.1 c front))))
-      Raw.raw_step_of Made.step_of (Raw.step_of bindings default) (unbound_in bindings)
+      Raw.raw_step_of SelectorValues.step_of (Raw.step_of bindings default) (unbound_in bindings)
       (λ x. ap (λ (o : Option ℕ). let s : Step = record { name = name_test bindings default x.0.0.0.0; position = o; test = option_map (Raw.attr_test bindings) x.0.1 } in s) (option_same x.0.0.0.1))
       (λ n x. refl)
 
@@ -178,7 +179,7 @@ module _ (bindings : List Decl) (default : List ℕ) (on : Bool) (whole : List �
       (λ n w text rest a others e fills.
       let place : n + a.size + 1 ≡ n + w + 1 = omega (arith, (step_fills text a rest e).sizes, fills) in
       ap (λ (k : ℕ). first_of (unbound_in bindings n a) (unbound_from bindings k others no_end)) place))
-      Made.first_step_of Made.first_step_of (Raw.steps_of bindings default) (λ n ss. unbound_from bindings n ss no_end)
+      SelectorValues.first_step_of SelectorValues.first_step_of (Raw.steps_of bindings default) (λ n ss. unbound_from bindings n ss no_end)
       (λ x. ap (λ (l : List Step). Raw.step_of bindings default x.0 ∷ l) (steps_same x.1)) (λ n x. refl)
 
   -- ---- selectors
@@ -188,10 +189,10 @@ module _ (bindings : List Decl) (default : List ℕ) (on : Bool) (whole : List �
   end_follows : Follows on whole read_end (judged_end bindings default on) (Raw.end_of bindings) (λ n e. unbound_end bindings e n)
   end_follows =
       either on whole attribute_follows
-      (valued on whole attribute_follows_so (λ a. AtAttribute a) (Made.attribute_end bindings default) (Raw.end_of bindings) (λ n e. unbound_end bindings e n) (λ a. refl) (λ n a. behind_at n a))
+      (valued on whole attribute_follows_so (λ a. AtAttribute a) (SelectorValues.attribute_end bindings default) (Raw.end_of bindings) (λ n e. unbound_end bindings e n) (λ a. refl) (λ n a. behind_at n a))
       (valued on whole (word_follows namespaces) (λ _. AtNamespaces) (λ _. Namespaces) (Raw.end_of bindings) (λ n e. unbound_end bindings e n) (λ a. refl) (λ n a. refl))
 
-  end_same : (o : Option RawEnd) → Made.end_or_element (option_map (Raw.end_of bindings) o) ≡ Raw.end_of bindings (Raw.end_or_element o)
+  end_same : (o : Option RawEnd) → SelectorValues.end_or_element (option_map (Raw.end_of bindings) o) ≡ Raw.end_of bindings (Raw.end_or_element o)
   end_same None = refl
   end_same (Some e) = refl
 
@@ -200,7 +201,7 @@ module _ (bindings : List Decl) (default : List ℕ) (on : Bool) (whole : List �
   end_place n (Some e) = refl
 
   tail_follows : Follows on whole (read_valued Raw.end_or_element (read_optional slash_follows (read_behind (read_word slash) read_end)))
-      (read_valued Made.end_or_element (read_optional slash_follows (read_behind (read_word slash) (judged_end bindings default on)))) (Raw.end_of bindings) (λ n e. unbound_end bindings e (n + 1))
+      (read_valued SelectorValues.end_or_element (read_optional slash_follows (read_behind (read_word slash) (judged_end bindings default on)))) (Raw.end_of bindings) (λ n e. unbound_end bindings e (n + 1))
   tail_follows =
       valued on whole
       (optional on whole slash_follows
@@ -208,13 +209,13 @@ module _ (bindings : List Decl) (default : List ℕ) (on : Bool) (whole : List �
       (sequence on whole (word_follows slash) end_follows (λ n x. unbound_end bindings x.1 (n + 1))
       (λ n w text rest a c e fills. let one : n + 1 ≡ n + w = omega (arith, word_wide slash text (a, rest) e, fills) in ap (λ (k : ℕ). unbound_end bindings c k) one))
       (λ x. x.1) (λ x. x.1) (Raw.end_of bindings) (λ n e. unbound_end bindings e (n + 1)) (λ x. refl) (λ n x. refl)))
-      Raw.end_or_element Made.end_or_element (Raw.end_of bindings) (λ n e. unbound_end bindings e (n + 1)) end_same end_place
+      Raw.end_or_element SelectorValues.end_or_element (Raw.end_of bindings) (λ n e. unbound_end bindings e (n + 1)) end_same end_place
 
-  -- an end stands behind the steps and a slash
+  -- an end comes after the steps and a slash
   behind_steps : (follows : List ℕ → Bool) (n w : ℕ) (text rest : List ℕ) (ss : List RawStep) (end : ℕ → Option ℕ) → read_steps follows text ≡ Ok (ss, rest) → w + length rest ≡ length text
       → unbound_from bindings n ss end ≡ first_of (unbound_from bindings n ss no_end) (end (n + w + 1))
   behind_steps follows n w text rest ss end e fills =
-      let place : n + widths ss ≡ n + w + 1 = omega (arith, steps_wide follows text (ss, rest) e, fills) in
+      let place : n + steps_size ss ≡ n + w + 1 = omega (arith, steps_wide follows text (ss, rest) e, fills) in
       steps_then_end bindings n ss end ∙ ap (λ (k : ℕ). first_of (unbound_from bindings n ss no_end) (end k)) place
 
   pub selector_follows : Follows on whole read_selector (judged_selector bindings default on) (Raw.selector_of bindings default) (λ n x. unbound_from bindings n x.0 (unbound_end bindings x.1))
@@ -222,20 +223,20 @@ module _ (bindings : List Decl) (default : List ℕ) (on : Bool) (whole : List �
       right on whole
       (sequence on whole (steps_follows step_follows) tail_follows (λ n x. unbound_from bindings n x.0 (unbound_end bindings x.1))
       (λ n w text rest a c e fills. behind_steps step_follows n w text rest a (unbound_end bindings c) e fills))
-      Made.selector_of (Raw.selector_of bindings default) (λ x. refl)
+      SelectorValues.selector_of (Raw.selector_of bindings default) (λ x. refl)
 
   -- ---- selectors of patches
   patch_end_follows : Follows on whole read_patch_end (judged_patch_end bindings default on) (Raw.patch_end_of bindings) (λ n e. unbound_patch_end bindings e n)
   patch_end_follows =
       either on whole attribute_follows
-      (valued on whole attribute_follows_so (λ a. PatchAttribute a) (Made.patch_attribute_end bindings default) (Raw.patch_end_of bindings) (λ n e. unbound_patch_end bindings e n) (λ a. refl) (λ n a. behind_at n a))
+      (valued on whole attribute_follows_so (λ a. PatchAttribute a) (SelectorValues.patch_attribute_end bindings default) (Raw.patch_end_of bindings) (λ n e. unbound_patch_end bindings e n) (λ a. refl) (λ n a. behind_at n a))
       (valued on whole
       (valued on whole
       (sequence on whole (word_follows text_test) patch_position (λ n x. None) (λ n w text rest a c e fills. sym (if_none on whole (n + w) c)))
       (λ x. x.1) (λ x. x.1) (option_map (λ a. a)) (λ n o. None) (λ x. refl) (λ n x. refl))
       (λ o. PatchChars o) (λ o. patch_ends.Chars o) (Raw.patch_end_of bindings) (λ n e. unbound_patch_end bindings e n) (λ o. ap (λ (z : Option ℕ). patch_ends.Chars z) (option_same o)) (λ n o. refl))
 
-  patch_end_same : (o : Option RawPatchEnd) → Made.patch_end_or_element (option_map (Raw.patch_end_of bindings) o) ≡ Raw.patch_end_of bindings (Raw.patch_end_or_element o)
+  patch_end_same : (o : Option RawPatchEnd) → SelectorValues.patch_end_or_element (option_map (Raw.patch_end_of bindings) o) ≡ Raw.patch_end_of bindings (Raw.patch_end_or_element o)
   patch_end_same None = refl
   patch_end_same (Some e) = refl
 
@@ -244,7 +245,7 @@ module _ (bindings : List Decl) (default : List ℕ) (on : Bool) (whole : List �
   patch_end_place n (Some e) = refl
 
   patch_tail_follows : Follows on whole (read_valued Raw.patch_end_or_element (read_optional slash_follows (read_behind (read_word slash) read_patch_end)))
-      (read_valued Made.patch_end_or_element (read_optional slash_follows (read_behind (read_word slash) (judged_patch_end bindings default on)))) (Raw.patch_end_of bindings) (λ n e. unbound_patch_end bindings e (n + 1))
+      (read_valued SelectorValues.patch_end_or_element (read_optional slash_follows (read_behind (read_word slash) (judged_patch_end bindings default on)))) (Raw.patch_end_of bindings) (λ n e. unbound_patch_end bindings e (n + 1))
   patch_tail_follows =
       valued on whole
       (optional on whole slash_follows
@@ -252,7 +253,7 @@ module _ (bindings : List Decl) (default : List ℕ) (on : Bool) (whole : List �
       (sequence on whole (word_follows slash) patch_end_follows (λ n x. unbound_patch_end bindings x.1 (n + 1))
       (λ n w text rest a c e fills. let one : n + 1 ≡ n + w = omega (arith, word_wide slash text (a, rest) e, fills) in ap (λ (k : ℕ). unbound_patch_end bindings c k) one))
       (λ x. x.1) (λ x. x.1) (Raw.patch_end_of bindings) (λ n e. unbound_patch_end bindings e (n + 1)) (λ x. refl) (λ n x. refl)))
-      Raw.patch_end_or_element Made.patch_end_or_element (Raw.patch_end_of bindings) (λ n e. unbound_patch_end bindings e (n + 1)) patch_end_same patch_end_place
+      Raw.patch_end_or_element SelectorValues.patch_end_or_element (Raw.patch_end_of bindings) (λ n e. unbound_patch_end bindings e (n + 1)) patch_end_same patch_end_place
 
   abbrev slash_there : ℕ → Option (Unit {0})
   slash_there zero = None
@@ -270,13 +271,13 @@ module _ (bindings : List Decl) (default : List ℕ) (on : Bool) (whole : List �
 
   patch_parts : Follows on whole
       (read_sequence (read_steps patch_step_follows) (λ _. read_valued Raw.patch_end_or_element (read_optional slash_follows (read_behind (read_word slash) read_patch_end))))
-      (read_valued Made.patch_selector_of (read_sequence (judged_steps bindings default on patch_step_follows) (λ _. read_valued Made.patch_end_or_element (read_optional slash_follows (read_behind (read_word slash) (judged_patch_end bindings default on))))))
+      (read_valued SelectorValues.patch_selector_of (read_sequence (judged_steps bindings default on patch_step_follows) (λ _. read_valued SelectorValues.patch_end_or_element (read_optional slash_follows (read_behind (read_word slash) (judged_patch_end bindings default on))))))
       patch_of (λ n x. unbound_from bindings n x.0 (unbound_patch_end bindings x.1))
   patch_parts =
       right on whole
       (sequence on whole (steps_follows patch_step_follows) patch_tail_follows (λ n x. unbound_from bindings n x.0 (unbound_patch_end bindings x.1))
       (λ n w text rest a c e fills. behind_steps patch_step_follows n w text rest a (unbound_patch_end bindings c) e fills))
-      Made.patch_selector_of patch_of (λ x. refl)
+      SelectorValues.patch_selector_of patch_of (λ x. refl)
 
   pub patch_selector_follows : Follows on whole read_patch_selector (judged_patch_selector bindings default on) (Raw.patch_selector_of bindings default) (λ n x. unbound_from bindings (n + x.0) x.1.0 (unbound_patch_end bindings x.1.1))
   patch_selector_follows =

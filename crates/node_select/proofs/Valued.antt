@@ -1,4 +1,4 @@
--- Where no attribute has the value that is asked for, none is the one that is asked for.
+-- Where no attribute has the value of a test, none passes the test.
 use Rattle.std.proofs.Common.{◌≡◌, Bool, true, false, ◌&&◌, ◌||◌, List, [], ◌∷◌, refl, Some}
 use Rattle.std.specs.List.{list_any}
 use Rattle.std.specs.Str.{bytes_eq}

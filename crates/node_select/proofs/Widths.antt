@@ -1,30 +1,30 @@
--- How wide what is read is: steps, and what is left behind them, fill the text.
+-- The widths of what is read: steps and what is left after them fill the text.
 use Rattle.std.proofs.Common.{◌≡◌, ℕ, zero, suc, ◌+◌, ◌-◌, ◌≤◌, ◌<◌, ◌^◌, Bool, true, false, cond, List, [], ◌∷◌, length, encode_utf8_all, Option, Some, None, Result, Ok, Err, refl, ap, ◌∙◌, subst, arith, eqb-true}
 use Rattle.std.specs.Prelude.{nat_eq}
 use Rattle.xml_tree.specs.declared.names.Name.{Name}
 use Rattle.std.specs.Char.{is_ascii_digit as is_digit}
-use Rattle.grammar_rules.specs.Reading.{Stop, Syntax, Reader, ◌>>=◌, read_word, read_sequence, read_valued}
-use Rattle.grammar_rules.specs.readers.Functions.{read_at_most, read_many, read_sized, read_only, read_optional, read_name_of, read_before, read_behind, read_whole, all_of}
-use Rattle.tree_text.specs.declared.kind.Kind.{Kind}
+use Rattle.xml_grammar.specs.Reading.{Stop, Syntax, Reader, ◌>>=◌, read_word, read_sequence, read_valued}
+use Rattle.xml_grammar.specs.readers.Functions.{read_at_most, read_many, read_sized, read_only, read_optional, read_name_of, read_before, read_behind, read_whole, all_of}
+use Rattle.tree_text.specs.declared.fault_kind.FaultKind.{FaultKind}
 use Rattle.tree_text.specs.Grammar.{is_quote, is_raw_in}
 use Rattle.tree_text.specs.readers.Texts.{reference_follows}
 use Rattle.tree_text.proofs.TagLemmas.{shrinks_qname, shrinks_reference}
 use Rattle.tree_text.specs.readers.Ends.{EndsWith}
 use Rattle.tree_text.proofs.Shrinks.{Left, Shrinks, ok_left, ok_small, shrinks_one, shrinks_word, shrinks_run, shrinks_empty, shrinks_sequence, shrinks_valued, shrinks_either, shrinks_many}
 use Rattle.node_select.specs.Grammar.{position_of, names_attribute, literal_value}
-use Rattle.node_select.specs.readers.Made.{first_step_of}
+use Rattle.node_select.specs.readers.SelectorValues.{first_step_of}
 use Rattle.node_select.specs.readers.Words.{star, at_sign, open_bracket, close_bracket, equals_sign, slash}
-use Rattle.node_select.specs.readers.Raw.{RawStep, RawPatchEnd, widths, AreWhole, HasRoom, RawSelector, RawPatchSelector, raw_step_of, end_or_element, patch_end_or_element, slash_width}
+use Rattle.node_select.specs.readers.Raw.{RawStep, RawPatchEnd, steps_size, AreWhole, HasRoom, RawSelector, RawPatchSelector, raw_step_of, end_or_element, patch_end_or_element, slash_width}
 use Rattle.node_select.specs.readers.Selectors.{star_follows, position_follows, test_follows, slash_follows, read_node_name, read_position, read_attribute, read_inside_quotes, read_value, read_test, read_step, read_next_step, read_steps, read_end, read_selector, read_patch_end, read_patch_selector, step_follows, patch_step_follows}
 
 -- ---- shapes
-shrinks_behind : {A B : Type 0} {p : Reader Kind A} {q : Reader Kind B} → Shrinks p → Shrinks q → Shrinks (read_behind p q)
+shrinks_behind : {A B : Type 0} {p : Reader FaultKind A} {q : Reader FaultKind B} → Shrinks p → Shrinks q → Shrinks (read_behind p q)
 shrinks_behind h i = shrinks_valued (λ x. x.1) (shrinks_sequence h (λ _. i))
 
-shrinks_before : {A B : Type 0} {p : Reader Kind A} {q : Reader Kind B} → Shrinks p → Shrinks q → Shrinks (read_before p q)
+shrinks_before : {A B : Type 0} {p : Reader FaultKind A} {q : Reader FaultKind B} → Shrinks p → Shrinks q → Shrinks (read_before p q)
 shrinks_before h i = shrinks_valued (λ x. x.0) (shrinks_sequence h (λ _. i))
 
-shrinks_optional : {A : Type 0} {p : Reader Kind A} (test : List ℕ → Bool) → Shrinks p → Shrinks (read_optional test p)
+shrinks_optional : {A : Type 0} {p : Reader FaultKind A} (test : List ℕ → Bool) → Shrinks p → Shrinks (read_optional test p)
 shrinks_optional test h = shrinks_either test (shrinks_valued Some h) (shrinks_empty None)
 
 shrinks_name_of : (p q : ℕ → Bool) → Shrinks (read_name_of p q)
@@ -34,11 +34,11 @@ only_by : {A : Type 0} (text : List ℕ) (b : Bool) (x : A × List ℕ) → Ends
 only_by text true x h = h
 only_by text false x h = tt
 
-only_left : {A : Type 0} (text : List ℕ) (t : A → Bool) (out : Result (A × List ℕ) (Stop Kind)) → Left text out → Left text (out >>= λ x. cond (t x.0) (Ok x) (Err (Syntax x.1)))
+only_left : {A : Type 0} (text : List ℕ) (t : A → Bool) (out : Result (A × List ℕ) (Stop FaultKind)) → Left text out → Left text (out >>= λ x. cond (t x.0) (Ok x) (Err (Syntax x.1)))
 only_left text t (Ok x) h = only_by text (t x.0) x h
 only_left text t (Err e) h = tt
 
-shrinks_only : {A : Type 0} {p : Reader Kind A} (t : A → Bool) → Shrinks p → Shrinks (read_only t p)
+shrinks_only : {A : Type 0} {p : Reader FaultKind A} (t : A → Bool) → Shrinks p → Shrinks (read_only t p)
 shrinks_only {A} {p} t h = record { by = λ text. only_left text t (p text) (h.by text) }
 
 -- ---- the parts of steps
@@ -61,7 +61,7 @@ shrinks_test : Shrinks read_test
 shrinks_test = shrinks_behind (shrinks_word open_bracket) (shrinks_before (shrinks_sequence shrinks_attribute (λ _. shrinks_behind (shrinks_word equals_sign) shrinks_value)) (shrinks_word close_bracket))
 
 -- ---- steps
-abbrev front_reader : Reader Kind (Option Name × Option ℕ)
+abbrev front_reader : Reader FaultKind (Option Name × Option ℕ)
 front_reader = read_sequence read_node_name (λ _. read_optional position_follows read_position)
 
 shrinks_front : Shrinks front_reader
@@ -71,37 +71,37 @@ shrinks_optional_test : Shrinks (read_optional test_follows read_test)
 shrinks_optional_test = shrinks_optional test_follows shrinks_test
 
 -- ---- what was read before an answer
-bind_ok : {A B : Type 0} (out : Result (A × List ℕ) (Stop Kind)) (f : A × List ℕ → Result (B × List ℕ) (Stop Kind)) (z : B × List ℕ) → out >>= f ≡ Ok z → (x : A × List ℕ) × (out ≡ Ok x) × (f x ≡ Ok z)
+bind_ok : {A B : Type 0} (out : Result (A × List ℕ) (Stop FaultKind)) (f : A × List ℕ → Result (B × List ℕ) (Stop FaultKind)) (z : B × List ℕ) → out >>= f ≡ Ok z → (x : A × List ℕ) × (out ≡ Ok x) × (f x ≡ Ok z)
 bind_ok (Ok x) f z h = (x, refl, h)
 bind_ok (Err e) f z h = cc
 
-ok_is : {A : Type 0} (x y : A × List ℕ) → (let p : Result (A × List ℕ) (Stop Kind) = Ok x in let q : Result (A × List ℕ) (Stop Kind) = Ok y in p ≡ q) → x ≡ y
+ok_is : {A : Type 0} (x y : A × List ℕ) → (let p : Result (A × List ℕ) (Stop FaultKind) = Ok x in let q : Result (A × List ℕ) (Stop FaultKind) = Ok y in p ≡ q) → x ≡ y
 ok_is x y h = cc
 
-record Sequence {A B : Type 0} (p : Reader Kind A) (q : A → Reader Kind B) (text : List ℕ) (z : (A × B) × List ℕ) : Type 0 where
+record Sequence {A B : Type 0} (p : Reader FaultKind A) (q : A → Reader FaultKind B) (text : List ℕ) (z : (A × B) × List ℕ) : Type 0 where
   first : A × List ℕ
   second : B × List ℕ
   first_is : p text ≡ Ok first
   second_is : q first.0 first.1 ≡ Ok second
   made : ((first.0, second.0), second.1) ≡ z
 
-sequence_ok : {A B : Type 0} (p : Reader Kind A) (q : A → Reader Kind B) (text : List ℕ) (z : (A × B) × List ℕ) → read_sequence p q text ≡ Ok z → Sequence p q text z
+sequence_ok : {A B : Type 0} (p : Reader FaultKind A) (q : A → Reader FaultKind B) (text : List ℕ) (z : (A × B) × List ℕ) → read_sequence p q text ≡ Ok z → Sequence p q text z
 sequence_ok {A} {B} p q text z h =
     let x = bind_ok (p text) (λ x. q x.0 x.1 >>= λ y. let w : (A × B) × List ℕ = ((x.0, y.0), y.1) in Ok w) z h in
     let y = bind_ok (q x.0.0 x.0.1) (λ y. let w : (A × B) × List ℕ = ((x.0.0, y.0), y.1) in Ok w) z x.2 in
     record { first = x.0; second = y.0; first_is = x.1; second_is = y.1; made = ok_is ((x.0.0, y.0.0), y.0.1) z y.2 }
 
-valued_ok : {A B : Type 0} (f : A → B) (p : Reader Kind A) (text : List ℕ) (z : B × List ℕ) → read_valued f p text ≡ Ok z → (x : A × List ℕ) × (p text ≡ Ok x) × ((f x.0, x.1) ≡ z)
+valued_ok : {A B : Type 0} (f : A → B) (p : Reader FaultKind A) (text : List ℕ) (z : B × List ℕ) → read_valued f p text ≡ Ok z → (x : A × List ℕ) × (p text ≡ Ok x) × ((f x.0, x.1) ≡ z)
 valued_ok {A} {B} f p text z h =
     let x = bind_ok (p text) (λ x. let w : B × List ℕ = (f x.0, x.1) in Ok w) z h in
     (x.0, x.1, ok_is (f x.0.0, x.0.1) z x.2)
 
-sized_ok : {A : Type 0} (p : Reader Kind A) (text : List ℕ) (z : (A × ℕ) × List ℕ) → read_sized p text ≡ Ok z → (x : A × List ℕ) × (p text ≡ Ok x) × (((x.0, length text - length x.1), x.1) ≡ z)
+sized_ok : {A : Type 0} (p : Reader FaultKind A) (text : List ℕ) (z : (A × ℕ) × List ℕ) → read_sized p text ≡ Ok z → (x : A × List ℕ) × (p text ≡ Ok x) × (((x.0, length text - length x.1), x.1) ≡ z)
 sized_ok {A} p text z h =
     let x = bind_ok (p text) (λ x. let w : (A × ℕ) × List ℕ = ((x.0, length text - length x.1), x.1) in Ok w) z h in
     (x.0, x.1, ok_is ((x.0.0, length text - length x.0.1), x.0.1) z x.2)
 
--- ---- what is left behind a step, and behind its front, is an end of the text
+-- ---- what is left after a step, and after its front, is a suffix of the text
 pub front_ends : (text rest : List ℕ) (front : Option Name × Option ℕ) → front_reader text ≡ Ok (front, rest) → EndsWith text rest
 front_ends text rest front h = ok_left shrinks_front text (front, rest) h
 
@@ -137,12 +137,12 @@ step_fills text s rest h =
     let left'' : length v.0.1 ≡ length rest = ap (λ (w : RawStep × List ℕ). length w.1) v.2 in
     record { sizes = omega arith; front = omega arith }
 
--- behind a slash
-slash_ok : (b : Bool) (cs : List ℕ) (x : Unit {0} × List ℕ) (e : Stop Kind) → cond b (Ok (tt, cs)) (Err e) ≡ Ok x → x.1 ≡ cs
+-- after a slash
+slash_ok : (b : Bool) (cs : List ℕ) (x : Unit {0} × List ℕ) (e : Stop FaultKind) → cond b (Ok (tt, cs)) (Err e) ≡ Ok x → x.1 ≡ cs
 slash_ok true cs x e h = cc
 slash_ok false cs x e h = cc
 
-slash_width_is : (text : List ℕ) (x : Unit {0} × List ℕ) → read_word {Kind = Kind} slash text ≡ Ok x → length x.1 + 1 ≡ length text
+slash_width_is : (text : List ℕ) (x : Unit {0} × List ℕ) → read_word {Kind = FaultKind} slash text ≡ Ok x → length x.1 + 1 ≡ length text
 slash_width_is [] x h = cc
 slash_width_is (c ∷ cs) x h = let e = slash_ok (nat_eq 47 c) cs x (Syntax (c ∷ cs)) h in omega (arith, ap length e)
 
@@ -161,7 +161,7 @@ next_fills text s rest h =
 
 -- ---- repetitions
 pub record AllFill (text : List ℕ) (ss : List RawStep) (rest : List ℕ) : Type 0 where
-  pub sizes : widths ss + length rest ≡ length text
+  pub sizes : steps_size ss + length rest ≡ length text
   pub whole : AreWhole ss
 
 none_fill : (text : List ℕ) (z : List RawStep × List ℕ) → (let w : List RawStep × List ℕ = ([], text) in w ≡ z) → AllFill text z.0 z.1
@@ -183,19 +183,19 @@ at_most_fills test (suc n) text z h = by (test text) h (at_most_fills test n)
         (record { sizes = omega (arith, f.0, g.sizes); whole = (f.1, g.whole) })
 
 -- all steps: a slash before each but the first
-pub steps_fill : (test : List ℕ → Bool) (text : List ℕ) (z : List RawStep × List ℕ) → read_steps test text ≡ Ok z → (widths z.0 ≤ length text + 1) × AreWhole z.0
+pub steps_fill : (test : List ℕ → Bool) (text : List ℕ) (z : List RawStep × List ℕ) → read_steps test text ≡ Ok z → (steps_size z.0 ≤ length text + 1) × AreWhole z.0
 steps_fill test text z h =
     let many = read_many test read_next_step in
     let v = valued_ok first_step_of (read_sequence read_step (λ _. many)) text z h in
     let q = sequence_ok read_step (λ _. many) text v.0 v.1 in
     let f = step_fills text q.first.0 q.first.1 q.first_is in
     let g = at_most_fills test (length (encode_utf8_all q.first.1)) q.first.1 q.second q.second_is in
-    let P : List RawStep → Type 0 = λ ss. (widths ss ≤ length text + 1) × AreWhole ss in
+    let P : List RawStep → Type 0 = λ ss. (steps_size ss ≤ length text + 1) × AreWhole ss in
     let made : (q.first.0 ∷ q.second.0) ≡ z.0 = ap (λ (w : (RawStep × List RawStep) × List ℕ). first_step_of w.0) q.made ∙ ap (λ (w : List RawStep × List ℕ). w.0) v.2 in
     subst P made (omega (arith, f.sizes, g.sizes), (f.front, g.whole))
 
--- how wide all of them are, with a slash behind each
-pub steps_wide : (test : List ℕ → Bool) (text : List ℕ) (z : List RawStep × List ℕ) → read_steps test text ≡ Ok z → widths z.0 + length z.1 ≡ length text + 1
+-- how wide all of them are, with a slash after each
+pub steps_wide : (test : List ℕ → Bool) (text : List ℕ) (z : List RawStep × List ℕ) → read_steps test text ≡ Ok z → steps_size z.0 + length z.1 ≡ length text + 1
 steps_wide test text z h =
     let many = read_many test read_next_step in
     let v = valued_ok first_step_of (read_sequence read_step (λ _. many)) text z h in
@@ -204,22 +204,22 @@ steps_wide test text z h =
     let g = at_most_fills test (length (encode_utf8_all q.first.1)) q.first.1 q.second q.second_is in
     let made : (q.first.0 ∷ q.second.0) ≡ z.0 = ap (λ (w : (RawStep × List RawStep) × List ℕ). first_step_of w.0) q.made ∙ ap (λ (w : List RawStep × List ℕ). w.0) v.2 in
     let left : length q.second.1 ≡ length z.1 = ap (λ (w : (RawStep × List RawStep) × List ℕ). length w.1) q.made ∙ ap (λ (w : List RawStep × List ℕ). length w.1) v.2 in
-    let wide : widths (q.first.0 ∷ q.second.0) ≡ widths z.0 = ap widths made in
+    let wide : steps_size (q.first.0 ∷ q.second.0) ≡ steps_size z.0 = ap steps_size made in
     omega (arith, f.sizes, g.sizes)
 
-nothing_left : {A : Type 0} (x a : A) (left : List ℕ) → all_of {Kind = Kind} x left ≡ Ok a → x ≡ a
+nothing_left : {A : Type 0} (x a : A) (left : List ℕ) → all_of {Kind = FaultKind} x left ≡ Ok a → x ≡ a
 nothing_left x a [] h = cc
 nothing_left x a (c ∷ cs) h = cc
 
-whole_ok : {A : Type 0} (out : Result (A × List ℕ) (Stop Kind)) (a : A) → out >>= (λ x. all_of x.0 x.1) ≡ Ok a → (x : A × List ℕ) × (out ≡ Ok x) × (x.0 ≡ a)
+whole_ok : {A : Type 0} (out : Result (A × List ℕ) (Stop FaultKind)) (a : A) → out >>= (λ x. all_of x.0 x.1) ≡ Ok a → (x : A × List ℕ) × (out ≡ Ok x) × (x.0 ≡ a)
 whole_ok (Ok x) a h = (x, refl, nothing_left x.0 a x.1 h)
 whole_ok (Err e) a h = cc
 
-pub whole_read : {A : Type 0} (p : Reader Kind A) (text : List ℕ) (a : A) (rest : List ℕ) → p text ≡ Ok (a, rest) → nat_eq (length rest) 0 ≡ true → read_whole p text ≡ Ok a
-whole_read {A} p text a [] h e = ap (λ (r : Result (A × List ℕ) (Stop Kind)). r >>= λ x. all_of x.0 x.1) h
+pub whole_read : {A : Type 0} (p : Reader FaultKind A) (text : List ℕ) (a : A) (rest : List ℕ) → p text ≡ Ok (a, rest) → nat_eq (length rest) 0 ≡ true → read_whole p text ≡ Ok a
+whole_read {A} p text a [] h e = ap (λ (r : Result (A × List ℕ) (Stop FaultKind)). r >>= λ x. all_of x.0 x.1) h
 whole_read {A} p text a (c ∷ cs) h e = absurd (omega (arith, eqb-true (length (c ∷ cs)) 0 e))
 
--- there is room for the places of all names of a selector
+-- the places of all names of a selector fit in 64 bits
 pub selector_room : (text : List ℕ) (raw : RawSelector) → length text < 2 ^ 63 → read_whole read_selector text ≡ Ok raw → HasRoom 0 raw.0
 selector_room text raw lt h =
     let w = whole_ok (read_selector text) raw h in
@@ -228,7 +228,7 @@ selector_room text raw lt h =
     let same : q.first.0 ≡ raw.0 = ap (λ (z : RawSelector × List ℕ). z.0.0) q.made ∙ ap (λ (z : RawSelector). z.0) w.2 in
     subst (λ (ss : List RawStep). HasRoom 0 ss) same (record { within = omega (arith, f.0); whole = f.1 })
 
-slash_small : (out : Result (Option (Unit {0}) × List ℕ) (Stop Kind)) (x : ℕ × List ℕ) → out >>= (λ z. Ok (slash_width z.0, z.1)) ≡ Ok x → x.0 ≤ 1
+slash_small : (out : Result (Option (Unit {0}) × List ℕ) (Stop FaultKind)) (x : ℕ × List ℕ) → out >>= (λ z. Ok (slash_width z.0, z.1)) ≡ Ok x → x.0 ≤ 1
 slash_small (Ok z) x h = let e = ok_is (slash_width z.0, z.1) x h in let w = ap (λ (y : ℕ × List ℕ). y.0) e in let l = slash_le z.0 in omega arith
   where
     slash_le : (o : Option (Unit {0})) → slash_width o ≤ 1

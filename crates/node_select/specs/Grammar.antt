@@ -1,26 +1,29 @@
--- Node selectors, rule by rule, as RFC 4825 has them in section 6.3: a part of XPath's abbreviated location paths. The selectors of patches
--- are those of RFC 5261, section 4.1, as far as they are taken.
+-- Node selectors, rule by rule, as in RFC 4825, section 6.3: a part of XPath's abbreviated
+-- location paths. The selectors of patches are the selectors of RFC 5261, section 4.1, as far as
+-- they are supported.
 --
 --     selector = step *( "/" step ) [ "/" end ]
 --     end      = "@" QName / "namespace::*"
 --     step     = ( QName / "*" ) [ "[" 1*DIGIT "]" ] [ "[" "@" QName "=" value "]" ]
---     value    = what stands in an attribute's value in a text, in a pair of quotes, with its references resolved
---     patch    = [ "/" ] step *( "/" step ) [ "/" ( "@" QName / "text()" [ "[" 1*DIGIT "]" ] ) ]
+--     value    = the value of an attribute, in a pair of quotes, with its references resolved
+--     patch    = [ "/" ] step *( "/" step )
+--                [ "/" ( "@" QName / "text()" [ "[" 1*DIGIT "]" ] ) ]
 --
--- A rule spells what its texts mean by the bindings of their prefixes. Where a prefix isn't bound, the name says so.
+-- A rule spells what its texts mean by the bindings of their prefixes. A name whose prefix isn't
+-- bound is marked.
 use Rattle.std.specs.Prelude.{◌≡◌, ℕ, Bool, true, not, ◌&&◌, nat_le, codes, List, [], ◌∷◌, ◌++◌, length, unwrap_or, if◌then◌else◌}
 use Rattle.std.specs.Str.{bytes_eq}
 use Rattle.std.specs.Char.{is_ascii_digit}
 use Rattle.xml_tree.specs.Scopes.{xmlns_prefix}
 use Rattle.xml_tree.specs.declared.names.Name.{Name}
 use Rattle.xml_tree.specs.declared.names.Decl.{Decl}
-use Rattle.grammar_rules.specs.Digits.{decimal_digits}
-use Rattle.grammar_rules.specs.Rules.{Rule, word, run, number_from, sequence, either, many, valued, only, judged, optional, between, some_of, keeping_first, keeping_second, quoted}
-use Rattle.tree_text.specs.declared.kind.Kind.{Kind}
-use Rattle.tree_text.specs.declared.kind.Kind.TheVariants.{Unbound}
+use Rattle.xml_grammar.specs.Digits.{decimal_digits}
+use Rattle.xml_grammar.specs.Rules.{Rule, word, run, number_from, sequence, either, many, valued, only, judged, optional, between, some_of, keeping_first, keeping_second, quoted}
+use Rattle.tree_text.specs.declared.fault_kind.FaultKind.{FaultKind}
+use Rattle.tree_text.specs.declared.fault_kind.FaultKind.TheVariants.{Unbound}
 use Rattle.tree_text.specs.Pieces.{written}
 use Rattle.tree_text.specs.Grammar.{qname, reference, is_quote, is_raw_in}
-use Rattle.node_select.specs.declared.steps.TheConstants.{GREATEST_POSITION}
+use Rattle.node_select.specs.declared.steps.TheConstants.{MAX_POSITION}
 use Rattle.node_select.specs.declared.selector.NameTest.{NameTest}
 use Rattle.node_select.specs.declared.selector.NameTest.TheVariants.{Any, Named}
 use Rattle.node_select.specs.declared.selector.AttrTest.{AttrTest}
@@ -35,7 +38,7 @@ use Rattle.node_select.specs.Names.{is_unbound, name_uri, attr_uri}
 
 -- ---- values and positions
 
--- the value of raw characters and references as they stand
+-- the value of raw characters and references, without normalization
 abbrev pub more_plain : List (ℕ × List ℕ) → List ℕ
 more_plain [] = []
 more_plain ((c, cs) ∷ pieces) = c ∷ (cs ++ more_plain pieces)
@@ -43,73 +46,73 @@ more_plain ((c, cs) ∷ pieces) = c ∷ (cs ++ more_plain pieces)
 abbrev pub literal_value : List ℕ × List (ℕ × List ℕ) → List ℕ
 literal_value x = x.0 ++ more_plain x.1
 
-abbrev pub value : Rule Kind (List ℕ)
+abbrev pub value : Rule FaultKind (List ℕ)
 value = quoted is_quote (λ quote. valued literal_value (between (run (is_raw_in quote)) reference))
 
--- a position above the greatest one is read as 0, which no child has
+-- a position above the greatest one is read as 0, a position that no child has
 abbrev pub greatest_position : ℕ
-greatest_position = GREATEST_POSITION
+greatest_position = MAX_POSITION
 
 abbrev pub position_of : List ℕ → ℕ
 position_of digits = if nat_le (number_from decimal_digits 0 digits) greatest_position then number_from decimal_digits 0 digits else 0
 
 -- "[" 1*DIGIT "]"
-abbrev pub position : Rule Kind ℕ
+abbrev pub position : Rule FaultKind ℕ
 position = keeping_second (word (codes "[")) (keeping_first (valued position_of (some_of is_ascii_digit)) (word (codes "]")))
 
--- `xmlns`, which declares, is no name of an attribute
+-- `xmlns`, which declares, isn't an attribute's name
 abbrev pub names_attribute : Name → Bool
 names_attribute n = not (bytes_eq n.prefix [] && bytes_eq n.local xmlns_prefix)
 
--- A name with an unbound prefix says so, at its first character.
-abbrev pub IsUnbound : List Decl → Name → Kind → ℕ → Type 0
+-- A name with an unbound prefix is marked, at its first character.
+abbrev pub IsUnbound : List Decl → Name → FaultKind → ℕ → Type 0
 IsUnbound bindings name kind back = (is_unbound bindings name ≡ true) × (kind ≡ Unbound) × (back ≡ length (written name))
 
--- prefixes mean what these bindings say, and an element's name without prefix is in this namespace
+-- prefixes have these bindings, and an element's name without prefix is in this namespace
 module _ (bindings : List Decl) (default : List ℕ) where
   -- ---- steps
 
   -- QName / "*"
-  abbrev pub node_name : Rule Kind NameTest
+  abbrev pub node_name : Rule FaultKind NameTest
   node_name = either (valued (λ _. Any) (word (codes "*"))) (valued (λ name. Named (name_uri bindings default name) name.local) (judged (IsUnbound bindings) qname))
 
   -- "@" QName
-  abbrev pub attribute : Rule Kind Name
+  abbrev pub attribute : Rule FaultKind Name
   attribute = keeping_second (word (codes "@")) (judged (IsUnbound bindings) (only names_attribute qname))
 
   -- "[" "@" QName "=" value "]"
-  abbrev pub test : Rule Kind AttrTest
+  abbrev pub test : Rule FaultKind AttrTest
   test =
       keeping_second (word (codes "[")) (keeping_first (valued (λ x. record { uri = attr_uri bindings x.0; local = x.0.local; value = x.1 })
       (sequence attribute (λ _. keeping_second (word (codes "=")) value))) (word (codes "]")))
 
-  abbrev pub step : Rule Kind Step
+  abbrev pub step : Rule FaultKind Step
   step = valued (λ x. record { name = x.0.0; position = x.0.1; test = x.1 }) (sequence (sequence node_name (λ _. optional position)) (λ _. optional test))
 
   -- step *( "/" step )
-  abbrev pub steps : Rule Kind (List Step)
+  abbrev pub steps : Rule FaultKind (List Step)
   steps = valued (λ x. x.0 ∷ x.1) (sequence step (λ _. many (keeping_second (word (codes "/")) step)))
 
   -- ---- selectors
 
   -- "@" QName / "namespace::*"
-  abbrev pub end : Rule Kind End
+  abbrev pub end : Rule FaultKind End
   end = either (valued (λ name. Attribute (attr_uri bindings name) name.local) attribute) (valued (λ _. Namespaces) (word (codes "namespace::*")))
 
   -- without an end it selects an element
-  abbrev pub selector : Rule Kind Selector
+  abbrev pub selector : Rule FaultKind Selector
   selector =
       valued (λ x. record { steps = x.0; end = x.1 }) (sequence steps (λ _. valued (λ o. unwrap_or o Element) (optional (keeping_second (word (codes "/")) end))))
 
   -- ---- selectors of patches
 
   -- "@" QName / "text()" [ "[" 1*DIGIT "]" ]
-  abbrev pub patch_end : Rule Kind PatchEnd
+  abbrev pub patch_end : Rule FaultKind PatchEnd
   patch_end =
       either (valued (λ name. patch_ends.Attribute (attr_uri bindings name) name.local) attribute)
       (valued (λ n. patch_ends.Chars n) (keeping_second (word (codes "text()")) (optional position)))
 
-  abbrev pub patch_selector : Rule Kind PatchSelector
+  abbrev pub patch_selector : Rule FaultKind PatchSelector
   patch_selector =
       keeping_second (optional (word (codes "/")))
       (valued (λ x. record { steps = x.0; end = x.1 })

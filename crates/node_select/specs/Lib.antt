@@ -1,7 +1,10 @@
+pub mod Edits
 pub mod Faults
 pub mod Grammar
+pub mod InsertionPoints
 pub mod LastStep
 pub mod Names
-pub mod readers
 pub mod Selection
+pub mod StepSelection
 pub mod inner
+pub mod readers

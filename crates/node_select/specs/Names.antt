@@ -1,21 +1,23 @@
--- What the names in selectors mean. RFC 4825, sections 6.3 and 6.4; Namespaces in XML 1.0, sections 3 and 6.2.
+-- What the names in selectors mean. RFC 4825, sections 6.3 and 6.4; Namespaces in XML 1.0,
+-- sections 3 and 6.2.
 use Rattle.std.specs.Prelude.{ℕ, Bool, not, ◌&&◌, List, [], ◌∷◌, Option, None, is_none, unwrap_or, if◌then◌else◌}
 use Rattle.std.specs.Str.{bytes_eq}
 use Rattle.xml_tree.specs.Scopes.{bound, xmlns_prefix}
-use Rattle.xml_tree.specs.Expanded.{Expanded}
+use Rattle.xml_tree.specs.Expanded.{ExpandedName}
 use Rattle.xml_tree.specs.declared.names.Decl.{Decl}
 use Rattle.xml_tree.specs.declared.names.Name.{Name}
 
--- the URI that a prefix is bound to, where the bindings are read as the declarations of one element; `xmlns` is never bound
+-- the URI that a prefix is bound to, where the bindings are read as the declarations of one
+-- element; `xmlns` is never bound
 abbrev pub prefix_uri : List Decl → List ℕ → Option (List ℕ)
 prefix_uri bindings p = if bytes_eq p xmlns_prefix then None else bound (bindings ∷ []) p
 
 -- the URI of a name, which is empty where the name is in no namespace
-abbrev pub uri_of : Expanded → List ℕ
+abbrev pub uri_of : ExpandedName → List ℕ
 uri_of name = unwrap_or name.uri []
 
--- whether a name is that of this URI and this local name
-abbrev pub is_named_so : List ℕ → List ℕ → Expanded → Bool
+-- whether a name has this URI and this local name
+abbrev pub is_named_so : List ℕ → List ℕ → ExpandedName → Bool
 is_named_so uri local name = bytes_eq name.local local && bytes_eq (uri_of name) uri
 
 -- ---- names as they are written
@@ -24,7 +26,8 @@ is_named_so uri local name = bytes_eq name.local local && bytes_eq (uri_of name)
 abbrev pub is_unbound : List Decl → Name → Bool
 is_unbound bindings name = not (bytes_eq name.prefix []) && is_none (prefix_uri bindings name.prefix)
 
--- that of a name, where a name without prefix has this one: of an element's name the default namespace, of an attribute's none
+-- the URI of a name, where a name without prefix has this one: an element's name the default
+-- namespace, an attribute's name none
 abbrev pub name_uri : List Decl → List ℕ → Name → List ℕ
 name_uri bindings none name = if bytes_eq name.prefix [] then none else unwrap_or (prefix_uri bindings name.prefix) []
 

@@ -1,14 +1,15 @@
--- What a selector selects in a tree. RFC 4825, section 6.3: each step must match exactly one element child.
--- Each child is tested by itself, among its siblings; the document has the root element as its one child.
+-- What a selector selects in a tree. RFC 4825, section 6.3: each step must match exactly one
+-- child element. Each child is tested by itself, among its siblings; the document has the root
+-- element as its one child.
 use Rattle.std.specs.Prelude.{◌≡◌, ◌<◌, ◌≤◌, ℕ, suc, Bool, true, ◌&&◌, List, [], ◌∷◌, Option, None, Some, IsTrue, length, take, slice_get, option_map, option_and_then, if◌then◌else◌}
 use Rattle.std.specs.List.{list_any}
 use Rattle.std.specs.Str.{bytes_eq}
-use Rattle.xml_tree.specs.Tree.{Tree, kids_of, at}
+use Rattle.xml_tree.specs.Tree.{Tree, child_elements_of, at}
 use Rattle.xml_tree.specs.Scopes.{scope_at, inside}
-use Rattle.xml_tree.specs.Expanded.{Expanded, element_name, attr_name}
+use Rattle.xml_tree.specs.Expanded.{ExpandedName, element_name, attr_name}
 use Rattle.xml_tree.specs.declared.names.Decl.{Decl}
 use Rattle.xml_tree.specs.declared.names.Attr.{Attr}
-use Rattle.step_laws.specs.Selection as step_laws
+use Rattle.node_select.specs.StepSelection as step_laws
 use Rattle.node_select.specs.declared.selector.NameTest.{NameTest}
 use Rattle.node_select.specs.declared.selector.NameTest.TheVariants.{Any, Named}
 use Rattle.node_select.specs.declared.selector.AttrTest.{AttrTest}
@@ -18,58 +19,59 @@ use Rattle.node_select.specs.declared.selector.End.TheVariants.{Attribute}
 use Rattle.node_select.specs.declared.selector.Selector.{Selector}
 use Rattle.node_select.specs.Names.{is_named_so}
 
--- ---- the two tests of a child, which stands in the scope of its parent
+-- ---- the two tests of a child, in the scope of its parent
 
 -- whether a name passes the name test
-abbrev pub passes : NameTest → Expanded → Bool
+abbrev pub passes : NameTest → ExpandedName → Bool
 passes Any name = true
 passes (Named uri local) name = is_named_so uri local name
 
 -- whether a child passes a step's name test
 abbrev pub is_named : List (List Decl) → Step → Tree → Bool
-is_named c step kid = passes step.name (element_name (inside c kid) kid.name)
+is_named c step child_element = passes step.name (element_name (inside c child_element) child_element.name)
 
--- whether it is the attribute of this name, in the scope at its element
+-- whether an attribute has this name, in the scope at its element
 abbrev pub is_attr : List (List Decl) → List ℕ → List ℕ → Attr → Bool
 is_attr c uri local attr = is_named_so uri local (attr_name c attr.name)
 
--- whether an attribute has the name and the value that are asked for
+-- whether an attribute has the name and the value of the test
 abbrev pub is_asked : List (List Decl) → AttrTest → Attr → Bool
 is_asked c test attr = bytes_eq attr.value test.value && is_attr c test.uri test.local attr
 
--- whether some attribute is the one that is asked for
+-- whether some attribute passes the test, if there is one
 abbrev pub has_asked : List (List Decl) → Option AttrTest → List Attr → Bool
 has_asked c None attrs = true
 has_asked c (Some test) attrs = list_any (is_asked c test) attrs
 
 -- whether a child passes a step's attribute test
 abbrev pub is_tested : List (List Decl) → Step → Tree → Bool
-is_tested c step kid = has_asked (inside c kid) step.test kid.attrs
+is_tested c step child_element = has_asked (inside c child_element) step.test child_element.attrs
 
 -- ---- selection as a relation
 
--- the i-th of these children, in the scope around them, matches the step; and it alone does
+-- the i-th of these children, in the scope around them, matches the step, and no other does
 abbrev pub SelectsChild : List (List Decl) → Step → List Tree → ℕ → Type 0
-SelectsChild c step kids i = step_laws.Selects (is_named c step) (is_tested c step) step.position kids i
+SelectsChild c step child_elements i = step_laws.Selects (is_named c step) (is_tested c step) step.position child_elements i
 
--- at each depth the child that the path names, and it alone, matches its step
+-- at each depth the child on the path matches its step, and no other does
 abbrev pub SelectsAmong : List (List Decl) → List Tree → List Step → List ℕ → Type 0
-SelectsAmong c kids [] [] = Unit {0}
-SelectsAmong c kids [] (i ∷ p) = ⊥
-SelectsAmong c kids (step ∷ steps) [] = ⊥
-SelectsAmong c kids (step ∷ steps) (i ∷ p) =
-    SelectsChild c step kids i × ((kid : Tree) × (slice_get kids i ≡ Some kid) × SelectsAmong (inside c kid) (kids_of kid) steps p)
+SelectsAmong c child_elements [] [] = Unit {0}
+SelectsAmong c child_elements [] (i ∷ p) = ⊥
+SelectsAmong c child_elements (step ∷ steps) [] = ⊥
+SelectsAmong c child_elements (step ∷ steps) (i ∷ p) =
+    SelectsChild c step child_elements i × ((child_element : Tree) × (slice_get child_elements i ≡ Some child_element) × SelectsAmong (inside c child_element) (child_elements_of child_element) steps p)
 
 -- the steps select the element at this path: from the document, whose one child is the root
 abbrev pub SelectsPath : List Step → Tree → List ℕ → Type 0
 SelectsPath steps root p = SelectsAmong [] (root ∷ []) steps (0 ∷ p)
 
--- of an element, in its scope: whether the end is there
+-- whether the end exists, for an element in its scope
 abbrev pub has_end : End → List (List Decl) → Tree → Bool
 has_end (Attribute uri local) c e = list_any (is_attr c uri local) e.attrs
 has_end _ c e = true
 
--- the selector finds something: its steps select an element, which has the attribute where the selector ends in one
+-- the selector finds something: its steps select an element, which has the attribute if the
+-- selector ends in one
 pub record Found (root : Tree) (selector : Selector) : Type 0 where
   pub path : List ℕ
   pub element : Tree
@@ -77,42 +79,43 @@ pub record Found (root : Tree) (selector : Selector) : Type 0 where
   pub there : at path root ≡ Some element
   pub has : IsTrue (has_end selector.end (scope_at path root) element)
 
--- so many first steps select an element, and no greater number does; none where not even the first step selects the root
+-- the first k steps select an element, and no greater number does; 0 if not even the first step
+-- selects the root
 pub record IsLongestMatch (steps : List Step) (root : Tree) (k : ℕ) : Type 0 where
   pub within : k ≤ length steps
   pub selects : 0 < k → (p : List ℕ) × SelectsPath (take k steps) root p
   pub longest : (j : ℕ) (p : List ℕ) → k < j → j ≤ length steps → SelectsPath (take j steps) root p → ⊥
 
--- ---- the same computed
+-- ---- selection, computed
 
 -- the number of the only child that matches
 abbrev pub selected_child : List (List Decl) → Step → List Tree → Option ℕ
-selected_child c step kids = step_laws.selected (is_named c step) (is_tested c step) step.position kids
+selected_child c step child_elements = step_laws.selected (is_named c step) (is_tested c step) step.position child_elements
 
 -- the path from these children down
 abbrev pub selected_among : List (List Decl) → List Tree → List Step → Option (List ℕ)
-selected_among c kids [] = Some []
-selected_among c kids (step ∷ steps) =
-    option_and_then (λ i. option_map (λ p. i ∷ p) (option_and_then (λ kid. selected_among (inside c kid) (kids_of kid) steps) (slice_get kids i)))
-    (selected_child c step kids)
+selected_among c child_elements [] = Some []
+selected_among c child_elements (step ∷ steps) =
+    option_and_then (λ i. option_map (λ p. i ∷ p) (option_and_then (λ child_element. selected_among (inside c child_element) (child_elements_of child_element) steps) (slice_get child_elements i)))
+    (selected_child c step child_elements)
 
 -- the path of the element that the steps select
 abbrev pub selected_in : List Step → Tree → Option (List ℕ)
 selected_in [] root = None
 selected_in (step ∷ steps) root =
     if step_laws.matches (is_named [] step) (is_tested [] step) step.position (root ∷ []) 0
-    then selected_among (root.decls ∷ []) (kids_of root) steps
+    then selected_among (root.decls ∷ []) (child_elements_of root) steps
     else None
 
--- one step more than behind it, where it selects something
+-- one step more than the remaining steps, if they select something
 abbrev pub deeper : Option ℕ → ℕ
 deeper None = 0
 deeper (Some n) = suc n
 
--- how many first steps select one after the other, from these children down
+-- how many first steps select one element after the other, from these children down
 abbrev pub depth_among : List (List Decl) → List Tree → List Step → ℕ
-depth_among c kids [] = 0
-depth_among c kids (step ∷ steps) = deeper (option_map (λ kid. depth_among (inside c kid) (kids_of kid) steps) (option_and_then (slice_get kids) (selected_child c step kids)))
+depth_among c child_elements [] = 0
+depth_among c child_elements (step ∷ steps) = deeper (option_map (λ child_element. depth_among (inside c child_element) (child_elements_of child_element) steps) (option_and_then (slice_get child_elements) (selected_child c step child_elements)))
 
 -- the greatest number of first steps that select an element
 abbrev pub longest_in : List Step → Tree → ℕ

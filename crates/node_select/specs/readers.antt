@@ -1,11 +1,11 @@
--- How selectors are read from left to right: what the code and the proofs speak of. What reading a text answers is what
--- the grammar says of it (`IsSelectorAnswer`, `IsPatchSelectorAnswer`): of public clauses only those of laws lead here.
-pub mod Made
+-- Reading selectors from left to right: the definitions that the code's contracts and the proofs
+-- use.
 pub mod Members
+pub mod ParseErrors
 pub mod Raw
 pub mod Resolving
+pub mod SelectorValues
 pub mod Selectors
-pub mod Stops
 pub mod Views
 pub mod Whole
 pub mod Words

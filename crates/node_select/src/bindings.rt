@@ -1,13 +1,13 @@
-//! Bindings of prefixes, as the query of an address or the scope of a patch operation gives them.
+//! Bindings of prefixes, from the query of an address or the scope of a patch operation.
 ghost use Rattle.std.specs.Prelude.{◌≡◌, ◌++◌, ◌∷◌, [], OnOk, OnErr, chars, option_map};
 ghost use Rattle.node_select.specs.Names.{prefix_uri};
 
 use std::alloc::{AllocError, Global};
 use std::marker::Model;
-use xml_tree::{Decl, Declared, Prefix, Scope, Text, declared_in, is_xmlns};
+use xml_tree::{Decl, IndexedDecls, Prefix, Scope, Text, declared_in, is_xmlns};
 
-/// Prefixes with their URIs, as declarations: the last one of a prefix counts, and an empty URI binds nothing. `xml` is always bound to
-/// its own namespace, and `xmlns` never.
+/// Prefixes with their URIs, as declarations: the last one of a prefix counts, and an empty URI
+/// binds nothing. `xml` is always bound to its own namespace, and `xmlns` never.
 #[derive(Drop)]
 pub struct Bindings {
     alloc: Global,
@@ -27,7 +27,7 @@ impl Model for Bindings {
 }
 
 impl Bindings {
-    /// No bindings. Takes no memory; those that are added take it from `alloc`.
+    /// No bindings. Does not allocate; bindings that are added later are allocated from `alloc`.
     pub fn none(alloc: Global) -> Bindings
         ensures binds_nothing { result ≡ [] }
     {
@@ -37,13 +37,15 @@ impl Bindings {
         }
     }
 
-    /// Binds a prefix, behind the bindings that are there.
+    /// Binds a prefix, after the existing bindings.
     ///
     /// # Errors
-    /// `NoMemory` for want of memory; the bindings are then as before.
+    /// `NoMemory` when out of memory; the bindings are then unchanged.
     pub fn bind(&mut self, prefix: &str, uri: &str) -> Result<(), AllocError>
-        ensures adds_the_binding { OnOk result (self.new ≡ self.old ++ record { prefix = chars prefix.now; uri = chars uri.now } ∷ []) }
-        ensures failure_changes_nothing { OnErr result (self.new ≡ self.old) }
+        ensures appended { OnOk result
+            (self.new ≡ self.old
+            ++ record { prefix = chars prefix.now; uri = chars uri.now } ∷ []) }
+        ensures err_unchanged { OnErr result (self.new ≡ self.old) }
     {
         let prefix = Prefix::from(self.alloc, prefix)?;
         let uri = Text::from(self.alloc, uri)?;
@@ -51,16 +53,18 @@ impl Bindings {
         Ok(())
     }
 
-    // As declarations of one element, with an index where they are many and there is memory for one.
-    pub(crate) fn declared(&self) -> Declared<'_>
-        ensures declares_the_bindings { result ≡ self.now }
+    // The bindings as declarations of one element, with an index if they are many and there is
+    // memory for one.
+    pub(crate) fn declared(&self) -> IndexedDecls<'_>
+        ensures declares_bindings { result ≡ self.now }
     {
         declared_in(self.alloc, &self.decls)
     }
 
-    /// The URI that a prefix is bound to. Takes no memory.
+    /// The URI that a prefix is bound to. Does not allocate.
     pub fn resolve(&self, prefix: &str) -> Option<&str>
-        ensures resolves_the_prefix { option_map (λ uri. chars uri.now) result ≡ prefix_uri self.now (chars prefix.now) }
+        ensures exact { option_map (λ uri. chars uri.now) result
+            ≡ prefix_uri self.now (chars prefix.now) }
     {
         if is_xmlns(prefix) {
             return None;

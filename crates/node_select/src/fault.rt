@@ -1,8 +1,8 @@
-//! Why a text is no selector.
+//! Why a text isn't a selector.
 
 use thiserror::Error;
 
-/// Why a text is no selector. Places are byte offsets.
+/// Why a text isn't a selector. Places are byte offsets.
 #[derive(Debug, PartialEq, Eq, Drop, Error)]
 pub enum SelectorFault {
     /// The longest beginning of a selector ends here.

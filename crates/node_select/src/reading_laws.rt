@@ -1,4 +1,4 @@
-//! Laws of what is read, each the contract of a function that does nothing.
+//! Laws of reading, each the contract of a function that does nothing.
 ghost use Rattle.std.specs.Prelude.{◌≡◌, ℕ, List, Option, Result};
 ghost use Rattle.xml_tree.specs.declared.names.Decl.{Decl};
 ghost use Rattle.node_select.specs.Faults.{IsPatchFormAnswer, IsPatchSelectorAnswer, IsSelectorAnswer};
@@ -8,23 +8,31 @@ ghost use Rattle.node_select.specs.declared.selector.PatchSelector.{PatchSelecto
 ghost use Rattle.node_select.specs.declared.selector.Selector.{Selector};
 ghost use Rattle.node_select.specs.readers.Whole.{patch_form_read, patch_selector_read, selector_read};
 
-/// By the grammar each text has one answer, with any bindings and any namespace of unprefixed elements: the selector that it spells, or its one
-/// fault (RFC 4825, section 6.3). It is what reading from left to right gives.
+/// By the grammar each text has one answer, with any bindings and any namespace of unprefixed
+/// elements: the selector that it spells, or its one fault (RFC 4825, section 6.3). Reading from
+/// left to right returns this answer.
 pub fn selectors_have_one_answer()
-    ensures what_is_read_is_the_answer { (bindings : List Decl) (default text : List ℕ) → IsSelectorAnswer bindings default text (selector_read bindings default text) }
-    ensures there_is_no_other { (bindings : List Decl) (default text : List ℕ) (a b : Result Selector SelectorFault)
-        → IsSelectorAnswer bindings default text a → IsSelectorAnswer bindings default text b → a ≡ b }
+    ensures answer_is_exact { (bindings : List Decl) (default text : List ℕ)
+        → IsSelectorAnswer bindings default text (selector_read bindings default text) }
+    ensures at_most_one { (bindings : List Decl) (default text : List ℕ)
+        (a b : Result Selector SelectorFault)
+        → IsSelectorAnswer bindings default text a → IsSelectorAnswer bindings default text b
+        → a ≡ b }
 {}
 
-/// The same of the selectors of patches (RFC 5261, section 4.1).
+/// By the grammar each text has one answer as the selector of a patch (RFC 5261, section 4.1).
 pub fn patch_selectors_have_one_answer()
-    ensures what_is_read_is_the_answer { (bindings : List Decl) (default text : List ℕ) → IsPatchSelectorAnswer bindings default text (patch_selector_read bindings default text) }
-    ensures there_is_no_other { (bindings : List Decl) (default text : List ℕ) (a b : Result PatchSelector SelectorFault)
-        → IsPatchSelectorAnswer bindings default text a → IsPatchSelectorAnswer bindings default text b → a ≡ b }
+    ensures answer_is_exact { (bindings : List Decl) (default text : List ℕ)
+        → IsPatchSelectorAnswer bindings default text (patch_selector_read bindings default text) }
+    ensures at_most_one { (bindings : List Decl) (default text : List ℕ)
+        (a b : Result PatchSelector SelectorFault)
+        → IsPatchSelectorAnswer bindings default text a
+        → IsPatchSelectorAnswer bindings default text b → a ≡ b }
 {}
 
-/// And of what the selector of a patch ends in, whatever prefixes are bound.
+/// The last part of a patch's selector has one answer, too, whatever prefixes are bound.
 pub fn patch_forms_have_one_answer()
-    ensures what_is_read_is_the_answer { (text : List ℕ) → IsPatchFormAnswer text (patch_form_read text) }
-    ensures there_is_no_other { (text : List ℕ) (a b : Option PatchForm) → IsPatchFormAnswer text a → IsPatchFormAnswer text b → a ≡ b }
+    ensures answer_is_exact { (text : List ℕ) → IsPatchFormAnswer text (patch_form_read text) }
+    ensures at_most_one { (text : List ℕ) (a b : Option PatchForm) → IsPatchFormAnswer text a
+        → IsPatchFormAnswer text b → a ≡ b }
 {}

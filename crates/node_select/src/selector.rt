@@ -1,19 +1,20 @@
-//! What a selector says (RFC 4825, section 6.3). Names are resolved: a name that has no namespace has the empty URI.
+//! Selectors (RFC 4825, section 6.3). Names are resolved: a name in no namespace has the empty
+//! URI.
 ghost use Rattle.std.specs.Prelude.{◌≡◌, IfOk};
 
 use std::alloc::{AllocError, Global};
 use xml_tree::{List, Text};
 
-/// What a step asks of an element's name.
+/// The test of an element's name in a step.
 #[derive(Drop)]
 pub enum NameTest {
-    /// `*`: nothing.
+    /// `*`: any name.
     Any,
     /// This namespace and this local name.
     Named { uri: Text, local: Text },
 }
 
-/// An attribute that a step asks for, with its value.
+/// The test of an attribute in a step: its name and its value.
 #[derive(Drop)]
 pub struct AttrTest {
     pub uri: Text,
@@ -21,16 +22,16 @@ pub struct AttrTest {
     pub value: Text,
 }
 
-/// A step: from an element to one of its element children.
+/// A step: from an element to one of its child elements.
 #[derive(Drop)]
 pub struct Step {
     pub name: NameTest,
-    /// Counted from 1 among the children of that name. No child has the position 0.
+    /// Counted from 1 among the children that pass the name test. No child has the position 0.
     pub position: Option<u64>,
     pub test: Option<AttrTest>,
 }
 
-/// What a selector selects of the element that its steps lead to.
+/// The last part of a selector, relative to the element that its steps select.
 #[derive(Drop)]
 pub enum End {
     Element,
@@ -45,19 +46,19 @@ pub struct Selector {
     pub end: End,
 }
 
-/// What a patch operation's selector selects of the element that its steps lead to.
+/// The last part of a patch operation's selector, relative to the element that its steps select.
 #[derive(Drop)]
 pub enum PatchEnd {
     Element,
     Attribute { uri: Text, local: Text },
-    /// A text of the element: the only one, or that of this position, counted from 1.
+    /// A text of the element: the only one, or the one at this position, counted from 1.
     Chars(Option<u64>),
 }
 
-/// What a patch operation's selector ends in, whatever its names mean.
+/// The form of the last part of a patch operation's selector, whatever its names mean.
 #[derive(Clone, Copy, Drop, PartialEq, Eq)]
 pub enum PatchForm {
-    /// Its steps: it selects an element.
+    /// Steps alone: it selects an element.
     Element,
     Attribute,
     Chars,
@@ -74,9 +75,9 @@ impl NameTest {
     /// An equal test.
     ///
     /// # Errors
-    /// `NoMemory` for want of memory, as at each `copy` below.
+    /// `NoMemory` when out of memory, as at each `copy` below.
     pub fn copy(&self, alloc: Global) -> Result<NameTest, AllocError>
-        ensures makes_an_equal_name_test { IfOk result (λ made. made ≡ self.now) }
+        ensures equal_copy { IfOk result (λ made. made ≡ self.now) }
     {
         match self {
             NameTest::Any => Ok(NameTest::Any),
@@ -92,7 +93,7 @@ impl NameTest {
 impl AttrTest {
     /// An equal test.
     pub fn copy(&self, alloc: Global) -> Result<AttrTest, AllocError>
-        ensures makes_an_equal_attribute_test { IfOk result (λ made. made ≡ self.now) }
+        ensures equal_copy { IfOk result (λ made. made ≡ self.now) }
     {
         let uri = self.uri.copy(alloc)?;
         let local = self.local.copy(alloc)?;
@@ -104,7 +105,7 @@ impl AttrTest {
 impl Step {
     /// An equal step.
     pub fn copy(&self, alloc: Global) -> Result<Step, AllocError>
-        ensures makes_an_equal_step { IfOk result (λ made. made ≡ self.now) }
+        ensures equal_copy { IfOk result (λ made. made ≡ self.now) }
     {
         let name = self.name.copy(alloc)?;
         let test = copy_test(&self.test, alloc)?;
@@ -118,7 +119,7 @@ impl Step {
 
 // An equal test, if there is one.
 fn copy_test(test: &Option<AttrTest>, alloc: Global) -> Result<Option<AttrTest>, AllocError>
-    ensures makes_an_equal_test { IfOk result (λ made. made ≡ test.now) }
+    ensures equal_copy { IfOk result (λ made. made ≡ test.now) }
 {
     match test {
         None => Ok(None),
@@ -132,7 +133,7 @@ fn copy_test(test: &Option<AttrTest>, alloc: Global) -> Result<Option<AttrTest>,
 impl End {
     /// An equal end.
     pub fn copy(&self, alloc: Global) -> Result<End, AllocError>
-        ensures makes_an_equal_end { IfOk result (λ made. made ≡ self.now) }
+        ensures equal_copy { IfOk result (λ made. made ≡ self.now) }
     {
         match self {
             End::Element => Ok(End::Element),
@@ -149,7 +150,7 @@ impl End {
 impl Selector {
     /// An equal selector.
     pub fn copy(&self, alloc: Global) -> Result<Selector, AllocError>
-        ensures makes_an_equal_selector { IfOk result (λ made. made ≡ self.now) }
+        ensures equal_copy { IfOk result (λ made. made ≡ self.now) }
     {
         let steps = copy_steps(self.steps.as_slice(), alloc)?;
         let end = self.end.copy(alloc)?;
@@ -162,7 +163,7 @@ impl Selector {
 
 // Equal steps.
 fn copy_steps(steps: &[Step], alloc: Global) -> Result<Vec<Step>, AllocError>
-    ensures copies_the_steps { IfOk result (λ made. made.items ≡ steps.now) }
+    ensures equal_copy { IfOk result (λ made. made.items ≡ steps.now) }
 {
     let mut made = Vec::new(alloc);
     for step in steps {

@@ -1,29 +1,30 @@
 //! Steps of selectors, read from left to right.
 ghost use Rattle.std.specs.Prelude.{◌≡◌, ◌<◌, ◌^◌, ◌++◌, [], ◌∷◌, chars, map, Some, option_map, OnOk, Ok};
-ghost use Rattle.grammar_rules.specs.Digits.{decimal_digits};
+ghost use Rattle.xml_grammar.specs.Digits.{decimal_digits};
 ghost use Rattle.std.specs.Str.{bytes_eq};
-ghost use Rattle.grammar_rules.specs.Reading.{read_sequence};
-ghost use Rattle.grammar_rules.specs.readers.Functions.{read_optional};
-ghost use Rattle.tree_text.specs.readers.Gives.{Gives};
+ghost use Rattle.xml_grammar.specs.Reading.{read_sequence};
+ghost use Rattle.xml_grammar.specs.readers.Functions.{read_optional};
+ghost use Rattle.tree_text.specs.readers.Results.{Gives};
 ghost use Rattle.tree_text.specs.readers.Views.{name_in};
 ghost use Rattle.node_select.specs.Grammar.{position_of, names_attribute};
 ghost use Rattle.node_select.specs.readers.Selectors.{position_follows, read_attribute, read_inside_quotes, read_next_step, read_node_name, read_position, read_step, read_steps, read_test, read_value, slash_follows, test_follows};
 ghost use Rattle.node_select.specs.readers.Views.{follows_in, step_in, test_in};
 
-use crate::raw::{Form, RawStep, RawTest};
+use crate::raw_selectors::{Form, RawStep, RawTest};
 use std::alloc::{AllocError, Global};
 use tree_text::{
-    Stop, Written, count_before, digits, is_first, no_text, qname, quote, raw_run, reference,
+    ParseError, RawName, count_before, digits, is_first, no_text, qname, quote, raw_run, reference,
     reference_follows, split_first, starts, word,
 };
 use xml_tree::{Text, is_xmlns};
 
 /// The greatest position; a greater one is read as 0.
-const GREATEST_POSITION: u64 = 4_294_967_295;
+const MAX_POSITION: u64 = 4_294_967_295;
 
 // A name, or none for `*`, and what follows it.
-fn node_name(text: &str) -> Result<(Option<Written<'_>>, &str), Stop<'_>>
-    ensures reads_a_name_or_a_star { Gives (λ x. (option_map name_in x.0, chars x.1.now)) result (read_node_name (chars text.now)) }
+fn node_name(text: &str) -> Result<(Option<RawName<'_>>, &str), ParseError<'_>>
+    ensures reads_rule { Gives (λ x. (option_map name_in x.0, chars x.1.now)) result
+        (read_node_name (chars text.now)) }
 {
     if is_first(text, '*') {
         let rest = word(text, &['*'])?;
@@ -35,21 +36,21 @@ fn node_name(text: &str) -> Result<(Option<Written<'_>>, &str), Stop<'_>>
 
 // What a digit is worth.
 fn digit_value(c: char) -> u64
-    ensures worth_of_the_digit { result ≡ decimal_digits.value c }
+    ensures exact { result ≡ decimal_digits.value c }
     ensures is_small { result < 2 ^ 21 }
 {
     (c as u64).saturating_sub(48)
 }
 
-// The position that digits say.
+// The position that digits spell.
 fn position_value(digits: &str) -> u64
-    ensures position_of_the_digits { result ≡ position_of (chars digits.now) }
+    ensures exact { result ≡ position_of (chars digits.now) }
 {
     let mut value = 0;
     let mut rest = digits;
     'each: while let Some((c, after)) = split_first(rest) {
         value = value * 10 + digit_value(c);
-        if value > GREATEST_POSITION {
+        if value > MAX_POSITION {
             return 0;
         }
         rest = after;
@@ -58,8 +59,8 @@ fn position_value(digits: &str) -> u64
 }
 
 /// A position in brackets, and what follows it.
-pub fn position(text: &str) -> Result<(u64, &str), Stop<'_>>
-    ensures reads_a_position { Gives (λ x. (x.0, chars x.1.now)) result (read_position (chars text.now)) }
+pub fn position(text: &str) -> Result<(u64, &str), ParseError<'_>>
+    ensures reads_rule { Gives (λ x. (x.0, chars x.1.now)) result (read_position (chars text.now)) }
 {
     let rest = word(text, &['['])?;
     let (digits, rest) = digits(rest)?;
@@ -69,14 +70,15 @@ pub fn position(text: &str) -> Result<(u64, &str), Stop<'_>>
 
 // Whether a position follows.
 fn position_follows(text: &str) -> bool
-    ensures tells_whether_a_position_follows { result ≡ position_follows (chars text.now) }
+    ensures exact { result ≡ position_follows (chars text.now) }
 {
     is_first(text, '[') && !starts(text, &['[', '@'])
 }
 
 // A position, if one follows, and what follows it.
-fn optional_position(text: &str) -> Result<(Option<u64>, &str), Stop<'_>>
-    ensures reads_a_position_if_one_follows { Gives (λ x. (x.0, chars x.1.now)) result (read_optional position_follows read_position (chars text.now)) }
+fn optional_position(text: &str) -> Result<(Option<u64>, &str), ParseError<'_>>
+    ensures reads_rule { Gives (λ x. (x.0, chars x.1.now)) result
+        (read_optional position_follows read_position (chars text.now)) }
 {
     if !position_follows(text) {
         return Ok((None, text));
@@ -85,9 +87,9 @@ fn optional_position(text: &str) -> Result<(Option<u64>, &str), Stop<'_>>
     Ok((Some(position), rest))
 }
 
-// Whether a text has no characters.
+// Whether a text is empty.
 fn is_nothing(text: &str) -> bool
-    ensures tells_whether_it_has_none { result ≡ bytes_eq (chars text.now) [] }
+    ensures exact { result ≡ bytes_eq (chars text.now) [] }
 {
     match split_first(text) {
         Some(_) => false,
@@ -95,36 +97,38 @@ fn is_nothing(text: &str) -> bool
     }
 }
 
-// Whether it is a name that an attribute may have, and no declaration.
-fn names_attribute(name: &Written<'_>) -> bool
-    ensures tells_whether_it_names_an_attribute { result ≡ names_attribute (name_in name.now) }
+// Whether an attribute may have this name, which isn't a declaration's.
+fn names_attribute(name: &RawName<'_>) -> bool
+    ensures exact { result ≡ names_attribute (name_in name.now) }
 {
     !(is_nothing(name.prefix) && is_xmlns(name.local))
 }
 
 /// `@` and the name of an attribute, and what follows them.
-pub fn attribute(text: &str) -> Result<(Written<'_>, &str), Stop<'_>>
-    ensures reads_an_attribute { Gives (λ x. (name_in x.0, chars x.1.now)) result (read_attribute (chars text.now)) }
+pub fn attribute(text: &str) -> Result<(RawName<'_>, &str), ParseError<'_>>
+    ensures reads_rule { Gives (λ x. (name_in x.0, chars x.1.now)) result
+        (read_attribute (chars text.now)) }
 {
     let rest = word(text, &['@'])?;
     let (name, rest) = qname(rest)?;
     if !names_attribute(&name) {
-        return Err(Stop::Syntax(rest));
+        return Err(ParseError::Syntax(rest));
     }
     Ok((name, rest))
 }
 
-// Adds a character from a reference, and the raw characters behind it.
+// Appends a character from a reference, and the raw characters after it.
 fn push_piece(value: &mut Text, c: char, run: &str) -> Result<(), AllocError>
-    ensures adds_the_piece { OnOk result (value.new ≡ value.old ++ (c ∷ chars run.now)) }
+    ensures appended { OnOk result (value.new ≡ value.old ++ (c ∷ chars run.now)) }
 {
     value.push(c)?;
     value.push_str(run)
 }
 
 // A value up to its quote, and what follows it.
-fn inside_quotes(alloc: Global, text: &str, quote: char) -> Result<(Text, &str), Stop<'_>>
-    ensures reads_up_to_the_quote { Gives (λ x. (x.0, chars x.1.now)) result (read_inside_quotes quote (chars text.now)) }
+fn inside_quotes(alloc: Global, text: &str, quote: char) -> Result<(Text, &str), ParseError<'_>>
+    ensures reads_rule { Gives (λ x. (x.0, chars x.1.now)) result
+        (read_inside_quotes quote (chars text.now)) }
 {
     let mut value = no_text(alloc);
     let (first, start) = raw_run(text, quote);
@@ -143,8 +147,8 @@ fn inside_quotes(alloc: Global, text: &str, quote: char) -> Result<(Text, &str),
 }
 
 // A value in quotes, and what follows it.
-fn value(alloc: Global, text: &str) -> Result<(Text, &str), Stop<'_>>
-    ensures reads_a_value { Gives (λ x. (x.0, chars x.1.now)) result (read_value (chars text.now)) }
+fn value(alloc: Global, text: &str) -> Result<(Text, &str), ParseError<'_>>
+    ensures reads_rule { Gives (λ x. (x.0, chars x.1.now)) result (read_value (chars text.now)) }
 {
     let (quote, rest) = quote(text)?;
     let (value, rest) = inside_quotes(alloc, rest, quote)?;
@@ -153,8 +157,9 @@ fn value(alloc: Global, text: &str) -> Result<(Text, &str), Stop<'_>>
 }
 
 // A test in brackets, and what follows it.
-fn test(alloc: Global, text: &str) -> Result<(RawTest<'_>, &str), Stop<'_>>
-    ensures reads_a_test { Gives (λ x. (test_in x.0, chars x.1.now)) result (read_test (chars text.now)) }
+fn test(alloc: Global, text: &str) -> Result<(RawTest<'_>, &str), ParseError<'_>>
+    ensures reads_rule { Gives (λ x. (test_in x.0, chars x.1.now)) result
+        (read_test (chars text.now)) }
 {
     let rest = word(text, &['['])?;
     let (name, rest) = attribute(rest)?;
@@ -166,14 +171,15 @@ fn test(alloc: Global, text: &str) -> Result<(RawTest<'_>, &str), Stop<'_>>
 
 /// Whether a bracket follows.
 pub fn test_follows(text: &str) -> bool
-    ensures tells_whether_a_test_follows { result ≡ test_follows (chars text.now) }
+    ensures exact { result ≡ test_follows (chars text.now) }
 {
     is_first(text, '[')
 }
 
 // A test, if one follows, and what follows it.
-fn optional_test(alloc: Global, text: &str) -> Result<(Option<RawTest<'_>>, &str), Stop<'_>>
-    ensures reads_a_test_if_it_follows { Gives (λ x. (option_map test_in x.0, chars x.1.now)) result (read_optional test_follows read_test (chars text.now)) }
+fn optional_test(alloc: Global, text: &str) -> Result<(Option<RawTest<'_>>, &str), ParseError<'_>>
+    ensures reads_rule { Gives (λ x. (option_map test_in x.0, chars x.1.now)) result
+        (read_optional test_follows read_test (chars text.now)) }
 {
     if !test_follows(text) {
         return Ok((None, text));
@@ -183,8 +189,10 @@ fn optional_test(alloc: Global, text: &str) -> Result<(Option<RawTest<'_>>, &str
 }
 
 // The name and the position of a step, and what follows them.
-fn front(text: &str) -> Result<(Option<Written<'_>>, Option<u64>, &str), Stop<'_>>
-    ensures reads_the_front_of_a_step { Gives (λ x. ((option_map name_in x.0, x.1), chars x.2.now)) result (read_sequence read_node_name (λ _. read_optional position_follows read_position) (chars text.now)) }
+fn front(text: &str) -> Result<(Option<RawName<'_>>, Option<u64>, &str), ParseError<'_>>
+    ensures reads_rule { Gives (λ x. ((option_map name_in x.0, x.1), chars x.2.now)) result
+        (read_sequence read_node_name (λ _. read_optional position_follows read_position)
+        (chars text.now)) }
 {
     let (name, rest) = node_name(text)?;
     let (position, rest) = optional_position(rest)?;
@@ -192,8 +200,9 @@ fn front(text: &str) -> Result<(Option<Written<'_>>, Option<u64>, &str), Stop<'_
 }
 
 // A step, and what follows it.
-fn step(alloc: Global, text: &str) -> Result<(RawStep<'_>, &str), Stop<'_>>
-    ensures reads_a_step { Gives (λ x. (step_in x.0, chars x.1.now)) result (read_step (chars text.now)) }
+fn step(alloc: Global, text: &str) -> Result<(RawStep<'_>, &str), ParseError<'_>>
+    ensures reads_rule { Gives (λ x. (step_in x.0, chars x.1.now)) result
+        (read_step (chars text.now)) }
 {
     let (name, position, behind) = front(text)?;
     let (test, rest) = optional_test(alloc, behind)?;
@@ -209,9 +218,10 @@ fn step(alloc: Global, text: &str) -> Result<(RawStep<'_>, &str), Stop<'_>>
     Ok((step, rest))
 }
 
-// A step behind a slash, and what follows it.
-fn next_step(alloc: Global, text: &str) -> Result<(RawStep<'_>, &str), Stop<'_>>
-    ensures reads_the_next_step { Gives (λ x. (step_in x.0, chars x.1.now)) result (read_next_step (chars text.now)) }
+// A step after a slash, and what follows it.
+fn next_step(alloc: Global, text: &str) -> Result<(RawStep<'_>, &str), ParseError<'_>>
+    ensures reads_rule { Gives (λ x. (step_in x.0, chars x.1.now)) result
+        (read_next_step (chars text.now)) }
 {
     let rest = word(text, &['/'])?;
     step(alloc, rest)
@@ -219,7 +229,7 @@ fn next_step(alloc: Global, text: &str) -> Result<(RawStep<'_>, &str), Stop<'_>>
 
 // Whether another step follows.
 fn step_follows(text: &str, form: Form) -> bool
-    ensures tells_whether_a_step_follows { result ≡ follows_in form (chars text.now) }
+    ensures exact { result ≡ follows_in form (chars text.now) }
 {
     match form {
         Form::Node => node_step_follows(text),
@@ -229,14 +239,14 @@ fn step_follows(text: &str, form: Form) -> bool
 
 /// Whether a slash follows.
 pub fn slash_follows(text: &str) -> bool
-    ensures tells_whether_a_slash_follows { result ≡ slash_follows (chars text.now) }
+    ensures exact { result ≡ slash_follows (chars text.now) }
 {
     is_first(text, '/')
 }
 
 // Whether a slash and another step follow, and no end of a selector.
 fn node_step_follows(text: &str) -> bool
-    ensures tells_whether_a_node_step_follows { result ≡ follows_in Form.Node (chars text.now) }
+    ensures exact { result ≡ follows_in Form.Node (chars text.now) }
 {
     slash_follows(text)
         && !(starts(text, &['/', '@'])
@@ -248,15 +258,20 @@ fn node_step_follows(text: &str) -> bool
 
 // Whether a slash and another step follow, and no end of a patch's selector.
 fn patch_step_follows(text: &str) -> bool
-    ensures tells_whether_a_patch_step_follows { result ≡ follows_in Form.Patch (chars text.now) }
+    ensures exact { result ≡ follows_in Form.Patch (chars text.now) }
 {
     slash_follows(text)
         && !(starts(text, &['/', '@']) || starts(text, &['/', 't', 'e', 'x', 't', '(']))
 }
 
 /// Steps, and what follows them.
-pub fn steps(alloc: Global, text: &str, form: Form) -> Result<(Vec<RawStep<'_>>, &str), Stop<'_>>
-    ensures reads_the_steps { Gives (λ x. (map step_in x.0.items, chars x.1.now)) result (read_steps (follows_in form) (chars text.now)) }
+pub fn steps(
+    alloc: Global,
+    text: &str,
+    form: Form,
+) -> Result<(Vec<RawStep<'_>>, &str), ParseError<'_>>
+    ensures reads_rule { Gives (λ x. (map step_in x.0.items, chars x.1.now)) result
+        (read_steps (follows_in form) (chars text.now)) }
 {
     let mut steps = Vec::new(alloc);
     let (first, start) = step(alloc, text)?;

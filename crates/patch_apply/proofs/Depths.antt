@@ -1,10 +1,10 @@
--- How deep a tree is after an edit.
+-- The depth of a tree after an edit.
 use Rattle.std.proofs.Common.{◌≡◌, ℕ, suc, ◌+◌, ◌≤◌, max, true, List, [], ◌∷◌, ◌++◌, length, take, drop, Option, None, Some, IsSome, IsSomeAnd, option_map, refl, sym, ap, ◌∙◌, arith, ⊎_elim}
 use Rattle.std.proofs.lemmas.Bool.{cases_Bool, le-leb, leb-false, leb-true, lt-leb}
 use Rattle.std.proofs.lemmas.List.{take-append-drop}
 use Rattle.std.specs.Prelude.{nat_le}
 use Rattle.xml_tree.specs.Edits.{change_at, put_over}
-use Rattle.xml_tree.specs.inner.Falls.{content_height-before}
+use Rattle.xml_tree.specs.inner.Heights.{content_height-before}
 use Rattle.xml_tree.specs.Nodes.{content_of, exchange_nodes, nodes_of, text_node}
 use Rattle.xml_tree.specs.Tree.{Tree, at, height, content_height}
 use Rattle.xml_tree.specs.declared.names.Attr.{Attr}
@@ -13,7 +13,7 @@ use Rattle.xml_tree.specs.declared.tree.Node.TheVariants.{Elem, Chars, Comment}
 use Rattle.xml_tree.proofs.HeightLaws.{height-bounded, height-put_over}
 use Rattle.xml_tree.proofs.PlaceLaws.{at-changed, height-at}
 use Rattle.xml_tree.proofs.Places.{content_of-nodes_of}
-use Rattle.patch_words.specs.Applied.{with_attrs, within_depth}
+use Rattle.patch_rules.specs.PatchOperations.{with_attrs, within_depth}
 use Rattle.patch_apply.specs.inner.ByNodes.{nodes_height}
 
 -- ---- of nodes
@@ -32,7 +32,7 @@ pub text_height : (t : List ℕ) → nodes_height (text_node t) ≡ 0
 text_height [] = refl
 text_height (x ∷ t) = refl
 
--- ---- of an element whose nodes are exchanged
+-- ---- of an element whose nodes are replaced
 
 module _ (i j : ℕ) (ns : List Node) (e : Tree) where
   front_low : nodes_height (take i (nodes_of e.content)) ≤ content_height e.content
@@ -68,7 +68,7 @@ same_test h k t low most within =
 there_after : (p : List ℕ) (f : Tree → Tree) (e t : Tree) → at p t ≡ Some e → at p (change_at p f t) ≡ Some (f e)
 there_after p f e t is = at-changed p f t ∙ ap (option_map f) is
 
--- nodes that are put into an element fit, or are too deep, by themselves
+-- whether nodes that are put into an element fit is decided by the nodes alone
 pub exchanged_fit : (p : List ℕ) (i j : ℕ) (ns : List Node) (e t : Tree) → at p t ≡ Some e → height t ≤ 64
     → within_depth (change_at p (exchange_nodes i j ns) t) ≡ nat_le (length p + suc (nodes_height ns)) 64
 exchanged_fit p i j ns e t is low =
@@ -77,12 +77,12 @@ exchanged_fit p i j ns e t is low =
     let most = height-bounded p (suc (nodes_height ns)) f e t is (exchanged_most i j ns e) in
     same_test (height new) (length p + suc (nodes_height ns)) (height t) (omega (arith, least, exchanged_least i j ns e)) (omega (arith, most)) low
 
--- those that have no element fit
+-- nodes without elements fit
 pub shallow_fit : (p : List ℕ) (i j : ℕ) (ns : List Node) (e t : Tree) → at p t ≡ Some e → height t ≤ 64 → nodes_height ns ≡ 0
     → within_depth (change_at p (exchange_nodes i j ns) t) ≡ true
 shallow_fit p i j ns e t is low flat = exchanged_fit p i j ns e t is low ∙ le-leb (length p + suc (nodes_height ns)) 64 (let deep = height-at p e t is in omega (arith, deep, low, flat))
 
--- an element that is put in the place of another fits, or is too deep, by itself
+-- whether an element that replaces another fits is decided by the new element alone
 pub put_over_fits : (p : List ℕ) (w e t : Tree) → at p t ≡ Some e → height t ≤ 64 → within_depth (put_over p w t) ≡ nat_le (length p + height w) 64
 put_over_fits p w e t is low =
     let new = put_over p w t in
@@ -95,7 +95,7 @@ attrs_fit p f e t is low =
     let most = height-bounded p 0 (with_attrs f) e t is (omega arith) in
     le-leb (height (change_at p (with_attrs f) t)) 64 (let deep = height-at p e t is in omega (arith, most, deep, low))
 
--- ---- the same where an element is there
+-- ---- the depth where the path leads to an element
 
 pub some_is : (o : Option Tree) → IsSome o → (e : Tree) × (o ≡ Some e)
 some_is None h = absurd (cc)
@@ -117,7 +117,7 @@ exchanged_low p i j ns t there low = let s = some_is (at p t) there in exchanged
 pub put_over_low : (p : List ℕ) (w t : Tree) → IsSome (at p t) → height t ≤ 64 → within_depth (put_over p w t) ≡ nat_le (length p + height w) 64
 put_over_low p w t there low = let s = some_is (at p t) there in put_over_fits p w s.0 t s.1 low
 
--- ---- what is made is low
+-- ---- the new tree is within the depth
 
 pub low_made : (new : Tree) → within_depth new ≡ true → height new ≤ 64
 low_made new e = leb-true (height new) 64 e

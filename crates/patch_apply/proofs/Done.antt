@@ -1,4 +1,4 @@
--- What each task makes, test by test.
+-- What each patch action makes, test by test.
 use Rattle.std.proofs.Common.{◌≡◌, ℕ, suc, ◌+◌, ◌<◌, Bool, true, false, cond, not, List, [], ◌∷◌, ◌++◌, length, remove, Option, None, Some, is_some, IsSomeAnd, Result, Ok, Err, refl, sym, ap, ◌∙◌, arith}
 use Rattle.std.proofs.lemmas.Bool.{ltb-true}
 use Rattle.std.proofs.lemmas.Option.{cond_some}
@@ -15,10 +15,10 @@ use Rattle.xml_tree.specs.declared.names.Decl.{Decl}
 use Rattle.xml_tree.specs.declared.names.Name.{Name}
 use Rattle.xml_tree.specs.declared.tree.Node.{Node}
 use Rattle.xml_tree.proofs.PathLemmas.{put_over-made}
-use Rattle.patch_words.specs.Applied.{Wrong, Prefix, RootTouched, WrongNodes, NoSpace, Position, Behind, Prepend, Before, After, AtElement, AtAttr, AtText, attr_done, attr_of, cut_element, given, is_bare, is_below, made, means_alike, off_root, put_at, put_done, remove_done, replace_done, rewritten, scope_of_put, sole_element, space_fits, tested, value_in, with_attrs, within_depth}
+use Rattle.patch_rules.specs.PatchOperations.{OperationError, Prefix, RootTouched, WrongNodes, NoSpace, Position, Behind, Prepend, Before, After, AtElement, AtAttr, AtText, attr_done, attr_of, cut_element, given, is_bare, is_below, made, means_alike, is_off_root, put_at, put_done, remove_done, replace_done, rewritten, scope_of_put, sole_element, space_fits, tested, value_in, with_attrs, within_depth}
 use Rattle.patch_apply.specs.inner.Stages.{gap_done, gap_of, is_there_already, site_of, take_done, value_done}
 
--- ---- what is made of the tree
+-- ---- the new tree
 
 module _ (new : Tree) (alike : Bool) where
   pub made_deep : within_depth new ≡ false → made new alike ≡ Err WrongNodes
@@ -39,7 +39,7 @@ module _ (c : List (List Decl)) (name : Name) (p : List ℕ) (content : Content)
   abbrev attr_like : Bool
   attr_like = same_expanded (attr_name c name) (attr_name (scope_at p t) name)
 
-  abbrev attr_rest : List ℕ → Result Tree Wrong
+  abbrev attr_rest : List ℕ → Result Tree OperationError
   attr_rest v = tested (not (is_there_already c name p t)) WrongNodes (made (attr_new v) attr_like)
 
   pub attr_no_value : value_in content ≡ None → attr_done c name p content t ≡ Err WrongNodes
@@ -52,7 +52,7 @@ module _ (c : List (List Decl)) (name : Name) (p : List ℕ) (content : Content)
       → attr_done c name p content t ≡ made (change_at p (with_attrs (λ ats. ats ++ attr_of name v ∷ [])) t) (same_expanded (attr_name c name) (attr_name (scope_at p t) name))
   attr_may v e new = ap (λ (o : Option (List ℕ)). given o WrongNodes attr_rest) e ∙ ap (λ b. tested (not b) WrongNodes (made (attr_new v) attr_like)) new
 
--- ---- content is put in a gap
+-- ---- content is put among nodes
 
 pub put_site : (position : Position) (p : List ℕ) (ns : List Node) (t : Tree) → put_at position p ns t ≡ change_at (site_of position p) (exchange_nodes (gap_of position p t) (gap_of position p t) ns) t
 put_site Behind p ns t = refl
@@ -60,7 +60,7 @@ put_site Prepend p ns t = refl
 put_site Before p ns t = refl
 put_site After p ns t = refl
 
-pub put_scope : (position : Position) (p : List ℕ) (t : Tree) → off_root position p ≡ true → scope_of_put position p t ≡ scope_at (site_of position p) t
+pub put_scope : (position : Position) (p : List ℕ) (t : Tree) → is_off_root position p ≡ true → scope_of_put position p t ≡ scope_at (site_of position p) t
 put_scope Behind p t off = refl
 put_scope Prepend p t off = refl
 put_scope Before [] t off = absurd (cc)
@@ -69,19 +69,19 @@ put_scope After [] t off = absurd (cc)
 put_scope After (n ∷ p) t off = refl
 
 module _ (c : List (List Decl)) (position : Position) (p : List ℕ) (content : Content) (t : Tree) where
-  abbrev put_rest : Result Tree Wrong
+  abbrev put_rest : Result Tree OperationError
   put_rest = made (put_at position p (nodes_of content) t) (means_alike c (scope_of_put position p t) content)
 
-  abbrev put_test : Bool → Bool → Result Tree Wrong
+  abbrev put_test : Bool → Bool → Result Tree OperationError
   put_test off some = tested off RootTouched (tested some WrongNodes put_rest)
 
-  pub put_beside_root : off_root position p ≡ false → put_done c position p content t ≡ Err RootTouched
+  pub put_beside_root : is_off_root position p ≡ false → put_done c position p content t ≡ Err RootTouched
   put_beside_root e = ap (λ b. put_test b (is_some (slice_get (nodes_of content) 0))) e
 
-  pub put_nothing : off_root position p ≡ true → is_some (slice_get (nodes_of content) 0) ≡ false → put_done c position p content t ≡ Err WrongNodes
+  pub put_nothing : is_off_root position p ≡ true → is_some (slice_get (nodes_of content) 0) ≡ false → put_done c position p content t ≡ Err WrongNodes
   put_nothing e none = ap (λ b. put_test b (is_some (slice_get (nodes_of content) 0))) e ∙ ap (put_test true) none
 
-  pub put_somewhere : off_root position p ≡ true → is_some (slice_get (nodes_of content) 0) ≡ true → put_done c position p content t ≡ gap_done c (site_of position p) (gap_of position p t) content t
+  pub put_somewhere : is_off_root position p ≡ true → is_some (slice_get (nodes_of content) 0) ≡ true → put_done c position p content t ≡ gap_done c (site_of position p) (gap_of position p t) content t
   put_somewhere e some =
       ap (λ b. put_test b (is_some (slice_get (nodes_of content) 0))) e ∙ ap (put_test true) some
       ∙ (λ i. made (put_site position p (nodes_of content) t i) (means_alike c (put_scope position p t e i) content))
@@ -89,7 +89,7 @@ module _ (c : List (List Decl)) (position : Position) (p : List ℕ) (content : 
 -- ---- an element is replaced
 
 module _ (c : List (List Decl)) (p : List ℕ) (content : Content) (t : Tree) where
-  abbrev element_rest : Tree → Result Tree Wrong
+  abbrev element_rest : Tree → Result Tree OperationError
   element_rest w = made (put_over p w t) (means_alike c (scope_around p t) content)
 
   pub replace_none : sole_element content ≡ None → replace_done c (AtElement p) content t ≡ Err WrongNodes
@@ -114,7 +114,7 @@ module _ (c : List (List Decl)) (p : List ℕ) (i : ℕ) (content : Content) (t 
   pub text_some : (v : List ℕ) → value_in content ≡ Some v → replace_done c (AtText p i) content t ≡ made (change_at p (exchange_nodes i (suc i) (text_node v)) t) true
   text_some v e = ap (λ (o : Option (List ℕ)). given o WrongNodes (λ x. made (change_at p (exchange_nodes i (suc i) (text_node x)) t) true)) e
 
--- ---- something is taken out
+-- ---- something is removed
 
 module _ (p : List ℕ) (i : ℕ) (content : Content) (t : Tree) where
   pub take_not : is_bare content ≡ false → take_done p i content t ≡ Err WrongNodes
@@ -130,7 +130,7 @@ module _ (p : List ℕ) (i : ℕ) (content : Content) (t : Tree) where
   cut_well before after e = ap (λ b. tested b WrongNodes (made (change_at p (exchange_nodes i (suc i) []) t) true)) e
 
 module _ (before after : Bool) (p : List ℕ) (content : Content) (t : Tree) where
-  abbrev remove_test : Bool → Bool → Bool → Result Tree Wrong
+  abbrev remove_test : Bool → Bool → Bool → Result Tree OperationError
   remove_test below bare fits = tested below RootTouched (tested bare WrongNodes (tested fits NoSpace (made (cut_element before after p t) true)))
 
   pub remove_root : is_below p ≡ false → remove_done before after (AtElement p) content t ≡ Err RootTouched

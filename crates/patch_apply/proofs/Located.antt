@@ -11,10 +11,10 @@ use Rattle.xml_tree.specs.declared.names.Attr.{Attr}
 use Rattle.xml_tree.specs.declared.names.Decl.{Decl}
 use Rattle.xml_tree.specs.declared.tree.Node.{Node}
 use Rattle.xml_tree.proofs.PathLemmas.{with_there}
-use Rattle.patch_words.specs.Applied as words
-use Rattle.patch_words.specs.Applied.{selected_text}
-use Rattle.patch_apply.specs.inner.Spotting.{Spots}
-use Rattle.patch_apply.specs.declared.spots.Spot.TheVariants.{AtElement, AtAttr, AtText}
+use Rattle.patch_rules.specs.PatchOperations as words
+use Rattle.patch_rules.specs.PatchOperations.{selected_text}
+use Rattle.patch_apply.specs.inner.Locating.{Spots}
+use Rattle.patch_apply.specs.declared.locations.Location.TheVariants.{AtElement, AtAttr, AtText}
 
 -- ---- the first attribute that passes
 
@@ -39,8 +39,8 @@ is_past true n h = absurd (cc)
 is_past false n h = refl
 
 module _ (t e : Tree) (p : List ℕ) (there : at p t ≡ Some e) where
-  pub element_spot : Spots t (Some (words.AtElement p)) (Some (AtElement p))
-  element_spot = (ap is_some there, (words.AtElement p, refl, refl))
+  pub element_target : Spots t (Some (words.AtElement p)) (Some (AtElement p))
+  element_target = (ap is_some there, (words.AtElement p, refl, refl))
 
   pub scope_is : (c : List (List Decl)) → Some c ≡ option_map (λ (x : Tree). scope_at p t) (at p t) → c ≡ scope_at p t
   scope_is c is = let same : Some c ≡ Some (scope_at p t) = is ∙ ap (option_map (λ (x : Tree). scope_at p t)) there in cc
@@ -64,7 +64,7 @@ module _ (t e : Tree) (p : List ℕ) (there : at p t ≡ Some e) where
           ),
         )
 
-  -- the text of a position, by the nodes that are there
+  -- the text at a position, by the nodes that are there
   pub text_spot : (position : Option ℕ) (ns : List Node) → ns ≡ nodes_of e.content → (i : ℕ) → Some i ≡ selected_text position ns → i < length ns
       → Spots t (option_map (words.AtText p) (selected_text position (nodes_of e.content))) (Some (AtText p i))
   text_spot position ns same i is within = (

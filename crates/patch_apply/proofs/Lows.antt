@@ -10,21 +10,21 @@ use Rattle.xml_tree.specs.Tree.{Content, Tree, at, height}
 use Rattle.xml_tree.specs.declared.names.Decl.{Decl}
 use Rattle.xml_tree.specs.declared.names.Name.{Name}
 use Rattle.node_select.specs.declared.selector.PatchSelector.{PatchSelector}
-use Rattle.patch_words.specs.Applied.{Directive, NoSpace, Prefix, RootTouched, Unlocated, Wrong, WrongNodes, Task, Put, NewAttr, Replace, Remove, Spot, AtElement, AtAttr, AtText, attr_of, cut_element, cut_nodes, done, given, is_bare, is_below, is_bound_type, is_known, located, made, means_alike, off_root, spot_path, plain_value, put_at, rewritten, scope_of_put, sole_element, space_fits, suits, task_of, tested, value_in, with_attrs, within_depth, operation_word}
-use Rattle.patch_words.specs.Selectors.{Reading}
-use Rattle.patch_words.specs.readers.Applied.{applied, reading_in}
+use Rattle.patch_rules.specs.PatchOperations.{Directive, NoSpace, Prefix, RootTouched, Unlocated, OperationError, WrongNodes, PatchAction, Put, NewAttr, Replace, Remove, Location, AtElement, AtAttr, AtText, attr_of, cut_element, cut_nodes, done, given, is_bare, is_below, is_bound_type, is_known, locate, made, means_alike, is_off_root, spot_path, plain_value, put_at, rewritten, scope_of_put, sole_element, space_fits, suits, task_of, tested, value_in, with_attrs, within_depth, operation_word}
+use Rattle.patch_rules.specs.Selectors.{Reading}
+use Rattle.patch_rules.specs.readers.Applied.{apply_operation, reading_in}
 use Rattle.patch_apply.proofs.Depths.{low_made}
 
 abbrev Low : Tree → Type 0
 Low t = within_depth t ≡ true
 
--- ---- tests leave what comes behind them
+-- ---- tests keep the result of what comes after them
 
-behind_test : (b : Bool) (w : Wrong) (r : Result Tree Wrong) (x : Tree) → tested b w r ≡ Ok x → r ≡ Ok x
+behind_test : (b : Bool) (w : OperationError) (r : Result Tree OperationError) (x : Tree) → tested b w r ≡ Ok x → r ≡ Ok x
 behind_test true w r x e = e
 behind_test false w r x e = absurd (cc)
 
-behind_given : {A : Type 0} (o : Option A) (w : Wrong) (k : A → Result Tree Wrong) (x : Tree) → ((y : A) → k y ≡ Ok x → Low x) → given o w k ≡ Ok x → Low x
+behind_given : {A : Type 0} (o : Option A) (w : OperationError) (k : A → Result Tree OperationError) (x : Tree) → ((y : A) → k y ≡ Ok x → Low x) → given o w k ≡ Ok x → Low x
 behind_given None w k x h e = absurd (cc)
 behind_given (Some y) w k x h e = h y e
 
@@ -36,24 +36,24 @@ low_if new true true x is e = let same : new ≡ x = cc in subst Low same is
 made_low : (new : Tree) (alike : Bool) (x : Tree) → made new alike ≡ Ok x → Low x
 made_low new alike x e = low_if new (within_depth new) alike x refl e
 
--- ---- each task
+-- ---- each patch action
 
 module _ (c : List (List Decl)) (content : Content) (t x : Tree) where
-  abbrev attr_made : Name → List ℕ → List ℕ → Result Tree Wrong
+  abbrev attr_made : Name → List ℕ → List ℕ → Result Tree OperationError
   attr_made name p v = made (change_at p (with_attrs (λ ats. ats ++ attr_of name v ∷ [])) t) (same_expanded (attr_name c name) (attr_name (scope_at p t) name))
 
   abbrev is_new : Name → List ℕ → Bool
   is_new name p = not (list_any (λ a. same_expanded (attr_name (scope_at p t) a.name) (attr_name c name)) (unwrap_or (option_map (λ e. e.attrs) (at p t)) []))
 
-  done_low : (task : Task) (spot : Spot) → done c task spot content t ≡ Ok x → Low x
-  done_low (Put position) spot e =
-      let p = spot_path spot in
+  done_low : (task : PatchAction) (location : Location) → done c task location content t ≡ Ok x → Low x
+  done_low (Put position) location e =
+      let p = spot_path location in
       let some = is_some (slice_get (nodes_of content) 0) in
       let new = put_at position p (nodes_of content) t in
       let alike = means_alike c (scope_of_put position p t) content in
-      made_low new alike x (behind_test some WrongNodes (made new alike) x (behind_test (off_root position p) RootTouched (tested some WrongNodes (made new alike)) x e))
-  done_low (NewAttr name) spot e =
-      let p = spot_path spot in
+      made_low new alike x (behind_test some WrongNodes (made new alike) x (behind_test (is_off_root position p) RootTouched (tested some WrongNodes (made new alike)) x e))
+  done_low (NewAttr name) location e =
+      let p = spot_path location in
       behind_given (value_in content) WrongNodes (λ v. tested (is_new name p) WrongNodes (attr_made name p v)) x
       (λ v h. made_low (change_at p (with_attrs (λ ats. ats ++ attr_of name v ∷ [])) t) (same_expanded (attr_name c name) (attr_name (scope_at p t) name)) x (behind_test (is_new name p) WrongNodes (attr_made name p v) x h))
       e
@@ -78,24 +78,24 @@ module _ (c : List (List Decl)) (content : Content) (t x : Tree) where
 
 -- ---- a whole operation
 
-module _ (sel : Option (List ℕ)) (known : Bool) (task : Option Task) (read : List ℕ → Option Reading) (suit : Task → Reading → Bool) (means : Reading → Option PatchSelector) (bnd : Task → Bool)
-    (loc : PatchSelector → Option Spot) (fin : Task → Spot → Result Tree Wrong) (x : Tree) (last : (y : Task) (spot : Spot) → fin y spot ≡ Ok x → Low x) where
-  abbrev from_selector : Task → PatchSelector → Result Tree Wrong
+module _ (sel : Option (List ℕ)) (known : Bool) (task : Option PatchAction) (read : List ℕ → Option Reading) (suit : PatchAction → Reading → Bool) (means : Reading → Option PatchSelector) (bnd : PatchAction → Bool)
+    (loc : PatchSelector → Option Location) (fin : PatchAction → Location → Result Tree OperationError) (x : Tree) (last : (y : PatchAction) (location : Location) → fin y location ≡ Ok x → Low x) where
+  abbrev from_selector : PatchAction → PatchSelector → Result Tree OperationError
   from_selector y s = tested (bnd y) Prefix (given (loc s) Unlocated (fin y))
 
-  abbrev from_form : Task → Reading → Result Tree Wrong
+  abbrev from_form : PatchAction → Reading → Result Tree OperationError
   from_form y f = tested (suit y f) Directive (given (means f) Prefix (from_selector y))
 
-  abbrev from_task : List ℕ → Task → Result Tree Wrong
+  abbrev from_task : List ℕ → PatchAction → Result Tree OperationError
   from_task v y = given (read v) Directive (from_form y)
 
-  abbrev from_known : List ℕ → Result Tree Wrong
+  abbrev from_known : List ℕ → Result Tree OperationError
   from_known v = given task Directive (from_task v)
 
-  selector_low : (y : Task) (s : PatchSelector) → from_selector y s ≡ Ok x → Low x
+  selector_low : (y : PatchAction) (s : PatchSelector) → from_selector y s ≡ Ok x → Low x
   selector_low y s e = behind_given (loc s) Unlocated (fin y) x (last y) (behind_test (bnd y) Prefix (given (loc s) Unlocated (fin y)) x e)
 
-  form_low : (y : Task) (f : Reading) → from_form y f ≡ Ok x → Low x
+  form_low : (y : PatchAction) (f : Reading) → from_form y f ≡ Ok x → Low x
   form_low y f e = behind_given (means f) Prefix (from_selector y) x (selector_low y) (behind_test (suit y f) Directive (given (means f) Prefix (from_selector y)) x e)
 
   known_low : (v : List ℕ) → from_known v ≡ Ok x → Low x
@@ -104,7 +104,7 @@ module _ (sel : Option (List ℕ)) (known : Bool) (task : Option Task) (read : L
   chain_low : given sel Directive (λ v. tested known Directive (from_known v)) ≡ Ok x → Low x
   chain_low e = behind_given sel Directive (λ v. tested known Directive (from_known v)) x (λ v h. known_low v (behind_test known Directive (from_known v) x h)) e
 
-pub applied_low : (c : List (List Decl)) (o t x : Tree) → applied c o t ≡ Ok x → height x ≤ 64
+pub applied_low : (c : List (List Decl)) (o t x : Tree) → apply_operation c o t ≡ Ok x → height x ≤ 64
 applied_low c o t x e =
     let here = c ++ o.decls ∷ [] in
     let pos = plain_value (codes "pos") o.attrs in
@@ -112,5 +112,5 @@ applied_low c o t x e =
     let ws = plain_value (codes "ws") o.attrs in
     low_made x (
     chain_low (plain_value (codes "sel") o.attrs) (list_all is_known o.attrs) (option_and_then (λ w. task_of w pos type ws) (operation_word o.name.local)) reading_in (λ y f. suits y f.ends) (λ f. f.means here)
-    (is_bound_type here) (λ s. located s t) (λ y spot. done here y spot o.content t) x (λ y spot h. done_low here o.content t x y spot h) e
+    (is_bound_type here) (λ s. locate s t) (λ y location. done here y location o.content t) x (λ y location h. done_low here o.content t x y location h) e
     )

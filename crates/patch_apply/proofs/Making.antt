@@ -1,4 +1,4 @@
--- What each task makes where its tests pass, by the depth of what it puts.
+-- What each patch action makes where its tests pass, by the depth of what it puts.
 use Rattle.std.proofs.Common.{◌≡◌, ◌≤◌, ℕ, suc, ◌+◌, ◌-◌, Bool, true, false, List, [], ◌∷◌, ◌++◌, length, remove, Some, IsSome, Ok, Err, refl, ◌∙◌, if◌then◌else◌}
 use Rattle.std.specs.Prelude.{nat_le}
 use Rattle.xml_tree.specs.Attributes.{with_value}
@@ -10,13 +10,13 @@ use Rattle.xml_tree.specs.Tree.{Content, Tree, at, height}
 use Rattle.xml_tree.specs.declared.names.Attr.{Attr}
 use Rattle.xml_tree.specs.declared.names.Decl.{Decl}
 use Rattle.xml_tree.specs.declared.names.Name.{Name}
-use Rattle.patch_words.specs.Applied.{Prefix, WrongNodes, AtElement, AtText, attr_done, attr_of, cut_element, is_bare, is_below, means_alike, own_place, remove_done, replace_done, sole_element, space_fits, value_in, with_attrs}
+use Rattle.patch_rules.specs.PatchOperations.{Prefix, WrongNodes, AtElement, AtText, attr_done, attr_of, cut_element, is_bare, is_below, means_alike, own_place, remove_done, replace_done, sole_element, space_fits, value_in, with_attrs}
 use Rattle.patch_apply.specs.inner.ByNodes.{nodes_height}
 use Rattle.patch_apply.specs.inner.Stages.{gap_done, is_there_already, take_done, value_done}
 use Rattle.patch_apply.proofs.Depths.{attrs_low, exchanged_low, put_over_low, shallow_low, text_height}
 use Rattle.patch_apply.proofs.Done.{attr_may, cut_well, made_deep, made_unlike, made_well, remove_well, replace_sole, take_well, text_some, value_some}
 
--- ---- attributes and texts of the element that is there
+-- ---- attributes and texts of an element in the tree
 
 module _ (p : List ℕ) (content : Content) (t : Tree) (there : IsSome (at p t)) (low : height t ≤ 64) where
   pub attr_unlike : (c : List (List Decl)) (name : Name) (v : List ℕ) → value_in content ≡ Some v → is_there_already c name p t ≡ false
@@ -48,7 +48,7 @@ module _ (p : List ℕ) (content : Content) (t : Tree) (there : IsSome (at p t))
   cut_made before after i e =
       cut_well p i content t before after e ∙ made_well (change_at p (exchange_nodes i (suc i) []) t) true (shallow_low p i (suc i) [] t there low refl) refl
 
--- ---- content in a gap
+-- ---- content put among nodes
 
 module _ (c : List (List Decl)) (p : List ℕ) (i : ℕ) (content : Content) (t : Tree) (there : IsSome (at p t)) (low : height t ≤ 64) where
   pub gap_deep : nat_le (length p + suc (nodes_height (nodes_of content))) 64 ≡ false → gap_done c p i content t ≡ Err WrongNodes
@@ -73,7 +73,7 @@ module _ (c : List (List Decl)) (p : List ℕ) (w : Tree) (content : Content) (t
   pub element_made : nat_le (length p + height w) 64 ≡ true → means_alike c (scope_around p t) content ≡ true → replace_done c (AtElement p) content t ≡ Ok (put_over p w t)
   element_made e like = replace_sole c p content t w sole ∙ made_well (put_over p w t) (means_alike c (scope_around p t) content) (put_over_low p w t there low ∙ e) like
 
--- ---- an element is taken out
+-- ---- an element is removed
 
 pub remove_made : (before after : Bool) (p : List ℕ) (content : Content) (t : Tree) → IsSome (at (parent_path p) t) → height t ≤ 64
     → is_below p ≡ true → is_bare content ≡ true → space_fits before after p t ≡ true → remove_done before after (AtElement p) content t ≡ Ok (cut_element before after p t)

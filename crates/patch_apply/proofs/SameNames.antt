@@ -1,13 +1,13 @@
--- Names of one local part mean the same where their namespaces are one.
+-- Names of one local part mean the same where their namespaces are equal.
 use Rattle.std.proofs.Common.{◌≡◌, ℕ, true, false, cond, ◌&&◌, List, [], Option, None, bytes_eq, refl, sym, ap, ◌∙◌}
 use Rattle.std.proofs.Math.Bool.{and-true}
 use Rattle.std.specs.Cmp.Lexicographic.{bytes_decides}
-use Rattle.xml_tree.specs.Expanded.{Expanded, attr_name, element_name, same_expanded, same_uri}
+use Rattle.xml_tree.specs.Expanded.{ExpandedName, attr_name, element_name, same_expanded, same_uri}
 use Rattle.xml_tree.specs.Scopes.{bound}
 use Rattle.xml_tree.specs.declared.names.Decl.{Decl}
 use Rattle.xml_tree.specs.declared.names.Name.{Name}
 
-abbrev named : Option (List ℕ) → List ℕ → Expanded
+abbrev named : Option (List ℕ) → List ℕ → ExpandedName
 named u l = record { uri = u; local = l }
 
 pub same_local : (u v : Option (List ℕ)) (l : List ℕ) → same_expanded (named u l) (named v l) ≡ same_uri u v
@@ -19,7 +19,8 @@ same_elements c d n = same_local (bound c n.prefix) (bound d n.prefix) n.local
 pub same_attrs : (c d : List (List Decl)) (n : Name) → same_expanded (attr_name c n) (attr_name d n) ≡ same_uri (attr_name c n).uri (attr_name d n).uri
 same_attrs c d n = same_local (attr_name c n).uri (attr_name d n).uri n.local
 
--- an attribute without prefix has no namespace anywhere; with one it means what an element of that name does
+-- an attribute without prefix has no namespace anywhere; with a prefix it means what an element of
+-- its name does
 pub plain_same : (c d : List (List Decl)) (n : Name) → bytes_eq n.prefix [] ≡ true → same_expanded (attr_name c n) (attr_name d n) ≡ true
 plain_same c d n plain =
     same_attrs c d n ∙ (λ i. same_uri (cond (plain i) None (bound c n.prefix)) (cond (plain i) None (bound d n.prefix)))

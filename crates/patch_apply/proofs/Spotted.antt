@@ -1,29 +1,29 @@
--- What is done to what is selected, where the code has it by its number.
+-- What is done at a location, where the code has it by its number.
 use Rattle.std.proofs.Common.{◌≡◌, ℕ, Bool, List, [], Some, IsSome, Result, sym, subst}
 use Rattle.std.specs.List.{position}
 use Rattle.xml_tree.specs.Memory.{Answered}
 use Rattle.xml_tree.specs.declared.read_error.ReadError.{ReadError}
 use Rattle.xml_tree.specs.Tree.{Content, Tree, at}
 use Rattle.xml_tree.specs.declared.names.Decl.{Decl}
-use Rattle.patch_words.specs.Applied as words
-use Rattle.patch_words.specs.Applied.{spot_path, remove_done, replace_done}
-use Rattle.patch_apply.specs.inner.Giving.{IsGiven}
-use Rattle.patch_apply.specs.inner.Spotting.{IsSpot, IsThere, path_in}
+use Rattle.patch_rules.specs.PatchOperations as words
+use Rattle.patch_rules.specs.PatchOperations.{spot_path, remove_done, replace_done}
+use Rattle.patch_apply.specs.inner.Results.{IsGiven}
+use Rattle.patch_apply.specs.inner.Locating.{IsSpot, IsThere, path_in}
 use Rattle.patch_apply.specs.inner.Stages.{take_done, value_done}
-use Rattle.patch_apply.specs.declared.fault.Wrong.{Wrong}
-use Rattle.patch_apply.specs.declared.spots.Spot.{Spot}
-use Rattle.patch_apply.specs.declared.spots.Spot.TheVariants.{AtElement, AtAttr, AtText}
+use Rattle.patch_apply.specs.declared.fault.OperationError.{OperationError}
+use Rattle.patch_apply.specs.declared.locations.Location.{Location}
+use Rattle.patch_apply.specs.declared.locations.Location.TheVariants.{AtElement, AtAttr, AtText}
 use Rattle.patch_apply.proofs.Depths.{some_if}
 use Rattle.patch_apply.proofs.Done.{removed_by_number, replaced_by_number, some_there}
 use Rattle.patch_apply.proofs.Operating.{gives_same}
 
--- the element of a spot is there
-pub spot_there : (t : Tree) (s : Spot) → IsThere t s → IsSome (at (path_in s) t)
+-- the element of a location is in the tree
+pub spot_there : (t : Tree) (s : Location) → IsThere t s → IsSome (at (path_in s) t)
 spot_there t (AtElement p) h = h
 spot_there t (AtAttr p i) h = some_if (at p t) _ h
 spot_there t (AtText p i) h = some_if (at p t) _ h
 
-pub path_same : (t : Tree) (s : Spot) (w : words.Spot) → IsSpot t s w → path_in s ≡ spot_path w
+pub path_same : (t : Tree) (s : Location) (w : words.Location) → IsSpot t s w → path_in s ≡ spot_path w
 path_same t (AtElement p) (words.AtElement q) is = is
 path_same t (AtElement p) (words.AtAttr q f) is = absurd is
 path_same t (AtElement p) (words.AtText q j) is = absurd is
@@ -34,37 +34,37 @@ path_same t (AtText p i) (words.AtElement q) is = absurd is
 path_same t (AtText p i) (words.AtAttr q f) is = absurd is
 path_same t (AtText p i) (words.AtText q j) is = is.0
 
-module _ (c : List (List Decl)) (p : List ℕ) (content : Content) (t : Tree) (r : Result Tree (ReadError Wrong)) where
-  pub replace_element_at : Answered (IsGiven (replace_done c (words.AtElement p) content t)) r → (w : words.Spot) → IsSpot t (AtElement p) w → Answered (IsGiven (replace_done c w content t)) r
+module _ (c : List (List Decl)) (p : List ℕ) (content : Content) (t : Tree) (r : Result Tree (ReadError OperationError)) where
+  pub replace_element_at : Answered (IsGiven (replace_done c (words.AtElement p) content t)) r → (w : words.Location) → IsSpot t (AtElement p) w → Answered (IsGiven (replace_done c w content t)) r
   replace_element_at h (words.AtElement q) is = subst (λ (x : List ℕ). Answered (IsGiven (replace_done c (words.AtElement x) content t)) r) is h
   replace_element_at h (words.AtAttr q f) is = absurd is
   replace_element_at h (words.AtText q j) is = absurd is
 
-  pub replace_attr_at : (i : ℕ) → Answered (IsGiven (value_done p i content t)) r → (w : words.Spot) → IsSpot t (AtAttr p i) w → Answered (IsGiven (replace_done c w content t)) r
+  pub replace_attr_at : (i : ℕ) → Answered (IsGiven (value_done p i content t)) r → (w : words.Location) → IsSpot t (AtAttr p i) w → Answered (IsGiven (replace_done c w content t)) r
   replace_attr_at i h (words.AtElement q) is = absurd is
   replace_attr_at i h (words.AtAttr q f) is =
       let x = some_there (at p t) (λ e. position f e.attrs ≡ Some i) is.1 in gives_same _ _ r (sym (replaced_by_number c p q f i content t x.0 is.0 x.1 x.2)) h
   replace_attr_at i h (words.AtText q j) is = absurd is
 
-  pub replace_text_at : (i : ℕ) → Answered (IsGiven (replace_done c (words.AtText p i) content t)) r → (w : words.Spot) → IsSpot t (AtText p i) w → Answered (IsGiven (replace_done c w content t)) r
+  pub replace_text_at : (i : ℕ) → Answered (IsGiven (replace_done c (words.AtText p i) content t)) r → (w : words.Location) → IsSpot t (AtText p i) w → Answered (IsGiven (replace_done c w content t)) r
   replace_text_at i h (words.AtElement q) is = absurd is
   replace_text_at i h (words.AtAttr q f) is = absurd is
   replace_text_at i h (words.AtText q j) is =
       subst (λ (x : List ℕ). Answered (IsGiven (replace_done c (words.AtText x j) content t)) r) is.0 (subst (λ (n : ℕ). Answered (IsGiven (replace_done c (words.AtText p n) content t)) r) is.1 h)
 
-module _ (before after : Bool) (p : List ℕ) (content : Content) (t : Tree) (r : Result Tree (ReadError Wrong)) where
-  pub remove_element_at : Answered (IsGiven (remove_done before after (words.AtElement p) content t)) r → (w : words.Spot) → IsSpot t (AtElement p) w → Answered (IsGiven (remove_done before after w content t)) r
+module _ (before after : Bool) (p : List ℕ) (content : Content) (t : Tree) (r : Result Tree (ReadError OperationError)) where
+  pub remove_element_at : Answered (IsGiven (remove_done before after (words.AtElement p) content t)) r → (w : words.Location) → IsSpot t (AtElement p) w → Answered (IsGiven (remove_done before after w content t)) r
   remove_element_at h (words.AtElement q) is = subst (λ (x : List ℕ). Answered (IsGiven (remove_done before after (words.AtElement x) content t)) r) is h
   remove_element_at h (words.AtAttr q f) is = absurd is
   remove_element_at h (words.AtText q j) is = absurd is
 
-  pub remove_attr_at : (i : ℕ) → Answered (IsGiven (take_done p i content t)) r → (w : words.Spot) → IsSpot t (AtAttr p i) w → Answered (IsGiven (remove_done before after w content t)) r
+  pub remove_attr_at : (i : ℕ) → Answered (IsGiven (take_done p i content t)) r → (w : words.Location) → IsSpot t (AtAttr p i) w → Answered (IsGiven (remove_done before after w content t)) r
   remove_attr_at i h (words.AtElement q) is = absurd is
   remove_attr_at i h (words.AtAttr q f) is =
       let x = some_there (at p t) (λ e. position f e.attrs ≡ Some i) is.1 in gives_same _ _ r (sym (removed_by_number [] p q f i content t x.0 is.0 x.1 x.2 before after)) h
   remove_attr_at i h (words.AtText q j) is = absurd is
 
-  pub remove_text_at : (i : ℕ) → Answered (IsGiven (remove_done before after (words.AtText p i) content t)) r → (w : words.Spot) → IsSpot t (AtText p i) w → Answered (IsGiven (remove_done before after w content t)) r
+  pub remove_text_at : (i : ℕ) → Answered (IsGiven (remove_done before after (words.AtText p i) content t)) r → (w : words.Location) → IsSpot t (AtText p i) w → Answered (IsGiven (remove_done before after w content t)) r
   remove_text_at i h (words.AtElement q) is = absurd is
   remove_text_at i h (words.AtAttr q f) is = absurd is
   remove_text_at i h (words.AtText q j) is =

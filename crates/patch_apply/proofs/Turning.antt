@@ -3,36 +3,36 @@ use Rattle.std.proofs.Common.{◌≡◌, Bor, ℕ, zero, suc, ◌+◌, ◌<◌, 
 use Rattle.xml_tree.specs.Memory.{Answered}
 use Rattle.xml_tree.specs.declared.read_error.ReadError.{ReadError}
 use Rattle.xml_tree.specs.declared.read_error.ReadError.TheVariants as errors
-use Rattle.xml_tree.specs.Limits.{greatest_u64}
+use Rattle.xml_tree.specs.Limits.{u64_max}
 use Rattle.xml_tree.specs.Tree.{Tree}
 use Rattle.xml_tree.specs.declared.names.Decl.{Decl}
-use Rattle.patch_words.specs.Applied.{Wrong}
-use Rattle.patch_words.specs.readers.Applied.{applied}
-use Rattle.patch_words.specs.Replay.{AtOperation, CopyFault, CopyHeld, Now, Turn, numbered, operation_count, then_next, unless_missing}
-use Rattle.patch_words.specs.readers.Replay.{all_applied, all_taken, document_taken}
-use Rattle.patch_apply.specs.inner.Giving.{AreGiven}
-use Rattle.patch_apply.specs.Views.{fault_told}
-use Rattle.patch_apply.specs.inner.Seen.{fault_at, wrong_in}
+use Rattle.patch_rules.specs.PatchOperations.{OperationError}
+use Rattle.patch_rules.specs.readers.Applied.{apply_operation}
+use Rattle.patch_rules.specs.Replay.{AtOperation, CopyFault, ReplicaContents, Now, DocumentOutcome, numbered, operation_count, then_next, unless_missing}
+use Rattle.patch_rules.specs.readers.Replay.{all_applied, all_taken, document_taken}
+use Rattle.patch_apply.specs.inner.Results.{AreGiven}
+use Rattle.patch_apply.specs.Views.{operation_fault}
+use Rattle.patch_apply.specs.inner.PrivateTypes.{fault_at, wrong_in}
 use Rattle.patch_apply.specs.declared.fault.ApplyFault.{ApplyFault}
-use Rattle.patch_apply.specs.declared.fault.Wrong.{Wrong as CodeWrong}
-use Rattle.patch_apply.specs.declared.fault.Wrong.TheVariants as wrongs
+use Rattle.patch_apply.specs.declared.fault.OperationError.{OperationError as CodeWrong}
+use Rattle.patch_apply.specs.declared.fault.OperationError.TheVariants as wrongs
 
 -- ---- operations
 
 module _ (n : ℕ) (c : List (List Decl)) (o : Tree) (os : List Tree) (t : Tree) where
-  pub applied_next : (made : Tree) → applied c o t ≡ Ok made → all_applied n c (o ∷ os) t ≡ all_applied (suc n) c os made
+  pub applied_next : (made : Tree) → apply_operation c o t ≡ Ok made → all_applied n c (o ∷ os) t ≡ all_applied (suc n) c os made
   applied_next made e = ap (λ r. then_next (numbered n r) (all_applied (suc n) c os)) e
 
 -- ---- documents
 
-module _ (n : ℕ) (c : List (List Decl)) (d : Tree) (ds : List Tree) (held : CopyHeld) where
-  pub taken_next : (now : CopyHeld) → document_taken n c d held ≡ Ok (Now now) → all_taken n c (d ∷ ds) held ≡ all_taken (n + operation_count c d) c ds now
+module _ (n : ℕ) (c : List (List Decl)) (d : Tree) (ds : List Tree) (held : ReplicaContents) where
+  pub taken_next : (now : ReplicaContents) → document_taken n c d held ≡ Ok (Now now) → all_taken n c (d ∷ ds) held ≡ all_taken (n + operation_count c d) c ds now
   taken_next now e = ap (λ r. then_next r (λ turn. unless_missing turn (all_taken (n + operation_count c d) c ds))) e
 
   pub taken_fault : (f : CopyFault) → document_taken n c d held ≡ Err f → all_taken n c (d ∷ ds) held ≡ Err f
   taken_fault f e = ap (λ r. then_next r (λ turn. unless_missing turn (all_taken (n + operation_count c d) c ds))) e
 
--- ---- an item of a list that is gone over
+-- ---- an item of a list that is iterated over
 
 pub item_here : (xs : List (Bor Tree)) (i : ℕ) (x : Bor Tree) → i < length xs → x ≡ get_or xs i x → map (λ y. y.now) (drop i xs) ≡ x.now ∷ map (λ y. y.now) (drop (suc i) xs)
 item_here [] i x h is = absurd (omega arith)
@@ -52,9 +52,9 @@ pub some_item : (xs : List (Bor Tree)) → 0 < length xs → 0 < length (map (λ
 some_item [] some = absurd (omega arith)
 some_item (y ∷ xs) some = omega arith
 
--- ---- how a fault is told
+-- ---- how a fault is reported
 
-pub told_at : (n : ℕ) (w : CodeWrong) → fault_at (min n greatest_u64) w ≡ fault_told n (wrong_in w)
+pub told_at : (n : ℕ) (w : CodeWrong) → fault_at (min n u64_max) w ≡ operation_fault n (wrong_in w)
 told_at n wrongs.Directive = refl
 told_at n wrongs.Prefix = refl
 told_at n wrongs.Unlocated = refl
@@ -63,14 +63,14 @@ told_at n wrongs.WrongNodes = refl
 told_at n wrongs.NoSpace = refl
 
 -- one operation more
-pub one_more : (number m : ℕ) → number ≡ min m greatest_u64 → min (number + 1) greatest_u64 ≡ min (suc m) greatest_u64
+pub one_more : (number m : ℕ) → number ≡ min m u64_max → min (number + 1) u64_max ≡ min (suc m) u64_max
 one_more number m e = omega (arith, e)
 
--- so many operations more
-pub so_many : (before count n k : ℕ) → before ≡ min n greatest_u64 → count ≡ k → min (before + count) greatest_u64 ≡ min (n + k) greatest_u64
+-- `count` operations more
+pub so_many : (before count n k : ℕ) → before ≡ min n u64_max → count ≡ k → min (before + count) u64_max ≡ min (n + k) u64_max
 so_many before count n k e is = omega (arith, e, is)
 
--- what is stated may be said in other words
+-- `AreGiven` also holds of an equal stated result
 pub tells_same : {X Y : Type 0} (view : X → Y) (a b : Result Y CopyFault) (r : Result X (ReadError ApplyFault)) → a ≡ b → Answered (AreGiven view a) r → Answered (AreGiven view b) r
 tells_same view a b r same h = subst (λ s. Answered (AreGiven view s) r) same h
 
@@ -78,17 +78,17 @@ pub error_alike : {X Z Y : Type 0} (v : X → Y) (u : Z → Y) (a b : Result Y C
 error_alike v u a b (errors.Fault fault) same h = record { stated_fault = h.stated_fault; is = sym same ∙ h.is; told = h.told }
 error_alike v u a b errors.NoMemory same h = tt
 
--- what is wrong with an operation is told with its number
-pub wrong_told : (n : ℕ) (stated : Result Tree Wrong) (w : CodeWrong) (told : ApplyFault) → stated ≡ Err (wrong_in w) → told ≡ fault_at (min (suc n) greatest_u64) w → Answered (AreGiven {X = Tree} (λ t. t) (numbered n stated)) (Err (errors.Fault told))
+-- the error of an operation is reported with its number
+pub wrong_told : (n : ℕ) (stated : Result Tree OperationError) (w : CodeWrong) (told : ApplyFault) → stated ≡ Err (wrong_in w) → told ≡ fault_at (min (suc n) u64_max) w → Answered (AreGiven {X = Tree} (λ t. t) (numbered n stated)) (Err (errors.Fault told))
 wrong_told n stated w told is same = record { stated_fault = AtOperation (suc n) (wrong_in w); is = ap (numbered n) is; told = same ∙ told_at (suc n) w }
 
--- a fault of a document ends the documents behind it
-pub turn_fault : {X Z : Type 0} (v : X → Turn) (u : Z → Option CopyHeld) (n : ℕ) (c : List (List Decl)) (d : Tree) (ds : List Tree) (held : CopyHeld) (all : Result (Option CopyHeld) CopyFault) (e : ReadError ApplyFault)
+-- a fault of a document ends the documents after it
+pub turn_fault : {X Z : Type 0} (v : X → DocumentOutcome) (u : Z → Option ReplicaContents) (n : ℕ) (c : List (List Decl)) (d : Tree) (ds : List Tree) (held : ReplicaContents) (all : Result (Option ReplicaContents) CopyFault) (e : ReadError ApplyFault)
     → all ≡ all_taken n c (d ∷ ds) held → Answered (AreGiven v (document_taken n c d held)) (Err e) → Answered (AreGiven u all) (Err e)
 turn_fault v u n c d ds held all (errors.Fault fault) same h = record { stated_fault = h.stated_fault; is = same ∙ taken_fault n c d ds held h.stated_fault h.is; told = h.told }
 turn_fault v u n c d ds held all errors.NoMemory same h = tt
 
--- a fault ends what comes behind it
+-- a fault ends what comes after it
 pub fault_ends : {X Y Z W : Type 0} (v : X → Y) (u : Z → W) (a : Result Y CopyFault) (k : Y → Result W CopyFault) (e : ReadError ApplyFault) → Answered (AreGiven v a) (Err e) → Answered (AreGiven u (then_next a k)) (Err e)
 fault_ends v u a k (errors.Fault fault) h = record { stated_fault = h.stated_fault; is = ap (λ r. then_next r k) h.is; told = h.told }
 fault_ends v u a k errors.NoMemory h = tt

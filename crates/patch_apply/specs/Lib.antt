@@ -1,4 +1,4 @@
-pub mod Applying
-pub mod Reading
+pub mod ApplyAnswers
+pub mod DiffTexts
 pub mod Views
 pub mod inner

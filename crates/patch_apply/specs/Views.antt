@@ -1,44 +1,45 @@
--- What the types of the code stand for in the words of notices.
+-- What the types of the code mean in the terms of `patch_rules`.
 use Rattle.std.specs.Prelude.{◌≤◌, ℕ, min, List, Option, None, Some, option_map}
-use Rattle.xml_tree.specs.Limits.{greatest_u64, most_levels}
+use Rattle.xml_tree.specs.Limits.{u64_max, max_levels}
 use Rattle.xml_tree.specs.Tree.{Tree, height}
-use Rattle.patch_words.specs.Applied as words
-use Rattle.patch_words.specs.Replay as replay
+use Rattle.patch_rules.specs.PatchOperations as words
+use Rattle.patch_rules.specs.Replay as replay
 use Rattle.patch_apply.specs.declared.fault.ApplyFault.{ApplyFault}
 use Rattle.patch_apply.specs.declared.fault.ApplyFault.TheVariants as faults
 use Rattle.patch_apply.specs.declared.replica.Applied.{Applied}
 use Rattle.patch_apply.specs.declared.replica.Applied.TheVariants as answers
-use Rattle.patch_apply.specs.declared.replica.Held.{Held}
+use Rattle.patch_apply.specs.declared.replica.ReplicaVersion.{ReplicaVersion}
 
 -- ---- faults
 
--- the same of what is wrong with it, where a number beyond the greatest `usize` is told as that one
-abbrev pub fault_told : ℕ → words.Wrong → ApplyFault
-fault_told n words.Directive = faults.Directive (min n greatest_u64)
-fault_told n words.Prefix = faults.NamespacePrefix (min n greatest_u64)
-fault_told n words.Unlocated = faults.Unlocated (min n greatest_u64)
-fault_told n words.RootTouched = faults.RootOperation (min n greatest_u64)
-fault_told n words.WrongNodes = faults.NodeTypes (min n greatest_u64)
-fault_told n words.NoSpace = faults.Whitespace (min n greatest_u64)
+-- the fault of the operation of a number, where a number beyond the greatest `usize` is reported
+-- as the greatest
+abbrev pub operation_fault : ℕ → words.OperationError → ApplyFault
+operation_fault n words.Directive = faults.Directive (min n u64_max)
+operation_fault n words.Prefix = faults.NamespacePrefix (min n u64_max)
+operation_fault n words.Unlocated = faults.Unlocated (min n u64_max)
+operation_fault n words.RootTouched = faults.RootOperation (min n u64_max)
+operation_fault n words.WrongNodes = faults.NodeTypes (min n u64_max)
+operation_fault n words.NoSpace = faults.Whitespace (min n u64_max)
 
--- how a fault is told
-abbrev pub told_as : replay.CopyFault → ApplyFault
-told_as replay.WrongDocument = faults.WrongDocument
-told_as (replay.WrongTag held wanted) = faults.WrongTag held wanted
-told_as (replay.AtOperation n wrong) = fault_told n wrong
+-- how a fault is reported
+abbrev pub apply_fault_of : replay.CopyFault → ApplyFault
+apply_fault_of replay.WrongDocument = faults.WrongDocument
+apply_fault_of (replay.WrongTag held wanted) = faults.WrongTag held wanted
+apply_fault_of (replay.AtOperation n wrong) = operation_fault n wrong
 
--- ---- what is held, and answers
+-- ---- contents of a replica, and answers
 
-abbrev pub version_in : Held → List ℕ × Tree
+abbrev pub version_in : ReplicaVersion → List ℕ × Tree
 version_in h = (h.tag, h.root)
 
-abbrev pub held_in : Option Held → replay.CopyHeld
-held_in held = option_map version_in held
+abbrev pub stored_in : Option ReplicaVersion → replay.ReplicaContents
+stored_in held = option_map version_in held
 
--- the tree that is held has as many levels as a document may have
-abbrev pub IsLow : replay.CopyHeld → Type 0
-IsLow None = Unit {0}
-IsLow (Some h) = height h.1 ≤ most_levels
+-- the replica's tree has at most as many levels as a document may have
+abbrev pub IsWithinLevels : replay.ReplicaContents → Type 0
+IsWithinLevels None = Unit {0}
+IsWithinLevels (Some h) = height h.1 ≤ max_levels
 
 abbrev pub answer_in : Applied → replay.CopyAnswer
 answer_in answers.Same = replay.Same

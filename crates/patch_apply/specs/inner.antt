@@ -1,7 +1,7 @@
--- What private functions and proofs speak of; no public contract cites it.
+-- What private functions and proofs use; no public contract cites it.
 pub mod ByNodes
 pub mod Forms
-pub mod Giving
-pub mod Seen
-pub mod Spotting
+pub mod Locating
+pub mod PrivateTypes
+pub mod Results
 pub mod Stages

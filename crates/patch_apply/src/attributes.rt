@@ -1,7 +1,7 @@
 //! Edits of attributes and texts by operations, in place.
 ghost use Rattle.std.specs.Prelude.{◌≡◌, ◌≤◌, ◌<◌, ◌++◌, ◌∷◌, [], Bool, List, length, remove, IsSome, IsSomeAnd, IfOk, OnOk};
 ghost use Rattle.xml_tree.specs.Memory.{Answered};
-ghost use Rattle.xml_tree.specs.Limits.{most_levels};
+ghost use Rattle.xml_tree.specs.Limits.{max_levels};
 ghost use Rattle.xml_tree.specs.Attributes.{with_value};
 ghost use Rattle.xml_tree.specs.Edits.{change_at};
 ghost use Rattle.xml_tree.specs.Expanded.{attr_name, same_expanded};
@@ -9,15 +9,15 @@ ghost use Rattle.xml_tree.specs.Nodes.{nodes_of, text_node};
 ghost use Rattle.xml_tree.specs.Scopes.{scope_at};
 ghost use Rattle.xml_tree.specs.Tree.{at, height};
 ghost use Rattle.xml_tree.specs.declared.names.Decl.{Decl};
-ghost use Rattle.patch_words.specs.Applied.{attr_done, remove_done, replace_done, with_attrs};
-ghost use Rattle.patch_words.specs.Applied as spots;
-ghost use Rattle.patch_apply.specs.inner.Giving.{IsGiven};
+ghost use Rattle.patch_rules.specs.PatchOperations.{attr_done, remove_done, replace_done, with_attrs};
+ghost use Rattle.patch_rules.specs.PatchOperations as spots;
+ghost use Rattle.patch_apply.specs.inner.Results.{IsGiven};
 ghost use Rattle.patch_apply.specs.inner.Stages.{is_there_already, take_done, value_done};
 
-use crate::contents::{is_bare, value_in};
 use crate::edits::exchange_one;
-use crate::fault::Wrong;
-use crate::meanings::{attr_alike, has_attr};
+use crate::fault::OperationError;
+use crate::name_meanings::{attr_alike, has_attr};
+use crate::node_contents::{is_bare, value_in};
 use std::alloc::{AllocError, Global};
 use xml_tree::{Attr, Element, Name, Node, Path, ReadError, Scope, Text, element_at};
 
@@ -26,42 +26,46 @@ use xml_tree::{Attr, Element, Name, Node, Path, ReadError, Scope, Text, element_
 // Adds an attribute to the element at a path.
 fn push_at(tree: &mut Element, path: &Path, attr: Attr) -> Result<(), AllocError>
     requires { IsSome (at path.now tree.old) }
-    ensures adds_it { OnOk result (tree.new ≡ change_at path.now (with_attrs (λ ats. ats ++ attr ∷ [])) tree.old) }
+    ensures tree_changed { OnOk result
+        (tree.new ≡ change_at path.now (with_attrs (λ ats. ats ++ attr ∷ [])) tree.old) }
 {
     tree.edit_at(
         path,
         |here: &mut Element| -> Result<(), AllocError>
-            ensures adds_the_attribute_there { OnOk result (here.new ≡ with_attrs (λ ats. ats ++ attr ∷ []) here.old) }
+            ensures here_changed { OnOk result
+                (here.new ≡ with_attrs (λ ats. ats ++ attr ∷ []) here.old) }
         { here.push_attr(attr) },
     )
 }
 
-// Exchanges the value of an attribute of the element at a path.
+// Replaces the value of an attribute of the element at a path.
 fn write_at(tree: &mut Element, path: &Path, place: usize, value: Text)
     requires { IsSomeAnd (at path.now tree.old) (λ e. place < length e.attrs) }
-    ensures writes_it { tree.new ≡ change_at path.now (with_attrs (with_value place value)) tree.old }
+    ensures tree_changed { tree.new
+        ≡ change_at path.now (with_attrs (with_value place value)) tree.old }
 {
     tree.edit_at(
         path,
         |here: &mut Element|
             requires { place < length here.old.attrs }
-            ensures writes_the_value_there { here.new ≡ with_attrs (with_value place value) here.old }
+            ensures here_changed { here.new ≡ with_attrs (with_value place value) here.old }
         {
             let _old = here.exchange_value(place, value);
         },
     )
 }
 
-// Takes an attribute out of the element at a path.
+// Removes an attribute of the element at a path.
 fn take_at(tree: &mut Element, path: &Path, place: usize)
     requires { IsSomeAnd (at path.now tree.old) (λ e. place < length e.attrs) }
-    ensures takes_it_out { tree.new ≡ change_at path.now (with_attrs (λ ats. remove ats place)) tree.old }
+    ensures tree_changed { tree.new
+        ≡ change_at path.now (with_attrs (λ ats. remove ats place)) tree.old }
 {
     tree.edit_at(
         path,
         |here: &mut Element|
             requires { place < length here.old.attrs }
-            ensures takes_the_attribute_out { here.new ≡ with_attrs (λ ats. remove ats place) here.old }
+            ensures here_changed { here.new ≡ with_attrs (λ ats. remove ats place) here.old }
         {
             let _old = here.take_attr(place);
         },
@@ -73,7 +77,7 @@ fn take_at(tree: &mut Element, path: &Path, place: usize)
 // Whether the element at a path has the attribute that a name means.
 fn has_attr_at(here: &Scope<'_>, name: &Name, path: &Path, tree: &Element) -> bool
     requires { IsSome (at path.now tree.now) }
-    ensures tells_whether_it_is_there { result ≡ is_there_already here.now name.now path.now tree.now }
+    ensures exact { result ≡ is_there_already here.now name.now path.now tree.now }
 {
     let Some(element) = element_at(tree, path) else {
         unreachable!()
@@ -87,7 +91,9 @@ fn has_attr_at(here: &Scope<'_>, name: &Name, path: &Path, tree: &Element) -> bo
 // Whether the name of an attribute means the same in the scope at the element of a path.
 fn attr_alike_at(here: &Scope<'_>, name: &Name, path: &Path, tree: &Element) -> bool
     requires { IsSome (at path.now tree.now) }
-    ensures tells_whether_it_means_the_same { result ≡ same_expanded (attr_name here.now name.now) (attr_name (scope_at path.now tree.now) name.now) }
+    ensures exact { result
+        ≡ same_expanded (attr_name here.now name.now)
+        (attr_name (scope_at path.now tree.now) name.now) }
 {
     let Some(there) = Scope::at(tree, path) else {
         unreachable!()
@@ -95,7 +101,7 @@ fn attr_alike_at(here: &Scope<'_>, name: &Name, path: &Path, tree: &Element) -> 
     attr_alike(here, &there, name)
 }
 
-/// An attribute is added to the element at a path.
+/// Adds an attribute to the element at a path.
 pub(crate) fn add_attr(
     alloc: Global,
     here: &Scope<'_>,
@@ -103,60 +109,63 @@ pub(crate) fn add_attr(
     path: &Path,
     operation: &Element,
     tree: Element,
-) -> Result<Element, ReadError<Wrong>>
-    requires there { IsSome (at path.now tree) }
-    requires low { height tree ≤ most_levels }
-    ensures by_the_words { Answered (IsGiven (attr_done here.now name path.now operation.now.content tree)) result }
+) -> Result<Element, ReadError<OperationError>>
+    requires place_exists { IsSome (at path.now tree) }
+    requires height_bounded { height tree ≤ max_levels }
+    ensures as_specified { Answered
+        (IsGiven (attr_done here.now name path.now operation.now.content tree)) result }
 {
     let found = value_in(alloc, operation)?;
     let Some(value) = found else {
-        return Err(ReadError::Fault(Wrong::WrongNodes));
+        return Err(ReadError::Fault(OperationError::WrongNodes));
     };
     if has_attr_at(here, &name, path, &tree) {
-        return Err(ReadError::Fault(Wrong::WrongNodes));
+        return Err(ReadError::Fault(OperationError::WrongNodes));
     }
     if !attr_alike_at(here, &name, path, &tree) {
-        return Err(ReadError::Fault(Wrong::Prefix));
+        return Err(ReadError::Fault(OperationError::Prefix));
     }
     let mut tree = tree;
     push_at(&mut tree, path, Attr { name, value })?;
     Ok(tree)
 }
 
-/// The value of an attribute of the element at a path is replaced.
+/// Replaces the value of an attribute of the element at a path.
 pub(crate) fn replace_attr(
     alloc: Global,
     path: &Path,
     place: usize,
     operation: &Element,
     tree: Element,
-) -> Result<Element, ReadError<Wrong>>
-    requires there { IsSomeAnd (at path.now tree) (λ e. place < length e.attrs) }
-    requires low { height tree ≤ most_levels }
-    ensures by_the_words { Answered (IsGiven (value_done path.now place operation.now.content tree)) result }
+) -> Result<Element, ReadError<OperationError>>
+    requires place_exists { IsSomeAnd (at path.now tree) (λ e. place < length e.attrs) }
+    requires height_bounded { height tree ≤ max_levels }
+    ensures as_specified { Answered
+        (IsGiven (value_done path.now place operation.now.content tree)) result }
 {
     let found = value_in(alloc, operation)?;
     let Some(value) = found else {
-        return Err(ReadError::Fault(Wrong::WrongNodes));
+        return Err(ReadError::Fault(OperationError::WrongNodes));
     };
     let mut tree = tree;
     write_at(&mut tree, path, place, value);
     Ok(tree)
 }
 
-/// An attribute of the element at a path is taken out.
+/// Removes an attribute of the element at a path.
 pub(crate) fn remove_attr(
     path: &Path,
     place: usize,
     operation: &Element,
     tree: Element,
-) -> Result<Element, ReadError<Wrong>>
-    requires there { IsSomeAnd (at path.now tree) (λ e. place < length e.attrs) }
-    requires low { height tree ≤ most_levels }
-    ensures by_the_words { Answered (IsGiven (take_done path.now place operation.now.content tree)) result }
+) -> Result<Element, ReadError<OperationError>>
+    requires place_exists { IsSomeAnd (at path.now tree) (λ e. place < length e.attrs) }
+    requires height_bounded { height tree ≤ max_levels }
+    ensures as_specified { Answered
+        (IsGiven (take_done path.now place operation.now.content tree)) result }
 {
     if !is_bare(operation) {
-        return Err(ReadError::Fault(Wrong::WrongNodes));
+        return Err(ReadError::Fault(OperationError::WrongNodes));
     }
     let mut tree = tree;
     take_at(&mut tree, path, place);
@@ -165,7 +174,7 @@ pub(crate) fn remove_attr(
 
 // A text as a node; none where it is empty.
 fn text_nodes(alloc: Global, text: Text) -> Result<Vec<Node>, AllocError>
-    ensures text_as_a_node { IfOk result (λ nodes. nodes.items ≡ text_node text) }
+    ensures ok { IfOk result (λ nodes. nodes.items ≡ text_node text) }
 {
     let mut nodes = Vec::new(alloc);
     if !text.is_empty() {
@@ -174,21 +183,24 @@ fn text_nodes(alloc: Global, text: Text) -> Result<Vec<Node>, AllocError>
     Ok(nodes)
 }
 
-/// A text of the element at a path is replaced.
+/// Replaces a text of the element at a path.
 pub(crate) fn replace_text(
     alloc: Global,
     path: &Path,
     place: usize,
     operation: &Element,
     tree: Element,
-) -> Result<Element, ReadError<Wrong>>
-    requires there { IsSomeAnd (at path.now tree) (λ e. place < length (nodes_of e.content)) }
-    requires low { height tree ≤ most_levels }
-    ensures by_the_words { (c : List (List Decl)) → Answered (IsGiven (replace_done c (spots.AtText path.now place) operation.now.content tree)) result }
+) -> Result<Element, ReadError<OperationError>>
+    requires place_exists { IsSomeAnd (at path.now tree)
+        (λ e. place < length (nodes_of e.content)) }
+    requires height_bounded { height tree ≤ max_levels }
+    ensures as_specified { (c : List (List Decl))
+        → Answered (IsGiven (replace_done c
+        (spots.AtText path.now place) operation.now.content tree)) result }
 {
     let found = value_in(alloc, operation)?;
     let Some(value) = found else {
-        return Err(ReadError::Fault(Wrong::WrongNodes));
+        return Err(ReadError::Fault(OperationError::WrongNodes));
     };
     let nodes = text_nodes(alloc, value)?;
     let mut tree = tree;
@@ -196,20 +208,23 @@ pub(crate) fn replace_text(
     Ok(tree)
 }
 
-/// A text of the element at a path is taken out.
+/// Removes a text of the element at a path.
 pub(crate) fn remove_text(
     alloc: Global,
     path: &Path,
     place: usize,
     operation: &Element,
     tree: Element,
-) -> Result<Element, ReadError<Wrong>>
-    requires there { IsSomeAnd (at path.now tree) (λ e. place < length (nodes_of e.content)) }
-    requires low { height tree ≤ most_levels }
-    ensures by_the_words { (before after : Bool) → Answered (IsGiven (remove_done before after (spots.AtText path.now place) operation.now.content tree)) result }
+) -> Result<Element, ReadError<OperationError>>
+    requires place_exists { IsSomeAnd (at path.now tree)
+        (λ e. place < length (nodes_of e.content)) }
+    requires height_bounded { height tree ≤ max_levels }
+    ensures as_specified { (before after : Bool)
+        → Answered (IsGiven (remove_done before after
+        (spots.AtText path.now place) operation.now.content tree)) result }
 {
     if !is_bare(operation) {
-        return Err(ReadError::Fault(Wrong::WrongNodes));
+        return Err(ReadError::Fault(OperationError::WrongNodes));
     }
     let mut tree = tree;
     exchange_one(&mut tree, path, place, Vec::new(alloc))?;

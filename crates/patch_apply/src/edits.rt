@@ -1,37 +1,39 @@
 //! Places among the nodes of a tree, and edits there, in place.
 ghost use Rattle.std.specs.Prelude.{◌≡◌, ◌≤◌, ◌<◌, ◌+◌, suc, length, nat_le, true, IsSome, IsSomeAnd, OnOk};
-ghost use Rattle.xml_tree.specs.Limits.{most_levels};
+ghost use Rattle.xml_tree.specs.Limits.{max_levels};
 ghost use Rattle.xml_tree.specs.Edits.{change_at, parent_path};
 ghost use Rattle.xml_tree.specs.Nodes.{exchange_nodes, nodes_of};
 ghost use Rattle.xml_tree.specs.Tree.{at, height};
-ghost use Rattle.patch_words.specs.Applied.{is_below, means_alike, nodes_at, off_root, own_place};
+ghost use Rattle.patch_rules.specs.PatchOperations.{is_below, means_alike, nodes_at, is_off_root, own_place};
 ghost use Rattle.xml_tree.specs.Scopes.{scope_around, scope_at};
 ghost use Rattle.patch_apply.specs.inner.ByNodes.{nodes_height};
 ghost use Rattle.patch_apply.specs.inner.Stages.{gap_of, site_of};
-ghost use Rattle.patch_apply.specs.inner.Seen.{position_in};
+ghost use Rattle.patch_apply.specs.inner.PrivateTypes.{position_in};
 
-use crate::meanings::means_alike;
+use crate::name_meanings::means_alike;
 use crate::nodes::{next_number, nodes_depth};
-use crate::tasks::Position;
+use crate::patch_actions::Position;
 use std::alloc::{AllocError, Global};
 use xml_tree::{Element, MAX_LEVELS, Node, Path, Scope, depth, element_at, place_of};
 
 // ---- places
 
-/// A place among nodes: the path of their element, and the number of the node that it is before.
+/// A place among nodes: the path of their element, and the number of the node after the place.
 #[derive(Drop)]
-pub struct Gap {
+pub struct InsertPosition {
     pub path: Path,
     pub place: usize,
 }
 
-/// The path of the parent of an element that isn't the root, and the number of the element among the parent's nodes.
-pub(crate) fn place_in_parent(tree: &Element, path: &Path) -> Gap
+/// The path of the parent of an element that isn't the root, and the number of the element among
+/// the parent's nodes.
+pub(crate) fn place_in_parent(tree: &Element, path: &Path) -> InsertPosition
     requires below { 0 < length path.now }
-    requires there { IsSome (at path.now tree.now) }
-    ensures path_of_the_parent { result.path ≡ parent_path path.now }
-    ensures place_among_the_nodes { result.place ≡ own_place path.now tree.now }
-    ensures lies_among_the_nodes { IsSomeAnd (at result.path tree.now) (λ e. result.place < length (nodes_of e.content)) }
+    requires place_exists { IsSome (at path.now tree.now) }
+    ensures path_of_parent { result.path ≡ parent_path path.now }
+    ensures place_in_nodes { result.place ≡ own_place path.now tree.now }
+    ensures within_nodes { IsSomeAnd (at result.path tree.now)
+        (λ e. result.place < length (nodes_of e.content)) }
 {
     let Some((parent, child)) = path.split_last() else {
         unreachable!()
@@ -40,13 +42,13 @@ pub(crate) fn place_in_parent(tree: &Element, path: &Path) -> Gap
         unreachable!()
     };
     let place = place_of(element.nodes(), child);
-    Gap {
+    InsertPosition {
         path: parent,
         place,
     }
 }
 
-/// The number behind that of a node of the element at a path.
+/// The number after a node of the element at a path.
 pub(crate) fn number_behind(tree: &Element, path: &Path, place: usize) -> usize
     requires within { IsSomeAnd (at path.now tree.now) (λ e. place < length (nodes_of e.content)) }
     ensures next_place { result ≡ suc place }
@@ -57,11 +59,12 @@ pub(crate) fn number_behind(tree: &Element, path: &Path, place: usize) -> usize
     next_number(element.nodes(), place)
 }
 
-// How many nodes the element at a path has.
+// The number of nodes of the element at a path.
 fn node_count(tree: &Element, path: &Path) -> usize
-    requires there { IsSome (at path.now tree.now) }
-    ensures counts_them { result ≡ length (nodes_at path.now tree.now) }
-    ensures lies_among_the_nodes { IsSomeAnd (at path.now tree.now) (λ e. result ≤ length (nodes_of e.content)) }
+    requires place_exists { IsSome (at path.now tree.now) }
+    ensures exact { result ≡ length (nodes_at path.now tree.now) }
+    ensures within_nodes { IsSomeAnd (at path.now tree.now)
+        (λ e. result ≤ length (nodes_of e.content)) }
 {
     let Some(element) = element_at(tree, path) else {
         unreachable!()
@@ -71,7 +74,7 @@ fn node_count(tree: &Element, path: &Path) -> usize
 
 /// Whether a path leads below the root.
 pub(crate) fn is_below(path: &Path) -> bool
-    ensures tells_whether_it_is_below { result ≡ is_below path.now }
+    ensures exact { result ≡ is_below path.now }
 {
     match path.numbers() {
         [] => false,
@@ -79,9 +82,9 @@ pub(crate) fn is_below(path: &Path) -> bool
     }
 }
 
-/// Whether content can be put there: not beside the root.
-pub(crate) fn off_root(position: Position, path: &Path) -> bool
-    ensures tells_whether_it_is_off_the_root { result ≡ off_root (position_in position) path.now }
+/// Whether content can be put at a position: not beside the root.
+pub(crate) fn is_off_root(position: Position, path: &Path) -> bool
+    ensures exact { result ≡ is_off_root (position_in position) path.now }
 {
     match position {
         Position::Behind => true,
@@ -91,57 +94,60 @@ pub(crate) fn off_root(position: Position, path: &Path) -> bool
     }
 }
 
-/// Where content is put that goes to a position at an element.
-pub(crate) fn gap_of(position: Position, tree: &Element, path: Path) -> Gap
-    requires there { IsSome (at path tree.now) }
-    requires off_root { off_root (position_in position) path ≡ true }
-    ensures path_of_the_gap { result.path ≡ site_of (position_in position) path }
-    ensures place_of_the_gap { result.place ≡ gap_of (position_in position) path tree.now }
-    ensures lies_among_the_nodes { IsSomeAnd (at result.path tree.now) (λ e. result.place ≤ length (nodes_of e.content)) }
+/// The place of content that is put at a position relative to an element.
+pub(crate) fn gap_of(position: Position, tree: &Element, path: Path) -> InsertPosition
+    requires place_exists { IsSome (at path tree.now) }
+    requires is_off_root { is_off_root (position_in position) path ≡ true }
+    ensures insert_path { result.path ≡ site_of (position_in position) path }
+    ensures insert_place { result.place ≡ gap_of (position_in position) path tree.now }
+    ensures within_nodes { IsSomeAnd (at result.path tree.now)
+        (λ e. result.place ≤ length (nodes_of e.content)) }
 {
     match position {
         Position::Behind => {
             let place = node_count(tree, &path);
-            Gap { path, place }
+            InsertPosition { path, place }
         }
-        Position::Prepend => Gap { path, place: 0 },
+        Position::Prepend => InsertPosition { path, place: 0 },
         Position::Before => place_in_parent(tree, &path),
         Position::After => {
-            let Gap { path, place } = place_in_parent(tree, &path);
+            let InsertPosition { path, place } = place_in_parent(tree, &path);
             let place = number_behind(tree, &path, place);
-            Gap { path, place }
+            InsertPosition { path, place }
         }
     }
 }
 
 // ---- depth
 
-/// Whether nodes may stand in the element at a path, by their depth.
+/// Whether nodes fit into the element at a path, by their depth.
 pub(crate) fn may_hold(path: &Path, nodes: &[Node]) -> bool
-    ensures tells_whether_they_fit { result ≡ nat_le (length path.now + suc (nodes_height nodes.now)) most_levels }
+    ensures exact { result ≡ nat_le (length path.now + suc (nodes_height nodes.now)) max_levels }
 {
     nodes_depth(nodes).saturating_add(path.numbers().len() + 1) <= MAX_LEVELS
 }
 
-/// Whether an element may stand at a path, by its depth.
+/// Whether an element fits at a path, by its depth.
 pub(crate) fn may_stand(path: &Path, element: &Element) -> bool
-    ensures tells_whether_it_fits { result ≡ nat_le (length path.now + height element.now) most_levels }
+    ensures exact { result ≡ nat_le (length path.now + height element.now) max_levels }
 {
     depth(element).saturating_add(path.numbers().len()) <= MAX_LEVELS
 }
 
 // ---- scopes
 
-/// Whether the names in an operation mean the same in the scope at it and in the scope at the element of a path.
-pub(crate) fn alike_at(
+/// Whether the names in an operation mean the same in the scope at it and in the scope at the
+/// element of a path.
+pub(crate) fn means_alike_at(
     alloc: Global,
     here: &Scope<'_>,
     tree: &Element,
     path: &Path,
     operation: &Element,
 ) -> bool
-    requires there { IsSome (at path.now tree.now) }
-    ensures tells_whether_they_mean_the_same { result ≡ means_alike here.now (scope_at path.now tree.now) operation.now.content }
+    requires place_exists { IsSome (at path.now tree.now) }
+    ensures exact { result
+        ≡ means_alike here.now (scope_at path.now tree.now) operation.now.content }
 {
     let Some(there) = Scope::at(tree, path) else {
         unreachable!()
@@ -149,7 +155,8 @@ pub(crate) fn alike_at(
     means_alike(alloc, here, &there, operation)
 }
 
-/// The same of the scope around the element of a path.
+/// Whether the names in an operation mean the same in the scope at it and in the scope around the
+/// element of a path.
 pub(crate) fn alike_around(
     alloc: Global,
     here: &Scope<'_>,
@@ -157,18 +164,19 @@ pub(crate) fn alike_around(
     path: &Path,
     operation: &Element,
 ) -> bool
-    requires there { IsSome (at path.now tree.now) }
-    ensures tells_whether_they_mean_the_same { result ≡ means_alike here.now (scope_around path.now tree.now) operation.now.content }
+    requires place_exists { IsSome (at path.now tree.now) }
+    ensures exact { result
+        ≡ means_alike here.now (scope_around path.now tree.now) operation.now.content }
 {
     match path.split_last() {
         None => means_alike(alloc, here, &Scope::empty(), operation),
-        Some((parent, _)) => alike_at(alloc, here, tree, &parent, operation),
+        Some((parent, _)) => means_alike_at(alloc, here, tree, &parent, operation),
     }
 }
 
 // ---- edits
 
-/// Exchanges the nodes of the element at a path, from one number to before another.
+/// Replaces the nodes of the element at a path, from one number to before another.
 pub(crate) fn exchange_at(
     tree: &mut Element,
     path: &Path,
@@ -176,21 +184,23 @@ pub(crate) fn exchange_at(
     to: usize,
     nodes: Vec<Node>,
 ) -> Result<(), AllocError>
-    requires order { from ≤ to }
+    requires range_ordered { from ≤ to }
     requires within { IsSomeAnd (at path.now tree.old) (λ e. to ≤ length (nodes_of e.content)) }
-    ensures exchanges_them { OnOk result (tree.new ≡ change_at path.now (exchange_nodes from to nodes.items) tree.old) }
+    ensures tree_changed { OnOk result
+        (tree.new ≡ change_at path.now (exchange_nodes from to nodes.items) tree.old) }
 {
     tree.edit_at(
         path,
         |here: &mut Element| -> Result<(), AllocError>
-            requires order { from ≤ to }
+            requires range_ordered { from ≤ to }
             requires within { to ≤ length (nodes_of here.old.content) }
-            ensures exchanges_the_nodes_there { OnOk result (here.new ≡ exchange_nodes from to nodes.items here.old) }
+            ensures here_changed { OnOk result
+                (here.new ≡ exchange_nodes from to nodes.items here.old) }
         { here.exchange_nodes(from, to, nodes) },
     )
 }
 
-/// Exchanges one node of the element at a path.
+/// Replaces one node of the element at a path.
 pub(crate) fn exchange_one(
     tree: &mut Element,
     path: &Path,
@@ -198,7 +208,8 @@ pub(crate) fn exchange_one(
     nodes: Vec<Node>,
 ) -> Result<(), AllocError>
     requires within { IsSomeAnd (at path.now tree.old) (λ e. place < length (nodes_of e.content)) }
-    ensures exchanges_it { OnOk result (tree.new ≡ change_at path.now (exchange_nodes place (suc place) nodes.items) tree.old) }
+    ensures ok { OnOk result
+        (tree.new ≡ change_at path.now (exchange_nodes place (suc place) nodes.items) tree.old) }
 {
     let behind = number_behind(tree, path, place);
     exchange_at(tree, path, place, behind, nodes)

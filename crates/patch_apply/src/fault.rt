@@ -1,41 +1,43 @@
-//! Why a text is no notice, and why a notice can't be applied.
+//! Why a text is no diff document, and why a diff document can't be applied.
 ghost use Rattle.std.specs.Prelude.{◌≡◌};
-ghost use Rattle.patch_apply.specs.inner.Seen.{fault_at};
+ghost use Rattle.patch_apply.specs.inner.PrivateTypes.{fault_at};
 
 use thiserror::Error;
 use xml_tree::Text;
 
-/// Why bytes are no notice.
+/// Why bytes are no diff document.
 #[derive(Clone, Copy, Debug, Drop, PartialEq, Eq, Error)]
 pub enum NoticeFault {
-    /// They spell no document that has the form of a notice (RFC 5874, section 3).
+    /// They are no XML document that has the form of a diff document (RFC 5874, section 3).
     #[error("not a notice")]
     NotADiff,
 }
 
-/// Why a notice can't be applied. Of several faults the first in its order is told: documents, and the operations in them.
-/// Operations are counted from 1 over the whole notice; a number beyond the greatest `usize` is told as that one.
+/// Why a diff document can't be applied. Of several faults the first is reported, in the order of
+/// `document`s and of the operations in them. Operations are counted from 1 over the whole diff
+/// document; a number beyond the greatest `usize` is reported as the greatest.
 #[derive(Debug, Drop, PartialEq, Eq, Error)]
 pub enum ApplyFault {
-    /// It tells of another document.
+    /// It is about another document.
     #[error("another document")]
     WrongDocument,
-    /// It starts from another tag than the one that is held, or none is held.
+    /// It starts from another tag than the replica's, or the replica is empty.
     #[error("another tag")]
     WrongTag { held: Option<Text>, wanted: Text },
     /// The selector of this operation selects nothing.
     #[error("operation {0}: nothing selected")]
     Unlocated(usize),
-    /// A prefix of this operation isn't bound, or is bound differently at the place that it changes.
+    /// A prefix of this operation isn't bound, or is bound differently at the place that it
+    /// changes.
     #[error("operation {0}: prefix")]
     NamespacePrefix(usize),
-    /// This operation has attributes that say nothing that can be done.
+    /// This operation has attributes that are no directive.
     #[error("operation {0}: directive")]
     Directive(usize),
     /// This operation would remove the root, or put something beside it.
     #[error("operation {0}: root")]
     RootOperation(usize),
-    /// The content of this operation doesn't fit what it does.
+    /// The content of this operation doesn't fit its action.
     #[error("operation {0}: kinds of nodes")]
     NodeTypes(usize),
     /// White space that this operation removes isn't there.
@@ -45,7 +47,7 @@ pub enum ApplyFault {
 
 /// What is wrong with an operation (RFC 5261, section 5.1).
 #[derive(Clone, Copy, Debug, Drop, PartialEq, Eq, Error)]
-pub enum Wrong {
+pub enum OperationError {
     #[error("directive")]
     Directive,
     #[error("prefix")]
@@ -60,18 +62,18 @@ pub enum Wrong {
     NoSpace,
 }
 
-impl Wrong {
-    /// The fault of the operation of this number.
+impl OperationError {
+    /// The fault with the number of the operation.
     pub(crate) fn at(self, number: usize) -> ApplyFault
-        ensures fault_of_that_operation { result ≡ fault_at number self }
+        ensures exact { result ≡ fault_at number self }
     {
         match self {
-            Wrong::Directive => ApplyFault::Directive(number),
-            Wrong::Prefix => ApplyFault::NamespacePrefix(number),
-            Wrong::Unlocated => ApplyFault::Unlocated(number),
-            Wrong::RootTouched => ApplyFault::RootOperation(number),
-            Wrong::WrongNodes => ApplyFault::NodeTypes(number),
-            Wrong::NoSpace => ApplyFault::Whitespace(number),
+            OperationError::Directive => ApplyFault::Directive(number),
+            OperationError::Prefix => ApplyFault::NamespacePrefix(number),
+            OperationError::Unlocated => ApplyFault::Unlocated(number),
+            OperationError::RootTouched => ApplyFault::RootOperation(number),
+            OperationError::WrongNodes => ApplyFault::NodeTypes(number),
+            OperationError::NoSpace => ApplyFault::Whitespace(number),
         }
     }
 }

@@ -1,30 +1,35 @@
-//! Applying notices: a text read as a notice, and what a notice makes of a copy of its document.
-//! Promises upward that an answer, or the first fault with its number, is that of the words of notices, whoever wrote the
-//! notice; and that after every fault and want of memory the copy is as it was.
+//! Applies diff documents: a text is read as a diff document, and the diff document is applied to
+//! a replica of its document.
+//! Promises upward that the answer, or the first fault with its number, is the one that
+//! `patch_rules` specifies, whoever wrote the diff document (`apply_notice`, by `Applies`), that a
+//! text is read exactly where it is a diff document (`read_notice`, by `NoticeAnswer`), and that
+//! after a fault and when out of memory the replica is as it was.
 //! The standards are RFC 5874 (xcap-diff) and RFC 5261 (patch operations).
+//! Operations are counted over all documents of one diff document. Of a `sel` the parts of the
+//! document's name are compared, not the root.
 #![tactic(auto)]
 
-mod applying;
+mod apply_diffs;
 mod attributes;
-mod contents;
+mod diff_reader;
+mod document_ids;
+mod document_outcomes;
 mod documents;
 mod edits;
 mod elements;
 mod fault;
-mod ids;
-mod meanings;
+mod locations;
+mod name_meanings;
 mod names;
+mod node_contents;
 mod nodes;
 mod operations;
+mod patch_actions;
 mod patch_forms;
-mod reading;
 mod replica;
 mod selectors;
-mod spots;
-mod tasks;
-mod turns;
 
-pub use applying::apply_notice;
+pub use apply_diffs::apply_notice;
+pub use diff_reader::{Notice, read_notice};
 pub use fault::{ApplyFault, NoticeFault};
-pub use reading::{Notice, read_notice};
-pub use replica::{Applied, Held, Replica};
+pub use replica::{Applied, Replica, ReplicaVersion};

@@ -1,9 +1,9 @@
-//! Nodes of an element: texts by number, and how deep nodes reach.
+//! Nodes of an element: texts by number, and the depth of nodes.
 ghost use Rattle.std.specs.Prelude.{◌≡◌, ◌<◌, min, suc, length, IfSome};
-ghost use Rattle.patch_words.specs.Applied.{is_space_at, selected_text, space_before, text_number, texts_in};
+ghost use Rattle.patch_rules.specs.PatchOperations.{is_space_at, selected_text, space_before, text_number, texts_in};
 ghost use Rattle.patch_apply.specs.inner.ByNodes.{is_blank_node, nodes_height};
 
-use crate::contents::is_blank;
+use crate::node_contents::is_blank;
 use xml_tree::{Node, depth};
 
 // ---- texts
@@ -11,7 +11,7 @@ use xml_tree::{Node, depth};
 // The number of the k-th text among nodes, counted from 1.
 fn text_number(nodes: &[Node], k: u64) -> Option<usize>
     requires { 0 < k }
-    ensures place_of_that_text { result ≡ text_number 0 k nodes.now }
+    ensures exact { result ≡ text_number 0 k nodes.now }
     ensures lies_within { IfSome result (λ i. i < length nodes.now) }
 {
     let mut left = k;
@@ -26,9 +26,9 @@ fn text_number(nodes: &[Node], k: u64) -> Option<usize>
     None
 }
 
-// How many texts are among nodes.
+// The number of texts among nodes.
 fn texts_in(nodes: &[Node]) -> usize
-    ensures counts_the_texts { result ≡ texts_in nodes.now }
+    ensures exact { result ≡ texts_in nodes.now }
 {
     let mut count = 0;
     for node in nodes {
@@ -39,9 +39,9 @@ fn texts_in(nodes: &[Node]) -> usize
     count
 }
 
-/// The text that is meant among nodes: that of a position, or the only one.
+/// The text that is meant among nodes: the one at a position, or the only one.
 pub(crate) fn selected_text(nodes: &[Node], position: Option<u64>) -> Option<usize>
-    ensures number_of_the_text { result ≡ selected_text position nodes.now }
+    ensures number_of_text { result ≡ selected_text position nodes.now }
     ensures lies_within { IfSome result (λ i. i < length nodes.now) }
 {
     match position {
@@ -60,7 +60,7 @@ pub(crate) fn selected_text(nodes: &[Node], position: Option<u64>) -> Option<usi
     }
 }
 
-/// The number behind that of a node.
+/// The number after a node.
 pub(crate) fn next_number(nodes: &[Node], place: usize) -> usize
     requires { place < length nodes.now }
     ensures next_place { result ≡ suc place }
@@ -72,7 +72,7 @@ pub(crate) fn next_number(nodes: &[Node], place: usize) -> usize
 
 // Whether a node is a text of white space alone.
 fn is_blank_node(node: &Node) -> bool
-    ensures tells_whether_it_is_blank { result ≡ is_blank_node node.now }
+    ensures exact { result ≡ is_blank_node node.now }
 {
     match node {
         Node::Elem(_) => false,
@@ -83,23 +83,24 @@ fn is_blank_node(node: &Node) -> bool
 
 /// Whether the node of this number is a text of white space alone.
 pub(crate) fn is_space_at(nodes: &[Node], place: usize) -> bool
-    ensures tells_whether_there_is_space { result ≡ is_space_at place nodes.now }
+    ensures exact { result ≡ is_space_at place nodes.now }
 {
     place < nodes.len() && is_blank_node(&nodes[place])
 }
 
-/// Whether the node before the one of this number is.
+/// Whether the node before this number is a text of white space alone.
 pub(crate) fn is_space_before(nodes: &[Node], place: usize) -> bool
-    ensures tells_whether_space_stands_before { result ≡ space_before place nodes.now }
+    ensures exact { result ≡ space_before place nodes.now }
 {
     place > 0 && is_space_at(nodes, place - 1)
 }
 
 // ---- depth
 
-/// How many elements of these nodes are one in another; the greatest number where there are more.
+/// The depth of nodes: how many elements are one in another; the greatest `usize` where there are
+/// more.
 pub(crate) fn nodes_depth(nodes: &[Node]) -> usize
-    ensures counts_the_levels { result ≡ min (nodes_height nodes.now) usize.MAX }
+    ensures exact { result ≡ min (nodes_height nodes.now) usize.MAX }
 {
     let mut deepest = 0usize;
     for node in nodes {

@@ -1,4 +1,4 @@
-//! A copy of a document, as a subscriber holds it.
+//! A replica of a document, as a subscriber has it.
 ghost use Rattle.std.specs.Prelude.{◌≡◌, IfOk};
 
 use doc_names::DocId;
@@ -7,41 +7,45 @@ use xml_tree::{Element, Text, copy_tree};
 
 /// A version of a document: its tag, and its tree.
 #[derive(Drop)]
-pub struct Held {
+pub struct ReplicaVersion {
     pub tag: Text,
     pub root: Element,
 }
 
-/// A copy of a document, if one is held.
+/// A replica of a document, which may be empty.
 #[derive(Drop)]
 pub struct Replica {
     pub doc: DocId,
-    pub held: Option<Held>,
+    pub held: Option<ReplicaVersion>,
 }
 
-/// What came of a notice.
+/// The outcome of a diff document.
 #[derive(Drop, PartialEq, Eq)]
 pub enum Applied {
-    /// It tells of no document.
+    /// It has no `document`.
     Same,
-    /// The copy is the version that it leads to.
+    /// The replica is the version after the last change.
     Patched,
-    /// The document is gone, and nothing is held.
+    /// The document is gone, and the replica is empty.
     Removed,
-    /// The document changed to this tag, and the notice doesn't tell how. The copy is as it was.
+    /// The document changed to this tag, and the diff document doesn't say how. The replica is as
+    /// it was.
     Fetch(Text),
 }
 
-// A copy of what is held.
-pub(crate) fn copy_held(alloc: Global, held: &Option<Held>) -> Result<Option<Held>, AllocError>
-    ensures copies_what_is_held { IfOk result (λ made. made ≡ held.now) }
+// A copy of a replica's version.
+pub(crate) fn copy_replica_version(
+    alloc: Global,
+    held: &Option<ReplicaVersion>,
+) -> Result<Option<ReplicaVersion>, AllocError>
+    ensures equal_copy { IfOk result (λ made. made ≡ held.now) }
 {
     match held {
         None => Ok(None),
         Some(held) => {
             let tag = held.tag.copy(alloc)?;
             let root = copy_tree(alloc, &held.root)?;
-            Ok(Some(Held { tag, root }))
+            Ok(Some(ReplicaVersion { tag, root }))
         }
     }
 }

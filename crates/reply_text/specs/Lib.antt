@@ -1,2 +1,2 @@
-pub mod Heads
+pub mod ReplyHeads
 pub mod Statuses

@@ -1,4 +1,4 @@
--- Statuses and their reasons. RFC 9110, section 15; 507 is that of RFC 4918, section 11.5.
+-- Statuses and their reason phrases. RFC 9110, section 15; 507 is from RFC 4918, section 11.5.
 use Rattle.std.specs.Prelude.{ℕ, Bool, ◌==◌, List, [], ◌∷◌, codes, if◌then◌else◌}
 use Rattle.std.specs.List.{list_any}
 
@@ -9,7 +9,7 @@ statuses = 200 ∷ 201 ∷ 304 ∷ 400 ∷ 403 ∷ 404 ∷ 405 ∷ 409 ∷ 410 �
 abbrev pub is_status : ℕ → Bool
 is_status n = list_any (λ s. n == s) statuses
 
--- their reasons
+-- their reason phrases
 unfoldable pub reason : ℕ → List ℕ
 reason n =
     if n == 200 then codes "OK"

@@ -1,27 +1,28 @@
 //! Replies (RFC 9112).
 ghost use Rattle.std.specs.Prelude.{◌≡◌, ◌≢◌, [], length, None, Some, IsTrue};
 ghost use Rattle.reply_text.specs.Statuses.{is_status};
-ghost use Rattle.reply_text.specs.Heads.{head_of, plain, sent};
+ghost use Rattle.reply_text.specs.ReplyHeads.{head_of, plain, sent};
 
-use crate::heads::HeadText;
-use crate::media_types::Media;
+use crate::head_buffer::HeadBuffer;
+use crate::media_types::MediaType;
 use std::marker::Model;
 use xcap_io::Bytes;
 
-/// A reply. Contracts see its status, whether it closes the connection, and its bytes: the head with its empty line, and the body.
+/// A reply. Contracts see its status, whether it closes the connection, and its bytes: the head
+/// with its empty line, and the body.
 #[derive(Drop)]
 pub struct Reply {
     status: u16,
     closes: bool,
-    head: HeadText,
+    head: HeadBuffer,
     body: Option<Bytes>,
 }
 
 impl Model for Reply {
     ghost use Rattle.std.specs.Prelude.{[], unwrap_or};
-    ghost use Rattle.reply_text.specs.Heads.{Sent};
+    ghost use Rattle.reply_text.specs.ReplyHeads.{SentReply};
 
-    ghost Value = { Sent };
+    ghost Value = { SentReply };
 
     ghost view = { λ r. record {
       status = r.status;
@@ -31,21 +32,21 @@ impl Model for Reply {
     } };
 }
 
-// The head with these parts.
+// The head made of these parts.
 fn head(
     status: u16,
     tag: Option<u64>,
     read_only: Option<bool>,
-    media: Option<Media>,
+    media: Option<MediaType>,
     size: usize,
     closes: bool,
-) -> HeadText
+) -> HeadBuffer
     requires { IsTrue (is_status status) }
-    ensures head_of_its_parts { result ≡ head_of status tag read_only media size closes }
+    ensures exact { result ≡ head_of status tag read_only media size closes }
 {
-    let mut head = HeadText::new();
+    let mut head = HeadBuffer::new();
     head.push_status(status);
-    head.push_tag(tag);
+    head.push_etag(tag);
     head.push_allow(read_only);
     head.push_media(media);
     head.push_length(status, size);
@@ -55,11 +56,11 @@ fn head(
 }
 
 impl Reply {
-    /// The reply without tag and body. Takes no memory.
+    /// A reply without etag and body. Does not allocate.
     pub fn fixed(status: u16, close: bool) -> Reply
-        requires status { IsTrue (is_status status) }
-        requires plain { (status ≢ 304) × (status ≢ 405) × (status ≢ 409) }
-        ensures bare_reply_of_the_status { result ≡ plain status close }
+        requires valid_status { IsTrue (is_status status) }
+        requires plain_status { (status ≢ 304) × (status ≢ 405) × (status ≢ 409) }
+        ensures exact { result ≡ plain status close }
     {
         Reply {
             status,
@@ -69,9 +70,10 @@ impl Reply {
         }
     }
 
-    /// The 405, with the methods of a resource that can only be read, or of any other. Takes no memory.
+    /// The 405, with the methods of a resource that is read-only or of any other. Does not
+    /// allocate.
     pub fn method(read_only: bool, close: bool) -> Reply
-        ensures names_the_methods { result ≡ sent 405 None (Some read_only) None 0 close [] }
+        ensures exact { result ≡ sent 405 None (Some read_only) None 0 close [] }
     {
         Reply {
             status: 405,
@@ -81,18 +83,18 @@ impl Reply {
         }
     }
 
-    /// The reply with a tag, a media type and a body. Takes no memory.
+    /// A reply with an etag, a media type and a body. Does not allocate.
     pub fn with(
         status: u16,
         tag: Option<u64>,
-        media: Option<Media>,
+        media: Option<MediaType>,
         body: Bytes,
         close: bool,
     ) -> Reply
-        requires status { IsTrue (is_status status) }
-        requires plain { status ≢ 405 }
+        requires valid_status { IsTrue (is_status status) }
+        requires plain_status { status ≢ 405 }
         requires no_body { status ≡ 304 → body ≡ [] }
-        ensures sends_the_body { result ≡ sent status tag None media (length body) close body }
+        ensures exact { result ≡ sent status tag None media (length body) close body }
     {
         Reply {
             status,
@@ -102,11 +104,12 @@ impl Reply {
         }
     }
 
-    /// The head of a reply whose body, of this many bytes, is written from elsewhere. Takes no memory.
-    pub fn lent(status: u16, tag: Option<u64>, media: Media, size: usize, close: bool) -> Reply
-        requires status { IsTrue (is_status status) }
-        requires plain { (status ≢ 304) × (status ≢ 405) }
-        ensures sends_the_head_alone { result ≡ sent status tag None (Some media) size close [] }
+    /// The head of a reply whose body, of `size` bytes, is written from elsewhere. Does not
+    /// allocate.
+    pub fn lent(status: u16, tag: Option<u64>, media: MediaType, size: usize, close: bool) -> Reply
+        requires valid_status { IsTrue (is_status status) }
+        requires plain_status { (status ≢ 304) × (status ≢ 405) }
+        ensures exact { result ≡ sent status tag None (Some media) size close [] }
     {
         Reply {
             status,
@@ -116,38 +119,38 @@ impl Reply {
         }
     }
 
-    /// The same reply without its body, as the answer to HEAD. Takes no memory.
+    /// The reply without its body, as for HEAD (RFC 9110, section 9.3.2). Does not allocate.
     pub fn head_only(mut self) -> Reply
-        ensures keeps_all_but_the_body { result ≡ record self { body = [] } }
+        ensures exact { result ≡ record self { body = [] } }
     {
         self.body = None;
         self
     }
 
-    /// The status. Takes no memory.
+    /// The status. Does not allocate.
     pub fn status(&self) -> u16
-        ensures tells_the_status { result ≡ self.now.status }
+        ensures ok { result ≡ self.now.status }
     {
         self.status
     }
 
-    /// Whether the connection ends behind the reply. Takes no memory.
+    /// Whether the connection ends after the reply. Does not allocate.
     pub fn closes(&self) -> bool
-        ensures tells_whether_it_closes { result ≡ self.now.closes }
+        ensures exact { result ≡ self.now.closes }
     {
         self.closes
     }
 
-    /// The bytes up to and with the first empty line. Takes no memory.
+    /// The head, up to and including the first empty line. Does not allocate.
     pub fn head(&self) -> &[u8]
-        ensures lends_the_head { result.now ≡ self.now.head }
+        ensures exact { result.now ≡ self.now.head }
     {
         self.head.as_slice()
     }
 
-    /// The bytes behind it. Takes no memory.
+    /// The body. Does not allocate.
     pub fn body(&self) -> &[u8]
-        ensures lends_the_body { result.now ≡ self.now.body }
+        ensures exact { result.now ≡ self.now.body }
     {
         match &self.body {
             Some(body) => body.as_slice(),

@@ -1,13 +1,13 @@
-//! The reasons of statuses (RFC 9110, section 15).
+//! The reason phrases of statuses (RFC 9110, section 15).
 ghost use Rattle.std.specs.Prelude.{◌≡◌, ◌≤◌, length, IsTrue};
 ghost use Rattle.reply_text.specs.Statuses.{is_status, reason};
 
-/// The reason that goes with a status. Takes no memory.
+/// The reason phrase of a status. Does not allocate.
 #[tactic(auto, unfolding(crate::specs::Statuses::reason))]
 pub fn reason(status: u16) -> &'static str
     requires { IsTrue (is_status status) }
-    ensures word_that_is_due { result.now ≡ reason status }
-    ensures within_so_many_bytes { length result.now ≤ 22 }
+    ensures expected_word { result.now ≡ reason status }
+    ensures byte_limit { length result.now ≤ 22 }
 {
     match status {
         200 => "OK",

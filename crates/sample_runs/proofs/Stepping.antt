@@ -1,17 +1,17 @@
--- A server that notes statuses follows the machine that notes them.
+-- A server that records statuses follows the machine that records them.
 use Rattle.std.proofs.Common.{ℕ, List, [], ◌∷◌, ◌++◌, Option, refl, sym, ap, subst, ◌∙◌, arith}
 use Rattle.http_wire.specs.declared.request.Request.{Request}
-use Rattle.http_serve.specs.Written.{InBytes}
-use Rattle.notes.specs.declared.edit.Edit.{Edit}
+use Rattle.http_serve.specs.ReplyBytes.{InBytes}
+use Rattle.edit_ops.specs.declared.edit.Edit.{Edit}
 use Rattle.store_core.proofs.KeptAfter.{kept-first}
-use Rattle.feed_laws.specs.Holding.{FollowedStep}
-use Rattle.sample_runs.specs.Noting.{Noted, NotedStep, none_noted}
+use Rattle.xcap_machine.specs.SubscriberVersions.{FollowedStep}
+use Rattle.sample_runs.specs.StatusRecorders.{Noted, NotedStep, none_noted}
 use Rattle.sample_runs.specs.Requests.{root_text}
-use Rattle.sample_runs.specs.inner.Counting.{AnswersNoting, NotingState, StandsNoted, is_new}
+use Rattle.sample_runs.specs.inner.Counting.{AnswersNoting, NotingState, RepresentsRecorded, is_new}
 
 -- one step
-pub noted_step : (root : List ℕ) (s s' : NotingState) (m : Noted) (request : Request) (bytes : List ℕ) (edit : Option Edit) → StandsNoted root s m → InBytes AnswersNoting s request bytes s' edit
-    → (m' : Noted) × StandsNoted root s' m' × InBytes (NotedStep root) m request bytes m' edit
+pub noted_step : (root : List ℕ) (s s' : NotingState) (m : Noted) (request : Request) (bytes : List ℕ) (edit : Option Edit) → RepresentsRecorded root s m → InBytes AnswersNoting s request bytes s' edit
+    → (m' : Noted) × RepresentsRecorded root s' m' × InBytes (NotedStep root) m request bytes m' edit
 noted_step root s s' m request bytes edit here a =
     let t = a.step.follows m.state here.kept here.stands in
     let statuses : List ℕ = m.statuses ++ a.reply.status ∷ [] in
@@ -26,6 +26,6 @@ noted_step root s s' m request bytes edit here a =
       record { reply = a.reply; written = a.written; step = record { step = step; notes = refl } },
     )
 
--- a new one stands for the state without documents and replies
-pub new_stands : (room : ℕ) → StandsNoted root_text (is_new room) none_noted
+-- a new one represents the state without documents and replies
+pub new_stands : (room : ℕ) → RepresentsRecorded root_text (is_new room) none_noted
 new_stands room = record { same_root = refl; kept = kept-first 1 (omega arith); stands = refl; noted = refl }

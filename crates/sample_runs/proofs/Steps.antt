@@ -2,7 +2,7 @@
 use Rattle.std.proofs.Common.{◌≡◌, ℕ, suc, ◌+◌, ◌-◌, ◌<◌, List, [], ◌∷◌, ◌++◌, sym, ap, ◌∙◌, arith, append_assoc}
 use Rattle.sample_runs.specs.Requests.{connection_bytes, connections_from, numbered_request, requests_from}
 
--- the next one is made
+-- the next request is made
 pub next_request : (bytes : List ℕ) (first made count : ℕ) → made < count
     → (bytes ++ numbered_request (first + made)) ++ requests_from (first + (made + 1)) (count - (made + 1)) ≡ bytes ++ requests_from (first + made) (count - made)
 next_request bytes first made count more =

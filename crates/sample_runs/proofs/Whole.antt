@@ -1,19 +1,19 @@
 -- Connections whose bytes are known, served by a port that never fails, are served to their end.
 use Rattle.std.proofs.Common.{◌≡◌, ℕ, suc, Bool, true, List, [], ◌∷◌, ◌++◌, length, map, Option, Some, IfSome, refl, sym, ap, subst, ◌∙◌, arith, length-append, append-nil}
-use Rattle.xcap_io.specs.Causes.{LineState, RoseBy}
+use Rattle.xcap_io.specs.Causes.{StreamState, RoseBy}
 use Rattle.xcap_io.specs.Histories.{Traffic}
 use Rattle.http_wire.specs.declared.request.Request.{Request}
 use Rattle.http_wire.specs.Serving.{HaveBytes, ServesAll, ServesEach, counted_each, read_failures, write_failures}
-use Rattle.http_wire.specs.declared.ended.Ended.{Ended}
-use Rattle.http_wire.specs.declared.ended.Ended.TheVariants.{Closed, ReadFailed, WriteFailed}
+use Rattle.http_wire.specs.declared.close_reason.CloseReason.{CloseReason}
+use Rattle.http_wire.specs.declared.close_reason.CloseReason.TheVariants.{Closed, ReadFailed, WriteFailed}
 use Rattle.http_wire.proofs.Counting.{counts_each}
 use Rattle.http_serve.specs.Fixed.{fixed}
 use Rattle.http_serve.specs.Ports.{Came, ServesPort, Stops}
-use Rattle.http_serve.specs.declared.port.Served.{Served}
-use Rattle.http_serve.specs.declared.port.Stop.{Stop}
-use Rattle.http_serve.specs.declared.port.Stop.TheVariants.{Count, NoMore, PortFailed}
+use Rattle.http_serve.specs.declared.accept_loop.ServeSummary.{ServeSummary}
+use Rattle.http_serve.specs.declared.accept_loop.StopReason.{StopReason}
+use Rattle.http_serve.specs.declared.accept_loop.StopReason.TheVariants.{Count, NoMore, PortFailed}
 
--- as many bytes as connections
+-- there are as many lists of bytes as connections
 same_number : (all : List (List ℕ)) (connections : List Traffic) → HaveBytes all connections → length all ≡ length connections
 same_number [] [] have = refl
 same_number [] (passed ∷ connections) have = absurd have
@@ -21,7 +21,7 @@ same_number (bytes ∷ all) [] have = absurd have
 same_number (bytes ∷ all) (passed ∷ connections) have = ap suc (same_number all connections have.1)
 
 -- as many connections came as were wanted, if the port didn't fail: so all of them came
-none_left : (stop : Stop) (all came rest : List (List ℕ)) (connections : List Traffic) (count : ℕ) (old new : LineState) → old.port.faults ≡ 0 → new.port.faults ≡ 0 → new.port.to_come ≡ Some rest
+none_left : (stop : StopReason) (all came rest : List (List ℕ)) (connections : List Traffic) (count : ℕ) (old new : StreamState) → old.port.faults ≡ 0 → new.port.faults ≡ 0 → new.port.to_come ≡ Some rest
     → all ≡ came ++ rest → HaveBytes came connections → length connections ≡ count → Stops stop (length all) count old new → rest ≡ []
 none_left Count all [] [] connections count old new f g t is have many stops = refl
 none_left Count all came rest connections count old new f g t is have many stops = is_none rest (omega (arith, ap length is, length-append came rest, same_number came connections have, many, stops.0))
@@ -36,13 +36,13 @@ none_left PortFailed all came rest connections count old new f g t is have many 
 no_failure : (n : ℕ) → RoseBy n 0 0 → n ≡ 0
 no_failure n few = omega (arith, few)
 
--- of all connections all bytes count, and their end was found
-abbrev AllGiven : List Traffic → List (List ℕ) → List Ended → Type 0
+-- all bytes of all connections count, and the end of each was found
+abbrev AllGiven : List Traffic → List (List ℕ) → List CloseReason → Type 0
 AllGiven connections all endings =
     (map (λ c. c.given) (counted_each connections all endings) ≡ all)
     × (map (λ c. c.ended) (counted_each connections all endings) ≡ map (λ c. true) (counted_each connections all endings))
 
-one_more : (passed : Traffic) (connections : List Traffic) (bytes : List ℕ) (all : List (List ℕ)) (ending : Ended) (others : List Ended)
+one_more : (passed : Traffic) (connections : List Traffic) (bytes : List ℕ) (all : List (List ℕ)) (ending : CloseReason) (others : List CloseReason)
     → (read_failures others ≡ 0 → AllGiven connections all others) → read_failures (ending ∷ others) ≡ 0 → AllGiven (passed ∷ connections) (bytes ∷ all) (ending ∷ others)
 one_more passed connections bytes all Closed others rest none =
     let t = rest none in (ap (λ (l : List (List ℕ)). bytes ∷ l) t.0, ap (λ (l : List Bool). true ∷ l) t.1)
@@ -52,17 +52,18 @@ one_more passed connections bytes all WriteFailed others rest none =
 
 module _ {M E : Type 0} (Step : M → Request → List ℕ → M → Option E → Type 0) where
   -- where no read failed
-  all_given : (machine next : M) (edits : List E) (all : List (List ℕ)) (connections : List Traffic) (endings : List Ended) → HaveBytes all connections → ServesEach Step fixed machine connections endings next edits → read_failures endings ≡ 0
+  all_given : (machine next : M) (edits : List E) (all : List (List ℕ)) (connections : List Traffic) (endings : List CloseReason) → HaveBytes all connections → ServesEach Step fixed machine connections endings next edits → read_failures endings ≡ 0
       → AllGiven connections all endings
   all_given machine next edits [] [] endings have each none = (refl, refl)
   all_given machine next edits (bytes ∷ all) [] endings have each none = absurd have
   all_given machine next edits [] (passed ∷ connections) endings have each none = absurd have
   all_given machine next edits (bytes ∷ all) (passed ∷ connections) endings have (ending, others, mid, first, later, are, told, serves, rest) none =
-      subst (λ (l : List Ended). AllGiven (passed ∷ connections) (bytes ∷ all) l) (sym are)
-      (one_more passed connections bytes all ending others (all_given mid next later all connections others have.1 rest) (subst (λ (l : List Ended). read_failures l ≡ 0) are none))
+      subst (λ (l : List CloseReason). AllGiven (passed ∷ connections) (bytes ∷ all) l) (sym are)
+      (one_more passed connections bytes all ending others (all_given mid next later all connections others have.1 rest) (subst (λ (l : List CloseReason). read_failures l ≡ 0) are none))
 
-  -- What a port served that never fails, of which these connections were to come, and as many were wanted.
-  pub all_served : {W : Type 0} (Keeps : List E → W → W → Type 0) (served : Served) (machine next : M) (all : List (List ℕ)) (old new : LineState) (w w' : W)
+  -- What a port that never fails served, which had these connections to come, as many as were
+  -- wanted.
+  pub all_served : {W : Type 0} (Keeps : List E → W → W → Type 0) (served : ServeSummary) (machine next : M) (all : List (List ℕ)) (old new : StreamState) (w w' : W)
       → old.port.to_come ≡ Some all → old.port.faults ≡ 0 → new.port.faults ≡ 0 → old.read_faults ≡ 0 → new.read_faults ≡ 0 → old.write_faults ≡ 0 → new.write_faults ≡ 0
       → ServesPort Step Keeps (length all) served machine next old new w w'
       → (connections : List Traffic) × (map (λ c. c.given) connections ≡ all) × (map (λ c. c.ended) connections ≡ map (λ c. true) connections) × (edits : List E) × ServesAll Step fixed machine connections next edits 0 0 0 0

@@ -1,4 +1,4 @@
 pub mod Requests
-pub mod Noting
 pub mod Samples
+pub mod StatusRecorders
 pub mod inner

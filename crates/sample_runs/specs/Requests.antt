@@ -1,7 +1,7 @@
--- The requests of a sample, and the bytes of its connections. Addresses are those of RFC 4825, section 6, documents those of RFC 4826,
--- section 3; which requests are made is the project's own.
+-- The requests of a sample, and the bytes of its connections. Addresses follow RFC 4825, section
+-- 6, documents RFC 4826, section 3; which requests are made is the project's own.
 use Rattle.std.specs.Prelude.{ℕ, zero, suc, ◌+◌, ◌-◌, ◌*◌, ◌/◌, ◌%◌, ◌==◌, min, List, [], ◌∷◌, ◌++◌, codes, decimal, length, if◌then◌else◌}
-use Rattle.http_wire.specs.Limits.{most_requests}
+use Rattle.http_wire.specs.Limits.{max_requests}
 
 -- the root of the server
 unfoldable pub root_text : List ℕ
@@ -9,7 +9,7 @@ root_text = codes "http://xcap.example.com/xcap"
 
 -- ---- addresses
 
--- the user of a number
+-- the user with a number
 unfoldable pub user_name : ℕ → List ℕ
 user_name number = codes "sip:u" ++ (decimal number ++ codes "@example.com")
 
@@ -50,34 +50,35 @@ unfoldable pub delete_bytes : List ℕ → List ℕ → List ℕ
 delete_bytes user path =
     codes "DELETE " ++ (path ++ (codes " HTTP/1.1\r\nHost: xcap.example.com\r\nX-XCAP-User: " ++ (user ++ codes "\r\n\r\n")))
 
--- A user's request of a round. In round 0 the document is put. In each third round from there on the entry of the round before is
--- deleted, and in each other one the entry of the round is put.
+-- A user's request of a round. In round 0 the document is put. In each third round after it the
+-- entry of the round before is deleted, and in each other round the entry of the round is put.
 abbrev pub bytes_in_round : List ℕ → ℕ → List ℕ
 bytes_in_round user round =
     if round == 0 then put_bytes user (document_path user) (codes "application/resource-lists+xml") document_body
     else if round % 3 == 0 then delete_bytes user (entry_path (document_path user) (entry_uri (round - 1)))
     else put_bytes user (entry_path (document_path user) (entry_uri round)) (codes "application/xcap-el+xml") (entry_body (entry_uri round))
 
--- The request of a number, counted from 0: a hundred users make one request each in every round.
+-- The request with a number, counted from 0: a hundred users make one request each in every round.
 abbrev pub numbered_request : ℕ → List ℕ
 numbered_request number = bytes_in_round (user_name (number % 100)) (number / 100)
 
 -- ---- connections
 
--- so many requests from this one on
+-- the bytes of this many requests, from this one on
 abbrev pub requests_from : ℕ → ℕ → List ℕ
 requests_from first zero = []
 requests_from first (suc more) = numbered_request first ++ requests_from (first + 1) more
 
--- the bytes of a connection, of so many requests in all: it has as many as it may have, and the last one what is left
+-- the bytes of a connection, of this many requests in all: it has as many as a connection may
+-- have, and the last connection has the rest
 abbrev pub connection_bytes : ℕ → ℕ → List ℕ
-connection_bytes requests number = requests_from (number * most_requests) (min most_requests (requests - number * most_requests))
+connection_bytes requests number = requests_from (number * max_requests) (min max_requests (requests - number * max_requests))
 
--- so many connections from this one on
+-- this many connections, from this one on
 abbrev pub connections_from : ℕ → ℕ → ℕ → List (List ℕ)
 connections_from requests number zero = []
 connections_from requests number (suc more) = connection_bytes requests number ∷ connections_from requests (number + 1) more
 
--- all connections of so many requests
+-- all connections of this many requests
 abbrev pub all_connections : ℕ → List (List ℕ)
-all_connections requests = connections_from requests 0 ((requests + (most_requests - 1)) / most_requests)
+all_connections requests = connections_from requests 0 ((requests + (max_requests - 1)) / max_requests)

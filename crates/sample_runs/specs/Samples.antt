@@ -1,24 +1,26 @@
--- What comes of a sample: how its requests were answered, and what is held then. This is the project's own.
+-- The result of a sample: the replies to its requests, and the contents of the store afterwards.
+-- The project's own.
 use Rattle.std.specs.Prelude.{◌≡◌, ℕ, ◌-◌, ◌==◌, true, List, ◌++◌, codes, decimal, length, map, count_by, sum_by}
 use Rattle.xcap_io.specs.Histories.{Traffic}
 use Rattle.http_wire.specs.Serving.{ServesAll}
 use Rattle.http_serve.specs.Fixed.{fixed}
-use Rattle.http_serve.specs.Written.{InBytes}
-use Rattle.notes.specs.declared.edit.Edit.{Edit}
-use Rattle.store_core.specs.Held.{Stock, stock_of}
-use Rattle.store_core.specs.Keeping.{Kept}
+use Rattle.http_serve.specs.ReplyBytes.{InBytes}
+use Rattle.edit_ops.specs.declared.edit.Edit.{Edit}
+use Rattle.store_core.specs.Contents.{StoreContents, stock_of}
+use Rattle.store_core.specs.ValidStates.{IsValidState}
 use Rattle.usage_docs.specs.Services.{document_len}
-use Rattle.sample_runs.specs.Noting.{Noted, NotedStep, none_noted}
+use Rattle.sample_runs.specs.StatusRecorders.{Noted, NotedStep, none_noted}
 use Rattle.sample_runs.specs.Requests.{all_connections, root_text}
 use Rattle.sample_runs.specs.declared.summary.Summary.{Summary}
 
--- how many of the replies have the status
+-- the number of replies with the status
 abbrev pub count_of : ℕ → List ℕ → ℕ
 count_of status statuses = count_by (λ s. s == status) statuses
 
--- The requests, of which so many made what they put or changed what was there; all others were refused. What is held then, and the
--- last number that was given.
-abbrev pub summary_of : ℕ → List ℕ → Stock → Summary
+-- The number of requests, of those that created what they put, of those that replaced or deleted
+-- something, and of all others, which were refused; the documents stored afterwards, and the last
+-- number that was given.
+abbrev pub summary_of : ℕ → List ℕ → StoreContents → Summary
 summary_of requests statuses held = record {
   requests = requests;
   created = count_of 201 statuses;
@@ -29,19 +31,20 @@ summary_of requests statuses held = record {
   last = held.next - 1;
 }
 
--- The connections of so many requests were served to their end by the machine of the root from the state without documents on, one
--- after the other, with no fault, and this is the summary of its replies and of the state that they lead to.
+-- The connections of this many requests were served to their end by the machine of the root, from
+-- the state without documents on, one after the other, with no fault, and this is the summary of
+-- its replies and of the state that they lead to.
 pub record Samples (requests : ℕ) (summary : Summary) : Type 0 where
   pub connections : List Traffic
   pub all_bytes : map (λ c. c.given) connections ≡ all_connections requests
   pub all_ends : map (λ c. c.ended) connections ≡ map (λ c. true) connections
   pub next : Noted
   pub edits : List Edit
-  pub kept : Kept next.state
+  pub kept : IsValidState next.state
   pub serves : ServesAll (InBytes (NotedStep root_text)) fixed none_noted connections next edits 0 0 0 0
   pub sums : summary ≡ summary_of requests next.statuses (stock_of next.state)
 
--- how the requests were answered, on four lines
+-- the lines about the replies, four
 unfoldable pub answered_text : Summary → List ℕ
 answered_text s =
     codes "requests " ++ (decimal s.requests
@@ -50,7 +53,7 @@ answered_text s =
     ++ (codes "\nrefused " ++ (decimal s.refused
     ++ codes "\n")))))))
 
--- what is held then, on three lines
+-- the lines about the stored documents, three
 unfoldable pub held_text : Summary → List ℕ
 held_text s =
     codes "documents " ++ (decimal s.documents

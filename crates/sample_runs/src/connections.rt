@@ -7,13 +7,13 @@ use http_wire::MAX_REQUESTS;
 use std::alloc::{AllocError, Global};
 use xcap_io::Bytes;
 
-// How many requests a connection has at most.
-const MOST: u64 = MAX_REQUESTS as u64;
+// The greatest number of requests of a connection.
+const MAX_PER_CONNECTION: u64 = MAX_REQUESTS as u64;
 
-// The bytes of so many requests, from the first of these on.
+// The bytes of `count` requests, from the request `first` on.
 fn connection(alloc: Global, first: u64, count: u64) -> Result<Bytes, AllocError>
-    requires few { first + count ≤ 8589934592 }
-    ensures bytes_of_the_requests { IfOk result (λ bytes. bytes ≡ requests_from first count) }
+    requires within_max { first + count ≤ 8589934592 }
+    ensures ok { IfOk result (λ bytes. bytes ≡ requests_from first count) }
 {
     let mut bytes = Bytes::new(alloc);
     let mut made = 0;
@@ -25,17 +25,21 @@ fn connection(alloc: Global, first: u64, count: u64) -> Result<Bytes, AllocError
     Ok(bytes)
 }
 
-// The bytes of all connections of so many requests.
+// The bytes of all connections of this many requests.
 pub(crate) fn connections(alloc: Global, requests: u64) -> Result<Vec<Bytes>, AllocError>
-    requires few { requests ≤ 4294967295 }
-    ensures bytes_of_the_connections { IfOk result (λ all. all.items ≡ all_connections requests) }
+    requires within_max { requests ≤ 4294967295 }
+    ensures ok { IfOk result (λ all. all.items ≡ all_connections requests) }
 {
-    let count = (requests + (MOST - 1)) / MOST;
+    let count = (requests + (MAX_PER_CONNECTION - 1)) / MAX_PER_CONNECTION;
     let mut all = Vec::new(alloc);
     let mut number = 0;
     'connections: while number < count {
-        let first = number * MOST;
-        all.push(connection(alloc, first, MOST.min(requests.saturating_sub(first)))?)?;
+        let first = number * MAX_PER_CONNECTION;
+        all.push(connection(
+            alloc,
+            first,
+            MAX_PER_CONNECTION.min(requests.saturating_sub(first)),
+        )?)?;
         number += 1;
     }
     Ok(all)

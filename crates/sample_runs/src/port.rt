@@ -1,31 +1,32 @@
-// A port over connections whose bytes are known before, on which what is sent goes nowhere.
+// A port over connections whose bytes are known before, on which replies are discarded.
 ghost use Rattle.std.specs.Prelude.{◌≡◌, ◌≤◌, [], length, drop};
 ghost use Rattle.xcap_io.specs.Histories.{no_history};
 ghost use Rattle.sample_runs.specs.inner.Ports.{port_line};
 
 use std::alloc::Global;
-use xcap_io::{Bytes, Failed, Line, Log, Port, Sink, Source};
+use xcap_io::{Bytes, Failed, Line, Port, Sink, Source, TrafficLog};
 
-// The present connection, of which so many bytes were given, and those that are to come.
+// The current connection, of which `given` bytes were given, and the connections to come.
 #[derive(Drop)]
 pub(crate) struct KnownPort {
     present: Bytes,
     given: usize,
     to_come: Vec<Bytes>,
-    log: Log,
+    log: TrafficLog,
     ghost inside: { given ≤ length present },
 }
 
 impl KnownPort {
-    // A port on which connections of these bytes will come.
+    // A port on which connections with these bytes will come.
     pub(crate) fn new(alloc: Global, connections: Vec<Bytes>) -> KnownPort
-        ensures all_are_to_come { ⟦<KnownPort as Line>⟧.state result ≡ port_line connections.items [] no_history }
+        ensures all_to_come { ⟦<KnownPort as Line>⟧.state result
+            ≡ port_line connections.items [] no_history }
     {
         KnownPort {
             present: Bytes::new(alloc),
             given: 0,
             to_come: connections,
-            log: Log::new(),
+            log: TrafficLog::new(),
         }
     }
 }

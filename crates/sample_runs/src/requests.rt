@@ -10,28 +10,28 @@ const DOCUMENT: &str =
 
 #[tactic(auto, unfolding(crate::specs::Requests::user_name))]
 fn user_name(alloc: Global, number: u64) -> Result<String, AllocError>
-    ensures names_the_user { IfOk result (λ text. string_bytes text ≡ user_name number) }
+    ensures ok { IfOk result (λ text. string_bytes text ≡ user_name number) }
 {
     format!(in alloc; "sip:u{number}@example.com")
 }
 
 #[tactic(auto, unfolding(crate::specs::Requests::document_path))]
 fn document_path(alloc: Global, user: &str) -> Result<String, AllocError>
-    ensures path_of_the_document { IfOk result (λ text. string_bytes text ≡ document_path user.now) }
+    ensures ok { IfOk result (λ text. string_bytes text ≡ document_path user.now) }
 {
     format!(in alloc; "/xcap/resource-lists/users/{user}/index")
 }
 
 #[tactic(auto, unfolding(crate::specs::Requests::entry_uri))]
 fn entry_uri(alloc: Global, round: u64) -> Result<String, AllocError>
-    ensures uri_of_the_entry { IfOk result (λ text. string_bytes text ≡ entry_uri round) }
+    ensures ok { IfOk result (λ text. string_bytes text ≡ entry_uri round) }
 {
     format!(in alloc; "sip:e{round}@example.com")
 }
 
 #[tactic(auto, unfolding(crate::specs::Requests::entry_path))]
 fn entry_path(alloc: Global, document: &str, uri: &str) -> Result<String, AllocError>
-    ensures path_of_the_entry { IfOk result (λ text. string_bytes text ≡ entry_path document.now uri.now) }
+    ensures ok { IfOk result (λ text. string_bytes text ≡ entry_path document.now uri.now) }
 {
     format!(in alloc;
         "{document}/~~/resource-lists/list%5B@name=%22l%22%5D/entry%5B@uri=%22{uri}%22%5D"
@@ -40,15 +40,16 @@ fn entry_path(alloc: Global, document: &str, uri: &str) -> Result<String, AllocE
 
 #[tactic(auto, unfolding(crate::specs::Requests::entry_body))]
 fn entry_body(alloc: Global, uri: &str) -> Result<String, AllocError>
-    ensures entry_with_the_uri { IfOk result (λ text. string_bytes text ≡ entry_body uri.now) }
+    ensures ok { IfOk result (λ text. string_bytes text ≡ entry_body uri.now) }
 {
     format!(in alloc; "<entry uri=\"{uri}\"/>")
 }
 
-// A PUT of the body.
+// A PUT of a body.
 #[tactic(auto, unfolding(crate::specs::Requests::put_bytes))]
 fn put(alloc: Global, user: &str, path: &str, media: &str, body: &str) -> Result<String, AllocError>
-    ensures puts_the_body { IfOk result (λ text. string_bytes text ≡ put_bytes user.now path.now media.now body.now) }
+    ensures ok { IfOk result
+        (λ text. string_bytes text ≡ put_bytes user.now path.now media.now body.now) }
 {
     let length = body.len();
     format!(in alloc;
@@ -58,17 +59,20 @@ fn put(alloc: Global, user: &str, path: &str, media: &str, body: &str) -> Result
 
 #[tactic(auto, unfolding(crate::specs::Requests::delete_bytes))]
 fn delete(alloc: Global, user: &str, path: &str) -> Result<String, AllocError>
-    ensures deletes_what_is_there { IfOk result (λ text. string_bytes text ≡ delete_bytes user.now path.now) }
+    ensures ok { IfOk result (λ text. string_bytes text ≡ delete_bytes user.now path.now) }
 {
     format!(in alloc;
         "DELETE {path} HTTP/1.1\r\nHost: xcap.example.com\r\nX-XCAP-User: {user}\r\n\r\n"
     )
 }
 
-// The user puts the document.
+// The request by which a user puts the document.
 #[tactic(auto, unfolding(crate::specs::Requests::document_body))]
 fn put_document(alloc: Global, user: &str) -> Result<String, AllocError>
-    ensures puts_the_document { IfOk result (λ text. string_bytes text ≡ put_bytes user.now (document_path user.now) (codes "application/resource-lists+xml") document_body) }
+    ensures ok { IfOk result
+        (λ text. string_bytes text
+        ≡ put_bytes user.now (document_path user.now)
+        (codes "application/resource-lists+xml") document_body) }
 {
     let path = document_path(alloc, user)?;
     put(
@@ -82,16 +86,18 @@ fn put_document(alloc: Global, user: &str) -> Result<String, AllocError>
 
 // The path of the user's entry with this URI.
 fn path_to(alloc: Global, user: &str, uri: &str) -> Result<String, AllocError>
-    ensures path_to_the_entry { IfOk result (λ text. string_bytes text ≡ entry_path (document_path user.now) uri.now) }
+    ensures ok { IfOk result
+        (λ text. string_bytes text ≡ entry_path (document_path user.now) uri.now) }
 {
     let document = document_path(alloc, user)?;
     entry_path(alloc, document.as_str(), uri)
 }
 
-// The user puts the entry of the round.
+// The request by which a user puts the entry of the round.
 fn put_entry(alloc: Global, user: &str, round: u64) -> Result<String, AllocError>
-    ensures puts_the_entry { IfOk result (λ text. string_bytes text
-        ≡ put_bytes user.now (entry_path (document_path user.now) (entry_uri round)) (codes "application/xcap-el+xml") (entry_body (entry_uri round))) }
+    ensures ok { IfOk result (λ text. string_bytes text
+        ≡ put_bytes user.now (entry_path (document_path user.now) (entry_uri round))
+        (codes "application/xcap-el+xml") (entry_body (entry_uri round))) }
 {
     let uri = entry_uri(alloc, round)?;
     let path = path_to(alloc, user, uri.as_str())?;
@@ -105,18 +111,20 @@ fn put_entry(alloc: Global, user: &str, round: u64) -> Result<String, AllocError
     )
 }
 
-// The user deletes the entry of the round.
+// The request by which a user deletes the entry of the round.
 fn delete_entry(alloc: Global, user: &str, round: u64) -> Result<String, AllocError>
-    ensures deletes_the_entry { IfOk result (λ text. string_bytes text ≡ delete_bytes user.now (entry_path (document_path user.now) (entry_uri round))) }
+    ensures ok { IfOk result
+        (λ text. string_bytes text
+        ≡ delete_bytes user.now (entry_path (document_path user.now) (entry_uri round))) }
 {
     let uri = entry_uri(alloc, round)?;
     let path = path_to(alloc, user, uri.as_str())?;
     delete(alloc, user, path.as_str())
 }
 
-// The user's request of the round.
+// A user's request of the round.
 fn request_in_round(alloc: Global, user: &str, round: u64) -> Result<String, AllocError>
-    ensures request_of_the_round { IfOk result (λ text. string_bytes text ≡ bytes_in_round user.now round) }
+    ensures ok { IfOk result (λ text. string_bytes text ≡ bytes_in_round user.now round) }
 {
     if round == 0 {
         return put_document(alloc, user);
@@ -127,9 +135,9 @@ fn request_in_round(alloc: Global, user: &str, round: u64) -> Result<String, All
     put_entry(alloc, user, round)
 }
 
-// The request of that number.
+// The request with this number.
 pub(crate) fn request(alloc: Global, number: u64) -> Result<String, AllocError>
-    ensures request_of_that_number { IfOk result (λ text. string_bytes text ≡ numbered_request number) }
+    ensures ok { IfOk result (λ text. string_bytes text ≡ numbered_request number) }
 {
     let user = user_name(alloc, number % 100)?;
     request_in_round(alloc, user.as_str(), number / 100)

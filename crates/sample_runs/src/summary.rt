@@ -1,33 +1,33 @@
-//! What came of a sample.
+//! The summary of a sample.
 ghost use Rattle.std.specs.Prelude.{◌≡◌, IfOk, string_bytes};
 ghost use Rattle.sample_runs.specs.Samples.{answered_text, held_text, summary_text};
 
 use std::alloc::{AllocError, Global};
 
-/// What came of the requests of a sample.
+/// The results of a sample's requests, and the contents of the store afterwards.
 #[derive(Clone, Copy, PartialEq, Eq)]
 pub struct Summary {
-    /// How many requests were made.
+    /// The number of requests.
     pub requests: u64,
-    /// How many of them were answered 201, since they made what they put.
+    /// The number of requests with the status 201, which created what they put.
     pub created: u64,
-    /// How many were answered 200, since they changed or deleted what was there.
+    /// The number of requests with the status 200, which replaced or deleted something.
     pub changed: u64,
-    /// All others.
+    /// The number of all other requests.
     pub refused: u64,
-    /// How many documents are held then.
+    /// The number of documents stored afterwards.
     pub documents: u64,
-    /// How many bytes these have, printed.
+    /// The length of these documents, printed, in bytes.
     pub bytes: u64,
-    /// The number that was given last.
+    /// The last number that was given to a change.
     pub last: u64,
 }
 
 impl Summary {
-    // How the requests were answered.
+    // The lines about the replies.
     #[tactic(auto, unfolding(crate::specs::Samples::answered_text))]
-    fn answered(&self, alloc: Global) -> Result<String, AllocError>
-        ensures four_lines { IfOk result (λ text. string_bytes text ≡ answered_text self.now) }
+    fn reply_lines(&self, alloc: Global) -> Result<String, AllocError>
+        ensures ok { IfOk result (λ text. string_bytes text ≡ answered_text self.now) }
     {
         format!(in alloc;
             "requests {}\ncreated {}\nchanged {}\nrefused {}\n",
@@ -35,10 +35,10 @@ impl Summary {
         )
     }
 
-    // What is held then.
+    // The lines about the stored documents.
     #[tactic(auto, unfolding(crate::specs::Samples::held_text))]
-    fn held(&self, alloc: Global) -> Result<String, AllocError>
-        ensures three_lines { IfOk result (λ text. string_bytes text ≡ held_text self.now) }
+    fn document_lines(&self, alloc: Global) -> Result<String, AllocError>
+        ensures ok { IfOk result (λ text. string_bytes text ≡ held_text self.now) }
     {
         format!(in alloc;
             "documents {}\nbytes {}\nlast {}\n",
@@ -46,16 +46,16 @@ impl Summary {
         )
     }
 
-    /// Its seven lines: a word, a space and a number.
+    /// The summary as seven lines, each a word, a space and a number.
     ///
     /// # Errors
-    /// `NoMemory` for want of memory.
+    /// `NoMemory` when out of memory.
     pub fn text(&self, alloc: Global) -> Result<String, AllocError>
-        ensures seven_lines { IfOk result (λ text. string_bytes text ≡ summary_text self.now) }
+        ensures ok { IfOk result (λ text. string_bytes text ≡ summary_text self.now) }
     {
-        let mut text = self.answered(alloc)?;
-        let held = self.held(alloc)?;
-        text.push_str(held.as_str())?;
+        let mut text = self.reply_lines(alloc)?;
+        let document_lines = self.document_lines(alloc)?;
+        text.push_str(document_lines.as_str())?;
         Ok(text)
     }
 }

@@ -1,15 +1,15 @@
--- The replies of which the front is kept, one piece after the other.
+-- Replies whose front is kept, one piece after the other.
 use Rattle.std.proofs.Common.{◌≡◌, ℕ, zero, suc, ◌+◌, ◌-◌, ◌<◌, ◌≤◌, nat_lt, min, Bool, true, false, ◌||◌, List, [], ◌∷◌, ◌++◌, length, take, drop, refl, sym, ap, ◌∙◌, arith, length-append, length-drop, append_assoc, append-nil, take-append-drop, true≢false}
 use Rattle.std.proofs.lemmas.Bool.Decides.{nat_tests}
 use Rattle.std.proofs.lemmas.List.{drop_all, length-take, length-take-le, take_all, take_at, take_min}
 use Rattle.server_peer.specs.inner.Ends.{KeepsFront}
 use Rattle.server_peer.specs.Rooms.{RepliesState}
 
--- either there were others before, or there are now
+-- either there were more before, or there are now
 pub is_over_then : (room before piece : ℕ) (over : Bool) (n : ℕ) → over ≡ nat_lt room before → n ≡ min piece (room - before) → (over || nat_lt n piece) ≡ nat_lt room (before + piece)
 is_over_then room before piece over n was is = grind (arith, nat_tests)
 
--- the front of two lists, one behind the other
+-- the front of two lists, one after the other
 pub take_both : (n : ℕ) (xs ys : List ℕ) → take n (xs ++ ys) ≡ take n xs ++ take (n - length xs) ys
 take_both zero xs ys = let e : 0 ≡ 0 - length xs = omega arith in ap (λ (m : ℕ). take m ys) e
 take_both (suc n) [] ys = let e : suc n ≡ suc n - length {A = ℕ} [] = omega arith in ap (λ (m : ℕ). take m ys) e
@@ -17,7 +17,7 @@ take_both (suc n) (x ∷ xs) ys =
     let e : n - length xs ≡ suc n - suc (length xs) = omega arith in
     ap (λ (l : List ℕ). x ∷ l) (take_both n xs ys ∙ ap (λ (m : ℕ). take n xs ++ take m ys) e)
 
--- how many are kept
+-- the number of bytes kept
 pub how_many : (room : List ℕ) (held : ℕ) (replies : List ℕ) → held ≤ length room → take held room ≡ take (length room) replies → held ≡ min (length room) (length replies)
 how_many room held replies within front =
     sym (length-take-le held room within) ∙ ap length front ∙ length-take (length room) replies
@@ -40,7 +40,7 @@ module _ (room replies piece mid behind : List ℕ) (held n : ℕ) (over now : B
       let back_length : length behind ≡ length room - (held + n) = ap length back ∙ length-drop (held + n) room in
       length-append (take held room) (mid ++ behind) ∙ omega (arith, length-append mid behind, first_length, mid_length, back_length, fits)
 
-  -- the piece that is kept is the front of what there is room for
+  -- the piece that is kept is the front of what fits
   piece_front : take n piece ≡ take (length room - length replies) piece
   piece_front =
       let is : n ≡ min (length room - length replies) (length piece) = omega (arith, count, many) in
@@ -63,7 +63,8 @@ module _ (room replies piece mid behind : List ℕ) (held n : ℕ) (over now : B
         ∙ ap (λ (m : ℕ). nat_lt m (length (replies ++ piece))) (sym same_length);
   }
 
--- Of bytes so many are kept. Behind them the front of others is kept in what was left of the room.
+-- The first `held` bytes are kept. After them the front of others is kept in the rest of the
+-- buffer.
 module _ (room behind others : List ℕ) (held k : ℕ) (more over : Bool) (within : held ≤ length room) (size : length behind ≡ length room - held) (keeps : KeepsFront behind k over others) where
   kept_length : length (take held room) ≡ held
   kept_length = length-take-le held room within
@@ -89,7 +90,7 @@ module _ (room behind others : List ℕ) (held k : ℕ) (more over : Bool) (with
       ∙ sym (ap (λ (l : List ℕ). l ++ take (length room - length (take held room)) others) front ∙ ap (λ (m : ℕ). take held room ++ take m others) left)
       ∙ sym (take_both (length room) (take held room) others)
 
-  -- there are others behind them, where there were before, or are now
+  -- there are more after them, where there were before, or are now
   pub over_both : (more || over) ≡ (more || nat_lt (length room) (length (take held room ++ others)))
   over_both =
       let sum : length (take held room ++ others) ≡ held + length others = length-append (take held room) others ∙ ap (λ (m : ℕ). m + length others) kept_length in
@@ -110,7 +111,7 @@ module _ (room behind others : List ℕ) (held k : ℕ) (more over : Bool) (with
           omega (arith, room_stays, many, past, size, within)
       full false false is so now = absurd (true≢false (sym now))
 
--- what a vector holds whose slice behind a place was written, and keeps its length
+-- the items of a vector of which the slice from a place on was written, and its length kept
 pub written_behind : (items now behind : List ℕ) (len held : ℕ) → now ≡ items → length now ≡ len → held ≤ length items → length behind ≡ length items - held
     → take len ((take held now ++ (behind ++ drop (length now - held) (drop held now))) ++ drop (length (take held now ++ (behind ++ drop (length now - held) (drop held now)))) items) ≡ take held items ++ behind
 written_behind items now behind len held same sized within size =

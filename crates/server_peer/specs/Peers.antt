@@ -1,24 +1,25 @@
--- A peer over a server in memory, as its callers see it. This is the project's own.
+-- A peer over a server in memory, as its callers see it. The project's own.
 use Rattle.std.specs.Prelude.{◌≡◌, ◌≢◌, ℕ, ◌-◌, ◌<◌, ◌⊎◌, min, true, false, List, [], ◌∷◌, ◌++◌, length, take, drop, Result, Ok, Err, None, MatchResult}
-use Rattle.xcap_io.specs.Causes.{LineState, inward_of, no_port}
-use Rattle.xcap_io.specs.Histories.{History, no_history, with_end, with_given, with_next, with_taken}
+use Rattle.xcap_io.specs.Causes.{StreamState, inward_of, no_port}
+use Rattle.xcap_io.specs.Histories.{ConnectionHistory, no_history, with_end, with_given, with_next, with_taken}
 use Rattle.xcap_io.specs.Memory.{one_more}
 use Rattle.xcap_server.specs.Servers.{ServerState}
 use Rattle.server_peer.specs.Rooms.{RepliesState, WrittenState}
 use Rattle.server_peer.specs.Serving.{AddsReplies}
 
--- The server, what was written and replied on the present connection, what passed over the connections so far, the addresses that
--- they were begun at, the latest first, and how often a read and a write has failed.
+-- The server, the bytes written and replied on the current connection, the history of the
+-- connections so far, the addresses of the connections, the latest first, and the number of failed
+-- reads and writes.
 pub record PeerOverServer : Type 0 where
   pub server : ServerState
   pub written : WrittenState
   pub replies : RepliesState
-  pub history : History
+  pub history : ConnectionHistory
   pub addresses : List (List ℕ)
   pub read_faults : ℕ
   pub write_faults : ℕ
 
--- over this server, with so much room each way, and no connection yet
+-- over this server, with buffers of this many bytes each way, and no connection yet
 abbrev pub new_peer : ServerState → ℕ → PeerOverServer
 new_peer server room = record {
   server = server;
@@ -30,8 +31,8 @@ new_peer server room = record {
   write_faults = 0;
 }
 
--- As a line it tells what passed, but not what reads will give. `connect` never fails.
-abbrev pub peer_line : PeerOverServer → LineState
+-- As a stream it shows its traffic, but not what reads will give. `connect` never fails.
+abbrev pub peer_line : PeerOverServer → StreamState
 peer_line p = record {
   inward = inward_of p.history.now;
   taken = p.history.now.taken;
@@ -50,48 +51,49 @@ peer_line p = record {
 
 -- ---- writes
 
--- a connection is present, and fewer bytes were written on it than there is room for
+-- there is a current connection, and its buffer for written bytes isn't full
 abbrev pub HasRoom : PeerOverServer → Type 0
 HasRoom p = (p.history.is_present ≡ true) × (length p.written.bytes < p.written.room)
 
--- no connection is present, or so many bytes were written on it as there is room for
+-- there is no current connection, or its buffer for written bytes is full
 abbrev pub IsFull : PeerOverServer → Type 0
 IsFull p = (p.history.is_present ≡ false) ⊎ (length p.written.bytes ≡ p.written.room)
 
--- the peer, on whose present connection these bytes were written behind the others
+-- the peer after these bytes were written on the current connection
 abbrev pub with_written : PeerOverServer → List ℕ → PeerOverServer
 with_written p bytes = record p { written = record p.written { bytes = p.written.bytes ++ bytes }; history = with_taken p.history bytes }
 
--- A write takes what there is room for, and fails exactly where there is none.
+-- A write takes the bytes that fit, and fails exactly where the buffer is full.
 abbrev pub PeerWrite : {E : Type 0} → PeerOverServer → PeerOverServer → List ℕ → Result ℕ E → Type 0
 PeerWrite old new piece (Ok n) = HasRoom old × (n ≡ min (length piece) (old.written.room - length old.written.bytes)) × (new ≡ with_written old (take n piece))
 PeerWrite old new piece (Err e) = IsFull old × (new ≡ record old { write_faults = one_more old.write_faults })
 
 -- ---- reads
 
--- the bytes that were written since the server replied last
-abbrev pub unserved : PeerOverServer → List ℕ
-unserved p = drop p.written.served p.written.bytes
+-- the bytes that were written since the server's last replies
+abbrev pub unserved_bytes : PeerOverServer → List ℕ
+unserved_bytes p = drop p.written.served p.written.bytes
 
--- The server replied to all that was written since it replied last, as to the bytes of one connection.
+-- The server served all that was written since its last replies, as the bytes of one connection.
 pub record ServesWritten (old new : PeerOverServer) : Type 0 where
-  pub adds : AddsReplies old.server new.server (unserved old) old.replies new.replies
+  pub adds : AddsReplies old.server new.server (unserved_bytes old) old.replies new.replies
   pub leaves : new ≡ record old { server = new.server; written = record old.written { served = length old.written.bytes }; replies = new.replies }
 
--- Before a read gives anything the server replies to what was written since it replied last, if anything was.
+-- Before a read gives anything, the server serves what was written since its last replies, if
+-- anything was.
 abbrev pub Settles : PeerOverServer → PeerOverServer → Type 0
-Settles old new = ((unserved old ≡ []) × (new ≡ old)) ⊎ ((unserved old ≢ []) × ServesWritten old new)
+Settles old new = ((unserved_bytes old ≡ []) × (new ≡ old)) ⊎ ((unserved_bytes old ≢ []) × ServesWritten old new)
 
 -- the replies that no read has given yet
 abbrev pub unread : PeerOverServer → List ℕ
 unread p = drop (length p.history.now.given) p.replies.bytes
 
--- so many bytes of replies were read as there is room for, and more are due
+-- the buffer for replies was read to its end, and more are due
 abbrev pub IsSpent : PeerOverServer → Type 0
 IsSpent p = (length p.history.now.given ≡ p.replies.room) × (p.replies.more ≡ true)
 
--- A read of so much gives the next bytes of the replies, and fails exactly where as many were read as there is room for and more
--- are due.
+-- A read of at most `wanted` bytes gives the next bytes of the replies, and fails exactly where
+-- the buffer for replies was read to its end and more are due.
 abbrev pub GivesReplies : {E : Type 0} → PeerOverServer → PeerOverServer → ℕ → Result ℕ E → Type 0
 GivesReplies old new wanted (Ok n) = ¬ (IsSpent old) × (n ≡ min wanted (length (unread old))) × (new ≡ record old { history = with_given old.history (take n (unread old)) })
 GivesReplies old new wanted (Err e) = IsSpent old × (new ≡ record old { read_faults = one_more old.read_faults })
@@ -101,7 +103,7 @@ PeerRead old new wanted result = (mid : PeerOverServer) × Settles old mid × Gi
 
 -- ---- connections
 
--- the present connection ended, if one was present, and one at this address began, over which nothing has passed
+-- the current connection ended, if there was one, and a new one at this address began
 abbrev pub with_connection : PeerOverServer → List ℕ → PeerOverServer
 with_connection p address = record p {
   written = record p.written { bytes = []; served = 0 };
@@ -110,6 +112,6 @@ with_connection p address = record p {
   addresses = address ∷ p.addresses;
 }
 
--- it never fails
+-- `connect` never fails
 abbrev pub PeerConnect : {E : Type 0} → PeerOverServer → PeerOverServer → Result (Unit {0}) E → List ℕ → Type 0
 PeerConnect old new result address = MatchResult result (λ _. new ≡ with_connection old address) (λ _. ⊥)

@@ -1,19 +1,20 @@
--- What was written on a connection in memory, and what was replied on it, as far as there is room. This is the project's own.
+-- The bytes written on a connection in memory, and the replies on it, as far as they fit into
+-- buffers. The project's own.
 use Rattle.std.specs.Prelude.{ℕ, nat_lt, Bool, ◌||◌, List, ◌++◌, length, take}
 
--- What was written, how many of these bytes the server has replied to, and how many can be written.
+-- The bytes written, how many of them the server has served, and the size of the buffer.
 pub record WrittenState : Type 0 where
   pub bytes : List ℕ
   pub served : ℕ
   pub room : ℕ
 
--- What the server replied, as far as there is room, and whether it replied more than that.
+-- The replies that fit into the buffer, whether there were more, and the size of the buffer.
 pub record RepliesState : Type 0 where
   pub bytes : List ℕ
   pub more : Bool
   pub room : ℕ
 
--- the replies with these bytes behind them, as far as there is room
+-- these bytes appended to the replies, as far as they fit
 abbrev pub with_replies : RepliesState → List ℕ → RepliesState
 with_replies r bytes = record {
   bytes = take r.room (r.bytes ++ bytes);

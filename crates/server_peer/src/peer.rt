@@ -2,31 +2,32 @@
 ghost use Rattle.std.specs.Prelude.{◌≡◌, ◌<◌, [], false, length, IfOk};
 ghost use Rattle.std.specs.Io.{ReadsAtMost};
 ghost use Rattle.xcap_io.specs.Causes.{OnlyReads, OnlyWrites};
-ghost use Rattle.xcap_io.specs.Connections.{OnlyConnects};
-ghost use Rattle.xcap_io.specs.Passing.{ReadGave, WriteTook};
+ghost use Rattle.xcap_io.specs.Connections.{ConnectsOnly};
+ghost use Rattle.xcap_io.specs.StreamTraffic.{GivesReadBytes, TakesWrittenBytes};
 ghost use Rattle.xcap_io.specs.Streams.{WritesSome};
 ghost use Rattle.server_peer.specs.Peers.{GivesReplies, PeerConnect, PeerRead, PeerWrite, Settles, new_peer, peer_line};
 
 use crate::replies::Replies;
-use crate::written::Written;
+use crate::written_bytes::WrittenBytes;
 use std::alloc::Global;
 use std::marker::Model;
-use xcap_io::{Failed, Line, Log, NoMemory, Peer, Remembered, Sink, Source, fault};
+use xcap_io::{AddressHistory, Failed, Line, NoMemory, Peer, Sink, Source, TrafficLog, fault};
 use xcap_server::Server;
 
-/// A peer whose connections lead to a server in memory. What is written on a connection since the server replied last is
-/// served, as the bytes of one connection of the server, at the first read after it, and then the replies are read. It tells
-/// what passed over each connection, and the address of each.
+/// A peer whose connections lead to a server in memory. What was written on a connection since the
+/// server's last replies is served, as the bytes of one connection of the server, at the first
+/// read after it, and then the replies are read. Contracts see the traffic on each connection, and
+/// the address of each.
 #[derive(Drop)]
 pub struct ServerPeer {
     alloc: Global,
     server: Server,
-    written: Written,
+    written: WrittenBytes,
     replies: Replies,
     is_begun: bool,
     given: usize,
-    log: Log,
-    addresses: Remembered,
+    log: TrafficLog,
+    addresses: AddressHistory,
     read_faults: u64,
     write_faults: u64,
 }
@@ -59,26 +60,29 @@ impl Model for ServerPeer {
         × (p.given ≤ length p.replies.bytes) };
 }
 
-// Room for what is written and for the replies, so many bytes each.
-fn rooms(alloc: Global, room: usize) -> Result<(Written, Replies), NoMemory>
-    ensures both_are_empty { IfOk result (λ both. (both.0 ≡ record { bytes = []; served = 0; room = room })
+// Buffers for the bytes written and for the replies, of `room` bytes each.
+fn rooms(alloc: Global, room: usize) -> Result<(WrittenBytes, Replies), NoMemory>
+    ensures both_empty { IfOk result
+        (λ both. (both.0 ≡ record { bytes = []; served = 0; room = room })
         × (both.1 ≡ record { bytes = []; more = false; room = room })) }
 {
-    let written = Written::new(alloc, room)?;
+    let written = WrittenBytes::new(alloc, room)?;
     let replies = Replies::new(alloc, room)?;
     Ok((written, replies))
 }
 
 impl ServerPeer {
-    /// A peer over this server. It takes memory for `room` bytes that are written on a connection and for `room` bytes of
-    /// replies, and keeps `alloc`, from which the server's replies are taken.
+    /// A peer over this server. It reserves `room` bytes for what is written on a connection and
+    /// `room` bytes for the replies, and keeps `alloc`, from which the server's replies are
+    /// allocated.
     ///
     /// # Errors
-    /// `NoMemory` for want of memory.
+    /// `NoMemory` when out of memory.
     pub fn new(alloc: Global, server: Server, room: usize) -> Result<ServerPeer, NoMemory>
-        ensures leads_to_the_server { IfOk result (λ peer. peer ≡ new_peer server room) }
+        ensures ok { IfOk result (λ peer. peer ≡ new_peer server room) }
     {
         let Ok((written, replies)) = rooms(alloc, room) else {
+            // Dropped by a call, whose proof is made once, rather than at each exit.
             drop(server);
             return Err(NoMemory);
         };
@@ -89,25 +93,25 @@ impl ServerPeer {
             replies,
             is_begun: false,
             given: 0,
-            log: Log::new(),
-            addresses: Remembered::new(),
+            log: TrafficLog::new(),
+            addresses: AddressHistory::new(),
             read_faults: 0,
             write_faults: 0,
         })
     }
 
-    /// The server. Takes no memory.
+    /// The server. Does not allocate.
     pub fn server(&self) -> &Server
-        ensures lends_the_server { result.now ≡ self.now.server }
+        ensures exact { result.now ≡ self.now.server }
     {
         &self.server
     }
 
-    // The server replies to what was written since it replied last, if anything was.
+    // Serves what was written since the server's last replies, if anything was.
     fn settle(&mut self)
-        ensures settles_what_was_written { Settles self.old self.new }
+        ensures settles_written { Settles self.old self.new }
     {
-        let asked = self.written.unserved();
+        let asked = self.written.unserved_bytes();
         if asked.is_empty() {
             return;
         }
@@ -118,10 +122,11 @@ impl ServerPeer {
     // Gives the next bytes of the replies.
     fn give(&mut self, buf: &mut [u8]) -> Result<usize, Failed>
         requires { 0 < length buf.old }
-        ensures within_the_piece_or_buffer { ReadsAtMost result buf.new }
-        ensures writes_all_or_a_proper_front { ReadGave (peer_line self.old).inward (peer_line self.new).inward result buf.new }
+        ensures in_bounds { ReadsAtMost result buf.new }
+        ensures all_or_prefix { GivesReadBytes (peer_line self.old).inward
+            (peer_line self.new).inward result buf.new }
         ensures only_reads { OnlyReads (peer_line self.old) (peer_line self.new) result }
-        ensures does_what_memory_does { GivesReplies self.old self.new (length buf.old) result }
+        ensures as_memory_form { GivesReplies self.old self.new (length buf.old) result }
     {
         if self.replies.is_spent(self.given) {
             return Err(fault(&mut self.read_faults));
@@ -142,10 +147,11 @@ impl Line for ServerPeer {
 impl Source for ServerPeer {
     fn read(&mut self, buf: &mut [u8]) -> Result<usize, Failed>
         requires { 0 < length buf.old }
-        ensures within_the_piece_or_buffer { ReadsAtMost result buf.new }
-        ensures gives_bytes_behind_those_before { ReadGave (peer_line self.old).inward (peer_line self.new).inward result buf.new }
+        ensures in_bounds { ReadsAtMost result buf.new }
+        ensures appends_read { GivesReadBytes (peer_line self.old).inward
+            (peer_line self.new).inward result buf.new }
         ensures only_reads { OnlyReads (peer_line self.old) (peer_line self.new) result }
-        ensures does_what_memory_does { PeerRead self.old self.new (length buf.old) result }
+        ensures as_memory_form { PeerRead self.old self.new (length buf.old) result }
     {
         self.settle();
         self.give(buf)
@@ -155,10 +161,11 @@ impl Source for ServerPeer {
 impl Sink for ServerPeer {
     fn write(&mut self, piece: &[u8]) -> Result<usize, Failed>
         requires { 0 < length piece.now }
-        ensures within_the_piece_or_buffer { WritesSome result piece.now }
-        ensures takes_bytes_behind_those_before { WriteTook (peer_line self.old).taken (peer_line self.new).taken result piece.now }
+        ensures in_bounds { WritesSome result piece.now }
+        ensures appends_written { TakesWrittenBytes (peer_line self.old).taken
+            (peer_line self.new).taken result piece.now }
         ensures only_writes { OnlyWrites (peer_line self.old) (peer_line self.new) result }
-        ensures does_what_memory_does { PeerWrite self.old self.new piece.now result }
+        ensures as_memory_form { PeerWrite self.old self.new piece.now result }
     {
         if !self.is_begun {
             return Err(fault(&mut self.write_faults));
@@ -174,7 +181,8 @@ impl Sink for ServerPeer {
 
 impl Peer for ServerPeer {
     fn connect(&mut self, address: &str) -> Result<(), Failed>
-        ensures only_connects { OnlyConnects (peer_line self.old) (peer_line self.new) result address.now }
+        ensures only_connects { ConnectsOnly (peer_line self.old)
+            (peer_line self.new) result address.now }
         ensures never_fails { PeerConnect self.old self.new result address.now }
     {
         self.written.clear();

@@ -1,4 +1,4 @@
-// What a server replied on the present connection.
+// The server's replies on the current connection.
 ghost use Rattle.std.specs.Prelude.{◌≡◌, ◌<◌, ◌≤◌, ◌^◌, ◌&&◌, ◌==◌, [], false, length, drop, IfOk};
 ghost use Rattle.server_peer.specs.Serving.{AddsReplies};
 
@@ -8,7 +8,7 @@ use std::marker::Model;
 use xcap_io::NoMemory;
 use xcap_server::Server;
 
-// The bytes of replies that there is room for, and whether there were more.
+// The bytes of replies that fit into the buffer, and whether there were more.
 #[derive(Drop)]
 pub(crate) struct Replies {
     room: Vec<u8>,
@@ -28,9 +28,10 @@ impl Model for Replies {
 }
 
 impl Replies {
-    // No replies, and room for so many bytes.
+    // No replies, and a buffer of `room` bytes.
     pub(crate) fn new(alloc: Global, room: usize) -> Result<Replies, NoMemory>
-        ensures nothing_is_replied { IfOk result (λ replies. replies ≡ record { bytes = []; more = false; room = room }) }
+        ensures nothing_is_replied { IfOk result
+            (λ replies. replies ≡ record { bytes = []; more = false; room = room }) }
     {
         Ok(Replies {
             room: vec![in alloc; 0; room]?,
@@ -39,34 +40,34 @@ impl Replies {
         })
     }
 
-    // The server replies to the bytes, behind the replies before.
+    // Serves these bytes, and appends the replies.
     pub(crate) fn add(&mut self, alloc: Global, server: &mut Server, asked: &[u8])
-        ensures adds_the_replies { AddsReplies server.old server.new asked.now self.old self.new }
-        ensures within_the_room { length self.old.bytes ≤ self.old.room }
+        ensures adds_replies { AddsReplies server.old server.new asked.now self.old self.new }
+        ensures within_capacity { length self.old.bytes ≤ self.old.room }
     {
         let replied = reply_to(alloc, server, asked, &mut self.room[self.held..]);
         self.held += replied.held;
         self.is_over |= replied.is_over;
     }
 
-    // The bytes behind the first so many.
+    // The bytes after the first `given`.
     pub(crate) fn behind(&self, given: usize) -> &[u8]
         requires inside { given ≤ length self.now.bytes }
-        ensures lends_those_behind { result.now ≡ drop given self.now.bytes }
-        ensures fit_a_length { length self.now.bytes < 2 ^ 64 }
+        ensures exact { result.now ≡ drop given self.now.bytes }
+        ensures fits_u64 { length self.now.bytes < 2 ^ 64 }
     {
         &self.room[given..self.held]
     }
 
-    // Whether so many bytes are all that there is room for, and there were more.
+    // Whether `given` bytes fill the buffer, and there were more.
     pub(crate) fn is_spent(&self, given: usize) -> bool
         requires inside { given ≤ length self.now.bytes }
-        ensures tells_whether_more_is_due { result ≡ (given == self.now.room) && self.now.more }
+        ensures exact { result ≡ (given == self.now.room) && self.now.more }
     {
         given == self.room.len() && self.is_over
     }
 
-    // Forgets the replies.
+    // Drops the replies.
     pub(crate) fn clear(&mut self)
         ensures nothing_is_replied { self.new ≡ record self.old { bytes = []; more = false } }
     {

@@ -3,9 +3,10 @@ ghost use Rattle.std.specs.Prelude.{◌≡◌, ◌≤◌, length, drop};
 ghost use Rattle.xcap_io.specs.Histories.{no_traffic};
 ghost use Rattle.server_peer.specs.inner.Ends.{KeepsFront, end_state};
 
-use xcap_io::{Failed, Line, Log, Sink, Source};
+use xcap_io::{Failed, Line, Sink, Source, TrafficLog};
 
-// It gives the bytes that were asked, takes all bytes of replies, and keeps as many of these as there is room for.
+// It gives the request bytes, takes all bytes of replies, and keeps as many of these as fit into
+// `room`.
 #[derive(Drop)]
 pub(crate) struct ServerEnd<'a> {
     asked: &'a [u8],
@@ -13,15 +14,16 @@ pub(crate) struct ServerEnd<'a> {
     room: &'a mut [u8],
     pub(crate) held: usize,
     pub(crate) is_over: bool,
-    log: Log,
+    log: TrafficLog,
     ghost inside: { given ≤ length asked.now },
     ghost keeps: { KeepsFront room.now held is_over log.history.now.taken },
 }
 
 impl<'a> ServerEnd<'a> {
-    // The end of a connection on which these bytes are asked, over which nothing has passed.
+    // The end of a new connection on which these bytes will come.
     pub(crate) fn new(asked: &'a [u8], room: &'a mut [u8]) -> ServerEnd<'a>
-        ensures nothing_passed { ⟦<ServerEnd<'a> as Line>⟧.state result ≡ end_state asked.now no_traffic room.entry.ghost_name }
+        ensures nothing_passed { ⟦<ServerEnd<'a> as Line>⟧.state result
+            ≡ end_state asked.now no_traffic room.entry.ghost_name }
     {
         ServerEnd {
             asked,
@@ -29,7 +31,7 @@ impl<'a> ServerEnd<'a> {
             room,
             held: 0,
             is_over: false,
-            log: Log::new(),
+            log: TrafficLog::new(),
         }
     }
 }

@@ -1,4 +1,4 @@
-// A server replies to some bytes, as to those of one connection.
+// A server serves some bytes as one connection.
 ghost use Rattle.server_peer.specs.inner.Serving.{FillsRoom};
 
 use crate::server_end::ServerEnd;
@@ -6,18 +6,20 @@ use std::alloc::Global;
 use watchers::Watcher;
 use xcap_server::{Server, serve_connection};
 
-// How many bytes of the replies were kept, and whether there are others.
+// The number of reply bytes that were kept, and whether there are more.
 #[derive(Clone, Copy, PartialEq, Eq)]
 pub(crate) struct Replied {
     pub(crate) held: usize,
     pub(crate) is_over: bool,
 }
 
-// The server replies to the bytes. Of the replies those at the front are kept, as far as there is room. No watcher is told.
+// Serves these bytes as one connection. The front of the replies is kept, as far as it fits into
+// `room`. No watcher is notified.
 pub(crate) fn reply_to(alloc: Global, server: &mut Server, asked: &[u8], room: &mut [u8]) -> Replied
-    ensures replies_to_the_bytes { FillsRoom server.old server.new asked.now room.old room.new result.held result.is_over }
+    ensures replies_to_bytes { FillsRoom server.old server.new asked.now room.old room.new
+        result.held result.is_over }
 {
-    server.store().stands();
+    server.store().represents_valid_state();
     let mut end = ServerEnd::new(asked, room);
     let mut watchers: Vec<Box<dyn Watcher>> = Vec::new(alloc);
     serve_connection(server, &mut end, &mut watchers);

@@ -1,4 +1,5 @@
--- The store makes each change that suits the state that it stands for, while there is a number for it.
+-- The store makes each change that suits the state that its contents represent, while there is a
+-- number for it.
 use Rattle.std.proofs.Common.{◌≡◌, ◌≢◌, ℕ, ◌+◌, ◌<◌, ◌≤◌, nat_lt, nat_le, min, Bool, true, false, not, ◌&&◌, cond, List, [], ◌∷◌, ◌++◌, length, map, filter, find, sum_by, Option, None, Some, IsSomeAnd, option_map, Ok, refl, sym, ap, subst, ◌∙◌, arith, length-append}
 use Rattle.std.specs.List.{AllByRecursion, flat_map}
 use Rattle.std.proofs.lemmas.Bool.Decides.{nat_tests}
@@ -10,23 +11,23 @@ use Rattle.xml_tree.specs.Tree.{Tree}
 use Rattle.usage_docs.specs.Services.{document_len}
 use Rattle.usage_docs.specs.declared.keys.Clash.{Clash}
 use Rattle.doc_names.specs.declared.usages.Usage.{Usage}
-use Rattle.doc_names.specs.Same.{same_id}
+use Rattle.doc_names.specs.Equality.{same_id}
 use Rattle.doc_names.specs.declared.doc_id.DocId.{DocId}
 use Rattle.edit_ops.specs.Changes.{Fits, edited}
 use Rattle.edit_ops.specs.declared.change.Change.{Change}
-use Rattle.notes.specs.Notes.{note_of}
+use Rattle.edit_ops.specs.Notes.{note_of}
 use Rattle.store_core.specs.declared.refusal.StoreRefusal.{StoreRefusal}
 use Rattle.store_core.specs.declared.refusal.StoreRefusal.TheVariants.{ServiceTaken, TooLarge, TooMany, StoreFull, NoNumber}
 use Rattle.store_core.specs.State.{Document, State, created, renewed}
-use Rattle.store_core.specs.Held.{Held, Stands, held_of, Stock as Content, stock_of as content_of}
-use Rattle.store_core.specs.Keeping.{AreApart, IsSoundFor, Kept, addresses, addresses_in}
+use Rattle.store_core.specs.Contents.{StoredDocument, Represents, stored_of, StoreContents as Content, stock_of as content_of}
+use Rattle.store_core.specs.ValidStates.{AreDistinct, IsSoundFor, IsValidState, addresses, addresses_in}
 use Rattle.doc_names.specs.Usages.{usage_of}
-use Rattle.store_core.specs.Changing.{Act, Makes, Edits, Removes, act_of, after_act, against, against_number, against_tree, answered, changing, content_after, document_in, held_name, note_for, only_if, other_addresses, other_lengths, taken}
-use Rattle.store_core.specs.Suiting.{Suits, SuitsAct}
+use Rattle.store_core.specs.DocumentChanges.{Act, Makes, Edits, Removes, act_of, after_act, against, against_number, against_tree, answered, changing, content_after, document_in, stored_name, note_for, only_if, other_addresses, other_lengths, taken}
+use Rattle.store_core.specs.AcceptableChanges.{Suits, SuitsAct}
 use Rattle.store_core.proofs.Apart.{none-filtered, one-exchanged, one-filtered}
 use Rattle.store_core.proofs.KeptAfter.{round}
 use Rattle.doc_names.proofs.SameIds.{id_exact}
-use Rattle.store_core.proofs.Accepted.{uris_of, length_of, rest, rest-addresses, rest-lengths, sum-put, sum-first, find-map, unfound}
+use Rattle.store_core.proofs.Accepted.{uris_of, length_of, rest, rest-addresses, rest-lengths, sum-put, sum-first, find-map, not_found_refusal}
 use Rattle.store_core.proofs.Admitted.{apart-unmix, neither, no-more, not-told, not-yet, nothing-taken}
 
 admits-tree : (c : Content) (id : DocId) (is_new : Bool) (t : Tree) → AllByRecursion (λ uri. AllByRecursion (λ o. uri ≢ o) (other_addresses c id)) (addresses_in id.auid t) → document_len t ≤ 262144 → (is_new && nat_le 1000 (length c.documents)) ≡ false → other_lengths c id + document_len t ≤ 33554432 → against_tree c id is_new t ≡ None
@@ -51,36 +52,36 @@ short-of : (usage : Option Usage) (t : Tree) → IsSoundFor usage t → document
 short-of None t h = absurd h
 short-of (Some usage) t h = h.short
 
-few-before : (m : State) (d : Document) → length (m.documents ++ d ∷ []) ≤ 1000 → length (map held_of m.documents) + 1 ≤ 1000
-few-before m d h = omega (arith, h, length-map m.documents held_of, length-append m.documents (d ∷ []))
+few-before : (m : State) (d : Document) → length (m.documents ++ d ∷ []) ≤ 1000 → length (map stored_of m.documents) + 1 ≤ 1000
+few-before m d h = omega (arith, h, length-map m.documents stored_of, length-append m.documents (d ∷ []))
 
 room-before : (ds : List Document) (d : Document) (n : ℕ) → n ≡ sum_by length_of ds → sum_by length_of (ds ++ d ∷ []) ≤ 33554432 → n + length_of d ≤ 33554432
 room-before ds d n e h = omega (arith, e, h, sum_by-append length_of ds (d ∷ []), sum-first length_of d [])
 
-admits-made : (m : State) (id : DocId) (change : Change) (root : Tree) → SuitsAct m id change (Makes root) → AreApart (addresses (after_act m id change (Makes root)).documents) → length (after_act m id change (Makes root)).documents ≤ 1000
+admits-made : (m : State) (id : DocId) (change : Change) (root : Tree) → SuitsAct m id change (Makes root) → AreDistinct (addresses (after_act m id change (Makes root)).documents) → length (after_act m id change (Makes root)).documents ≤ 1000
     → sum_by (λ d. document_len d.now.tree) (after_act m id change (Makes root)).documents ≤ 33554432 → against_tree (content_of m) id true root ≡ None
 admits-made m id change root s services few room =
     let new = created id m.next root in
-    let all : rest m id ≡ m.documents = none-filtered (λ (e : Document). same_id id e.id) m.documents (unfound (λ (e : Document). same_id id e.id) m.documents s.0) in
+    let all : rest m id ≡ m.documents = none-filtered (λ (e : Document). same_id id e.id) m.documents (not_found_refusal (λ (e : Document). same_id id e.id) m.documents s.0) in
     let others : other_addresses (content_of m) id ≡ addresses m.documents ++ [] = rest-addresses m id ∙ ap (λ (ds : List Document). addresses ds) all ∙ sym (append-nil (addresses m.documents)) in
     let own = addresses_in id.auid root in
     admits-tree (content_of m) id true root
     (subst (λ (xs : List (List ℕ)). AllByRecursion (λ uri. AllByRecursion (λ o. uri ≢ o) xs) own) (sym others)
-    (apart-unmix (addresses m.documents) own [] (subst (λ (xs : List (List ℕ)). AreApart xs) (flat_map-append uris_of m.documents (new ∷ [])) services)))
-    (short-of (usage_of id.auid) root s.3) (not-yet (length (map held_of m.documents)) (few-before m new few))
+    (apart-unmix (addresses m.documents) own [] (subst (λ (xs : List (List ℕ)). AreDistinct xs) (flat_map-append uris_of m.documents (new ∷ [])) services)))
+    (short-of (usage_of id.auid) root s.3) (not-yet (length (map stored_of m.documents)) (few-before m new few))
     (room-before m.documents new (other_lengths (content_of m) id) (rest-lengths m id ∙ ap (λ (ds : List Document). sum_by length_of ds) all) room)
 
-admits-edited : (m : State) (id : DocId) (change : Change) → Kept m → (o : Option Document) → find (λ e. same_id id e.id) m.documents ≡ o
-    → IsSomeAnd o (λ d. Fits d.now.tree change × IsSoundFor (usage_of d.id.auid) (edited d.now.tree change)) → AreApart (addresses (after_act m id change Edits).documents)
-    → sum_by (λ d. document_len d.now.tree) (after_act m id change Edits).documents ≤ 33554432 → m.next < 18446744073709551616 → against (content_of m) id change (option_map held_of o) Edits ≡ None
+admits-edited : (m : State) (id : DocId) (change : Change) → IsValidState m → (o : Option Document) → find (λ e. same_id id e.id) m.documents ≡ o
+    → IsSomeAnd o (λ d. Fits d.now.tree change × IsSoundFor (usage_of d.id.auid) (edited d.now.tree change)) → AreDistinct (addresses (after_act m id change Edits).documents)
+    → sum_by (λ d. document_len d.now.tree) (after_act m id change Edits).documents ≤ 33554432 → m.next < 18446744073709551616 → against (content_of m) id change (option_map stored_of o) Edits ≡ None
 admits-edited m id change k None e s services room number = absurd s
 admits-edited m id change k (Some d) e s services room number =
     let r = round m id d k e in
     let t = edited d.now.tree change in
-    let renew : Document → Document = λ e. renewed m.next e (note_of e.now.tag m.next e.now.tree change) in
-    let docs : (after_act m id change Edits).documents ≡ r.before ++ renew d ∷ r.behind =
-    ap (λ (ds : List Document). map (λ e. cond (same_id id e.id) (renew e) e) ds) r.parts
-    ∙ one-exchanged (λ (e : Document). same_id id e.id) renew r.before r.behind d r.none-before r.passes r.none-behind in
+    let update_entry : Document → Document = λ e. renewed m.next e (note_of e.now.tag m.next e.now.tree change) in
+    let docs : (after_act m id change Edits).documents ≡ r.before ++ update_entry d ∷ r.behind =
+    ap (λ (ds : List Document). map (λ e. cond (same_id id e.id) (update_entry e) e) ds) r.parts
+    ∙ one-exchanged (λ (e : Document). same_id id e.id) update_entry r.before r.behind d r.none-before r.passes r.none-behind in
     let others : rest m id ≡ r.before ++ r.behind =
     ap (λ (ds : List Document). filter (λ e. not (same_id id e.id)) ds) r.parts
     ∙ one-filtered (λ (e : Document). same_id id e.id) r.before r.behind d r.none-before r.passes r.none-behind in
@@ -89,26 +90,26 @@ admits-edited m id change k (Some d) e s services room number =
     let apart : AllByRecursion (λ uri. AllByRecursion (λ o. uri ≢ o) (other_addresses (content_of m) id)) own =
     subst (λ (xs : List (List ℕ)). AllByRecursion (λ uri. AllByRecursion (λ o. uri ≢ o) xs) own)
     (sym (rest-addresses m id ∙ ap (λ (ds : List Document). addresses ds) others ∙ flat_map-append uris_of r.before r.behind))
-    (apart-unmix (flat_map uris_of r.before) own (flat_map uris_of r.behind) (subst (λ (xs : List (List ℕ)). AreApart xs) (ap (λ (ds : List Document). addresses ds) docs ∙ flat_map-append uris_of r.before (renew d ∷ r.behind)) services)) in
+    (apart-unmix (flat_map uris_of r.before) own (flat_map uris_of r.behind) (subst (λ (xs : List (List ℕ)). AreDistinct xs) (ap (λ (ds : List Document). addresses ds) docs ∙ flat_map-append uris_of r.before (update_entry d ∷ r.behind)) services)) in
     neither (against_tree (content_of m) id false t) (against_number (content_of m))
     (admits-tree (content_of m) id false t (subst (λ (i : DocId). AllByRecursion (λ uri. AllByRecursion (λ o. uri ≢ o) (other_addresses (content_of m) id)) (addresses_in i.auid t)) same apart)
     (short-of (usage_of d.id.auid) t s.1) refl
-    (omega (arith, room, rest-lengths m id, ap (λ (ds : List Document). sum_by length_of ds) others, ap (λ (ds : List Document). sum_by length_of ds) docs, sum-put length_of r.before (renew d) r.behind)))
+    (omega (arith, room, rest-lengths m id, ap (λ (ds : List Document). sum_by length_of ds) others, ap (λ (ds : List Document). sum_by length_of ds) docs, sum-put length_of r.before (update_entry d) r.behind)))
     (has-number (content_of m) number)
 
-admits : (m : State) (id : DocId) (change : Change) (act : Act) → Kept m → SuitsAct m id change act → AreApart (addresses (after_act m id change act).documents) → length (after_act m id change act).documents ≤ 1000
-    → sum_by (λ d. document_len d.now.tree) (after_act m id change act).documents ≤ 33554432 → m.next < 18446744073709551616 → against (content_of m) id change (document_in held_name (map held_of m.documents) id) act ≡ None
+admits : (m : State) (id : DocId) (change : Change) (act : Act) → IsValidState m → SuitsAct m id change act → AreDistinct (addresses (after_act m id change act).documents) → length (after_act m id change act).documents ≤ 1000
+    → sum_by (λ d. document_len d.now.tree) (after_act m id change act).documents ≤ 33554432 → m.next < 18446744073709551616 → against (content_of m) id change (document_in stored_name (map stored_of m.documents) id) act ≡ None
 admits m id change (Makes root) k s services few room number =
     neither (against_tree (content_of m) id true root) (against_number (content_of m)) (admits-made m id change root s services few room) (has-number (content_of m) number)
 admits m id change Edits k s services few room number =
     let o = find (λ (e : Document). same_id id e.id) m.documents in
-    subst (λ (x : Option Held). against (content_of m) id change x Edits ≡ None) (sym (find-map held_of (λ (h : Held). same_id id h.id) m.documents)) (admits-edited m id change k o refl s services room number)
+    subst (λ (x : Option StoredDocument). against (content_of m) id change x Edits ≡ None) (sym (find-map stored_of (λ (h : StoredDocument). same_id id h.id) m.documents)) (admits-edited m id change k o refl s services room number)
 admits m id change Removes k s services few room number = has-number (content_of m) number
 
-pub suiting-made : (c : Content) (m : State) (id : DocId) (change : Change) → Stands c m → Kept m → Suits m id change → m.next < 18446744073709551616
-    → changing c id change ≡ Ok (note_for c id change (document_in held_name c.documents id), content_after c id change)
+pub suiting-made : (c : Content) (m : State) (id : DocId) (change : Change) → Represents c m → IsValidState m → Suits m id change → m.next < 18446744073709551616
+    → changing c id change ≡ Ok (note_for c id change (document_in stored_name c.documents id), content_after c id change)
 suiting-made c m id change s k t number =
-    let found = document_in held_name c.documents id in
+    let found = document_in stored_name c.documents id in
     let h : against c id change found (act_of change) ≡ None =
-    subst (λ (d : Content). against d id change (document_in held_name d.documents id) (act_of change) ≡ None) (sym s) (admits m id change (act_of change) k t.act t.services t.few t.room number) in
+    subst (λ (d : Content). against d id change (document_in stored_name d.documents id) (act_of change) ≡ None) (sym s) (admits m id change (act_of change) k t.act t.services t.few t.room number) in
     ap (λ (o : Option StoreRefusal). answered o (note_for c id change found) (content_after c id change)) h

@@ -1,4 +1,4 @@
--- A change that suits the state is refused for want of a number alone.
+-- A change that suits the state is refused only for lack of a number.
 use Rattle.std.proofs.Common.{◌≡◌, ◌≢◌, ℕ, ◌+◌, ◌≤◌, nat_lt, nat_le, Bool, true, false, ◌&&◌, ◌||◌, List, [], ◌∷◌, ◌++◌, Option, None, option_map, refl, sym, ap, ◌∙◌, arith}
 use Rattle.std.specs.List.{AllByRecursion, position_from}
 use Rattle.std.specs.Set.{is_member}
@@ -8,18 +8,18 @@ use Rattle.std.proofs.lemmas.Iterator.Adapters.{position_from-zero}
 use Rattle.std.proofs.lemmas.Slice.Eq.{bytes_eq-Decides}
 use Rattle.std.specs.Option.{option_or as or_else}
 use Rattle.usage_docs.specs.declared.keys.Clash.{Clash}
-use Rattle.usage_docs.specs.declared.rows.Key.TheVariants.{Uri}
+use Rattle.usage_docs.specs.declared.schema_table.Key.TheVariants.{Uri}
 use Rattle.store_core.specs.declared.refusal.StoreRefusal.{StoreRefusal}
-use Rattle.store_core.specs.Keeping.{AreApart}
-use Rattle.store_core.specs.Changing.{only_if, taken}
+use Rattle.store_core.specs.ValidStates.{AreDistinct}
+use Rattle.store_core.specs.DocumentChanges.{only_if, taken}
 use Rattle.store_core.proofs.Apart.{each-append, each-right, apart-behind, apart-cut}
 
 module _ {X : Type 0} where
-  pub apart-before : (xs ys : List X) (n : X) → AreApart (xs ++ n ∷ ys) → AllByRecursion (λ y. n ≢ y) xs
+  pub apart-before : (xs ys : List X) (n : X) → AreDistinct (xs ++ n ∷ ys) → AllByRecursion (λ y. n ≢ y) xs
   apart-before [] ys n a = tt
   apart-before (x ∷ xs) ys n a = ((λ e. (each-right (λ y. x ≢ y) xs (n ∷ ys) a.0).0 (sym e)), apart-before xs ys n a.1)
 
-  pub apart-unmix : (xs ys zs : List X) → AreApart (xs ++ (ys ++ zs)) → AllByRecursion (λ y. AllByRecursion (λ o. y ≢ o) (xs ++ zs)) ys
+  pub apart-unmix : (xs ys zs : List X) → AreDistinct (xs ++ (ys ++ zs)) → AllByRecursion (λ y. AllByRecursion (λ o. y ≢ o) (xs ++ zs)) ys
   apart-unmix xs [] zs a = tt
   apart-unmix xs (y ∷ ys) zs a =
       (each-append (λ o. y ≢ o) xs zs (apart-before xs (ys ++ zs) y a) (each-right (λ o. y ≢ o) ys zs (apart-behind xs (ys ++ zs) y a)), apart-unmix xs ys zs (apart-cut xs (y ∷ []) (ys ++ zs) a))
@@ -41,7 +41,7 @@ unlike-each : (others own : List (List ℕ)) → AllByRecursion (λ uri. AllByRe
 unlike-each others [] h = tt
 unlike-each others (uri ∷ uris) h = (unlike-all uri others h.0, unlike-each others uris h.1)
 
--- where no address of the document is one of the others, the test finds none
+-- where no address of the document is another's, the test finds none
 pub nothing-taken : (others own : List (List ℕ)) → AllByRecursion (λ uri. AllByRecursion (λ o. uri ≢ o) others) own → taken others own ≡ None
 nothing-taken others own h =
     let test : List ℕ → Bool = λ uri. is_member bytes_eq others uri in

@@ -1,7 +1,7 @@
--- Lists whose items are apart, and the item of a list that passes a test.
+-- Lists of distinct items, and the item of a list that passes a test.
 use Rattle.std.proofs.Common.{◌≡◌, ◌≢◌, Bool, true, false, not, cond, List, [], ◌∷◌, ◌++◌, map, filter, find, Some, refl, sym, ap, subst}
 use Rattle.std.specs.List.{AllByRecursion}
-use Rattle.store_core.specs.Keeping.{AreApart}
+use Rattle.store_core.specs.ValidStates.{AreDistinct}
 
 -- ---- each item
 
@@ -28,33 +28,33 @@ pub each-weaker : {X : Type 0} (P Q : X → Type 0) → ((x : X) → P x → Q x
 each-weaker P Q f [] a = tt
 each-weaker P Q f (x ∷ xs) a = (f x a.0, each-weaker P Q f xs a.1)
 
--- ---- items that are apart
+-- ---- distinct items
 
 module _ {X : Type 0} where
-  -- an item more that none of them is
-  pub apart-put : (xs ys : List X) (n : X) → AreApart (xs ++ ys) → AllByRecursion (λ y. n ≢ y) (xs ++ ys) → AreApart (xs ++ n ∷ ys)
+  -- one more item that differs from the others
+  pub apart-put : (xs ys : List X) (n : X) → AreDistinct (xs ++ ys) → AllByRecursion (λ y. n ≢ y) (xs ++ ys) → AreDistinct (xs ++ n ∷ ys)
   apart-put [] ys n a h = (h, a)
   apart-put (x ∷ xs) ys n a h =
       (each-put (λ y. x ≢ y) xs ys n (λ e. h.0 (sym e)) a.0, apart-put xs ys n a.1 h.1)
 
   -- some items fewer
-  apart-drop : (ys zs : List X) → AreApart (ys ++ zs) → AreApart zs
+  apart-drop : (ys zs : List X) → AreDistinct (ys ++ zs) → AreDistinct zs
   apart-drop [] zs a = a
   apart-drop (y ∷ ys) zs a = apart-drop ys zs a.1
 
-  pub apart-cut : (xs ys zs : List X) → AreApart (xs ++ (ys ++ zs)) → AreApart (xs ++ zs)
+  pub apart-cut : (xs ys zs : List X) → AreDistinct (xs ++ (ys ++ zs)) → AreDistinct (xs ++ zs)
   apart-cut [] ys zs a = apart-drop ys zs a
   apart-cut (x ∷ xs) ys zs a = (each-cut (λ y. x ≢ y) xs ys zs a.0, apart-cut xs ys zs a.1)
 
-  apart-front : (xs ys : List X) → AreApart (xs ++ ys) → AreApart xs
+  apart-front : (xs ys : List X) → AreDistinct (xs ++ ys) → AreDistinct xs
   apart-front [] ys a = tt
   apart-front (x ∷ xs) ys a = (each-left (λ y. x ≢ y) xs ys a.0, apart-front xs ys a.1)
 
-  pub apart-middle : (xs ys zs : List X) → AreApart (xs ++ (ys ++ zs)) → AreApart ys
+  pub apart-middle : (xs ys zs : List X) → AreDistinct (xs ++ (ys ++ zs)) → AreDistinct ys
   apart-middle xs ys zs a = apart-front ys zs (apart-drop xs (ys ++ zs) a)
 
-  -- what stands behind an item is none that it is
-  pub apart-behind : (xs ys : List X) (n : X) → AreApart (xs ++ n ∷ ys) → AllByRecursion (λ y. n ≢ y) ys
+  -- the items after an item differ from it
+  pub apart-behind : (xs ys : List X) (n : X) → AreDistinct (xs ++ n ∷ ys) → AllByRecursion (λ y. n ≢ y) ys
   apart-behind [] ys n a = a.0
   apart-behind (x ∷ xs) ys n a = apart-behind xs ys n a.1
 
@@ -80,7 +80,7 @@ module _ {D : Type 0} (p : D → Bool) where
   split [] d h = cc
   split (x ∷ xs) d h = split-step x xs d (p x) refl h (split xs d)
 
-  -- none passes, so none is exchanged and none is left out
+  -- none passes, so none is replaced and none is left out
   pub none-exchanged : (f : D → D) (ds : List D) → AllByRecursion (λ e. p e ≡ false) ds → map (λ d. cond (p d) (f d) d) ds ≡ ds
   none-exchanged f [] h = refl
   none-exchanged f (d ∷ ds) h = rw h.0 (ap (λ es. d ∷ es) (none-exchanged f ds h.1))
@@ -89,7 +89,7 @@ module _ {D : Type 0} (p : D → Bool) where
   none-filtered [] h = refl
   none-filtered (d ∷ ds) h = rw h.0 (ap (λ es. d ∷ es) (none-filtered ds h.1))
 
-  -- exactly one passes: it alone is exchanged, or left out
+  -- exactly one passes: it alone is replaced, or left out
   pub one-exchanged : (f : D → D) (before behind : List D) (d : D) → AllByRecursion (λ e. p e ≡ false) before → p d ≡ true → AllByRecursion (λ e. p e ≡ false) behind
       → map (λ e. cond (p e) (f e) e) (before ++ d ∷ behind) ≡ before ++ f d ∷ behind
   one-exchanged f [] behind d b h a = rw h (ap (λ es. f d ∷ es) (none-exchanged f behind a))

@@ -1,20 +1,21 @@
--- What a store tells since a tag leads from the version with that tag to the present one.
+-- The records that a store returns since an etag lead from the version with that etag to the
+-- present one.
 use Rattle.std.proofs.Common.{◌≡◌, ℕ, ◌<◌, ◌≤◌, Bool, true, false, cond, ◌&&◌, List, [], ◌∷◌, ◌++◌, length, map, reverse, sum_by, Option, None, Some, find, eqb-true, append_assoc, append-nil, length-append, refl, sym, ap, ◌∙◌, subst, arith}
 use Rattle.std.specs.Prelude.{◌==◌, nat_le}
 use Rattle.std.proofs.lemmas.Bool.Decides.{nat_tests}
 use Rattle.std.proofs.lemmas.List.{reverse-append, reverse-reverse}
 use Rattle.std.specs.List.{AllByRecursion}
 use Rattle.doc_names.specs.declared.usages.Usage.{Usage}
-use Rattle.doc_names.specs.Same.{same_id}
+use Rattle.doc_names.specs.Equality.{same_id}
 use Rattle.doc_names.specs.declared.doc_id.DocId.{DocId}
-use Rattle.notes.specs.Notes.{Note}
-use Rattle.notes.specs.Operations.{weight}
-use Rattle.store_core.specs.Changing.{document_in, document_name, held_name}
-use Rattle.store_core.specs.Held.{Held, Stands, held_of, Stock as Content}
+use Rattle.edit_ops.specs.Notes.{Note}
+use Rattle.edit_ops.specs.Operations.{weight}
+use Rattle.store_core.specs.DocumentChanges.{document_in, document_name, stored_name}
+use Rattle.store_core.specs.Contents.{StoredDocument, Represents, stored_of, StoreContents as Content}
 use Rattle.doc_names.specs.Usages.{usage_of}
-use Rattle.store_core.specs.Keeping.{IsKept, Kept}
-use Rattle.store_core.specs.Since.{Told, notes_from, since}
-use Rattle.store_core.specs.inner.Stories.{held_since, story_of}
+use Rattle.store_core.specs.ValidStates.{IsKept, IsValidState}
+use Rattle.store_core.specs.Since.{ReportedChanges, notes_from, since}
+use Rattle.store_core.specs.inner.ChangesSince.{held_since, changes_since_of}
 use Rattle.store_core.specs.State.{Document, State, Version, is_small, notes, retained, small_end, versions}
 use Rattle.store_core.specs.History.{IsSince, Leads}
 use Rattle.store_core.proofs.Chains.{Reached, notes_of, reached}
@@ -38,7 +39,7 @@ small_end_is w (x ∷ y ∷ xs) = by (is_small w (x ∷ y ∷ xs)) refl (small_e
     by true e r = rw e ([], refl, low (length (x ∷ y ∷ xs)) (both (nat_le (length (x ∷ y ∷ xs)) 64) (nat_le (sum_by w (x ∷ y ∷ xs)) 65536) e).0)
     by false e r = rw e (x ∷ r.0, ap (λ l. x ∷ l) r.1, r.2)
 
--- the notes from a tag on are an end, and the first goes on from the tag
+-- the records from an etag on are an end of the list, and the first continues from the etag
 from_is : (tag : ℕ) (xs ns : List Note) → notes_from tag xs ≡ Some ns → (front : List Note) × (xs ≡ front ++ ns) × (n : Note) × (ms : List Note) × (ns ≡ n ∷ ms) × (n.previous ≡ tag)
 from_is tag [] ns h = cc
 from_is tag (x ∷ xs) ns h = by (x.previous == tag) refl h (from_is tag xs ns)
@@ -54,7 +55,7 @@ length-le front ns xs is = omega (arith, ap length is, length-append front ns)
 
 -- ---- documents that are found
 
--- one found among what is made of others is made of the one found among these
+-- one found in a mapped list is the image of the one found in the list
 found : {D H : Type 0} (h : D → H) (q : H → Bool) (P : D → Type 0) (ds : List D) (x : H) → AllByRecursion P ds → find q (map h ds) ≡ Some x → (d : D) × (find (λ y. q (h y)) ds ≡ Some d) × (h d ≡ x) × P d
 found {D = D} {H = H} h q P [] x all is = cc
 found {D = D} {H = H} h q P (d ∷ ds) x all is = by (q (h d)) refl is (found h q P ds x all.1)
@@ -64,31 +65,31 @@ found {D = D} {H = H} h q P (d ∷ ds) x all is = by (q (h d)) refl is (found h 
     by true e s f = let same : h d ≡ x = cc in (d, rw e refl, same, all.0)
     by false e s f = let r = f s in (r.0, rw e r.1, r.2, r.3)
 
--- ---- tags
+-- ---- etags
 
 low_all : (next : ℕ) (vs : List Version) → AllByRecursion (λ v. (1 ≤ v.tag) × (v.tag < next)) vs → AllByRecursion (λ v. v.tag < next) vs
 low_all next [] h = tt
 low_all next (v ∷ vs) h = (h.0.1, low_all next vs h.1)
 
--- ---- what is told
+-- ---- what is returned
 
--- an end of a document's notes leads from one of its versions to the present one
+-- an end of a document's records leads from one of its versions to the present one
 from_end : (next : ℕ) (d : Document) (front ns : List Note) → IsKept next d → notes d ≡ front ++ ns → Reached (usage_of d.id.auid) next (versions d) ns d.now
 from_end next d front ns kept is =
     let turned : notes_of (versions d) ≡ reverse ns ++ reverse front = sym (reverse-reverse (notes_of (versions d))) ∙ ap reverse is ∙ reverse-append front ns in
     subst (λ l. Reached (usage_of d.id.auid) next (versions d) l d.now) (reverse-reverse ns)
     (reached (usage_of d.id.auid) next d.now d.earlier (reverse ns) (reverse front) kept.sound (low_all next (versions d) kept.tags) kept.follows turned)
 
--- the first note says from which tag it goes on
+-- the first record says from which etag it continues
 first_tag : (usage : Option Usage) (next : ℕ) (from to : Version) (ns : List Note) (n : Note) (ms : List Note) (tag : ℕ) → Leads usage next from ns to → ns ≡ n ∷ ms → n.previous ≡ tag → from.tag ≡ tag
 first_tag usage next from to ns n ms tag h is previous =
     let k : Leads usage next from (n ∷ ms) to = subst (λ l. Leads usage next from l to) is h in
     sym (ap (λ (x : Note). x.previous) k.notes.1) ∙ previous
 
-by_story : (m : State) (id : DocId) (tag : ℕ) (ns : List Note) (d : Document) → document_in document_name m.documents id ≡ Some d → IsKept m.next d → story_of (notes_from tag (retained (notes d))) ≡ Told ns → IsSince m id tag ns
+by_story : (m : State) (id : DocId) (tag : ℕ) (ns : List Note) (d : Document) → document_in document_name m.documents id ≡ Some d → IsKept m.next d → changes_since_of (notes_from tag (retained (notes d))) ≡ ReportedChanges ns → IsSince m id tag ns
 by_story m id tag ns d there kept is = by (notes_from tag (retained (notes d))) refl is
   where
-    by : (o : Option (List Note)) → notes_from tag (retained (notes d)) ≡ o → story_of o ≡ Told ns → IsSince m id tag ns
+    by : (o : Option (List Note)) → notes_from tag (retained (notes d)) ≡ o → changes_since_of o ≡ ReportedChanges ns → IsSince m id tag ns
     by None e s = absurd (cc)
     by (Some xs) e s =
         let same : xs ≡ ns = cc in
@@ -128,16 +129,16 @@ present m id tag ns d there kept same none =
     })
 
 by_held : (m : State) (id : DocId) (tag : ℕ) (ns : List Note) (d : Document) (b : Bool) → document_in document_name m.documents id ≡ Some d → IsKept m.next d → d.now.tag == tag ≡ b
-    → cond b (Told []) (story_of (notes_from tag (retained (notes d)))) ≡ Told ns → IsSince m id tag ns
+    → cond b (ReportedChanges []) (changes_since_of (notes_from tag (retained (notes d)))) ≡ ReportedChanges ns → IsSince m id tag ns
 by_held m id tag ns d true there kept e s = let none : [] ≡ ns = cc in present m id tag ns d there kept (eqb-true d.now.tag tag e) none
 by_held m id tag ns d false there kept e s = by_story m id tag ns d there kept s
 
-by_found : (m : State) (id : DocId) (tag : ℕ) (ns : List Note) (o : Option Held) → Kept m → document_in held_name (map held_of m.documents) id ≡ o → held_since tag o ≡ Told ns → IsSince m id tag ns
+by_found : (m : State) (id : DocId) (tag : ℕ) (ns : List Note) (o : Option StoredDocument) → IsValidState m → document_in stored_name (map stored_of m.documents) id ≡ o → held_since tag o ≡ ReportedChanges ns → IsSince m id tag ns
 by_found m id tag ns None kept is s = absurd (cc)
 by_found m id tag ns (Some h) kept is s =
-    let r = found held_of (λ x. same_id id x.id) (IsKept m.next) m.documents h kept.documents is in
+    let r = found stored_of (λ x. same_id id x.id) (IsKept m.next) m.documents h kept.documents is in
     by_held m id tag ns r.0 (r.0.now.tag == tag) r.1 r.3 refl (ap (λ o. held_since tag (Some o)) r.2 ∙ s)
 
-pub told_since : (c : Content) (m : State) (id : DocId) (tag : ℕ) (ns : List Note) → Kept m → Stands c m → since c id tag ≡ Told ns → IsSince m id tag ns
+pub told_since : (c : Content) (m : State) (id : DocId) (tag : ℕ) (ns : List Note) → IsValidState m → Represents c m → since c id tag ≡ ReportedChanges ns → IsSince m id tag ns
 told_since c m id tag ns kept stands is =
-    by_found m id tag ns (document_in held_name (map held_of m.documents) id) kept refl (ap (λ (x : Content). held_since tag (document_in held_name x.documents id)) (sym stands) ∙ is)
+    by_found m id tag ns (document_in stored_name (map stored_of m.documents) id) kept refl (ap (λ (x : Content). held_since tag (document_in stored_name x.documents id)) (sym stands) ∙ is)

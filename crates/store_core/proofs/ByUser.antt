@@ -1,4 +1,5 @@
--- The documents that the index lists, by the users' names: there is one such list, and `in_order` is it.
+-- The documents that the index lists, by the users' names: there is one such list, and `in_order`
+-- is it.
 use Rattle.std.proofs.Common.{◌≡◌, Bool, true, false, cond, List, [], ◌∷◌, filter, filter_map, map, refl, sym, ap, ◌∙◌}
 use Rattle.std.proofs.lemmas.List.Sorted.{ranks_by}
 use Rattle.std.specs.Cmp.{IsStrictWeakOrder}
@@ -11,7 +12,7 @@ use Rattle.xml_tree.specs.Tree.{Tree}
 use Rattle.store_core.specs.Indexes.{AreByUser, AreIndexTrees, indexed}
 use Rattle.store_core.proofs.InOrder.{Pair, cmp, each-placed, in_order, placed, put, turned}
 use Rattle.store_core.proofs.Sorting.{Rises, from-lower, one-order, rises-sorted, sorted-rises, tied}
-use Rattle.store_core.specs.Held.{Stock as Content}
+use Rattle.store_core.specs.Contents.{StoreContents as Content}
 
 abbrev less : Pair → Pair → Bool
 less x y = is_lt (cmp x.0 y.0)
@@ -19,7 +20,7 @@ less x y = is_lt (cmp x.0 y.0)
 is-order : IsStrictWeakOrder less
 is-order = ranks_by nat_list_cmp_total (λ (d : Pair). d.0)
 
--- ---- what is put in order rises
+-- ---- the sorted list is ascending
 
 behind : (d e : Pair) (o : Ordering) → cmp d.0 e.0 ≡ o → less e d ≡ is_lt (ordering_reverse o)
 behind d e o h = ap is_lt (turned d.0 e.0 o h)
@@ -40,7 +41,7 @@ rises : (ds : List Pair) → Rises less (in_order ds)
 rises [] = tt
 rises (d ∷ ds) = placed-rises d (in_order ds) (rises ds)
 
--- ---- those that tie stay in their order
+-- ---- equal names keep their order
 
 abbrev kept : Pair → List Pair → List Pair
 kept x ds = filter (ties less x) ds
@@ -48,7 +49,7 @@ kept x ds = filter (ties less x) ds
 abbrev more : Bool → Pair → List Pair → List Pair
 more b d ds = cond b (d ∷ ds) ds
 
--- x ties with one of two alone, where one is less
+-- x is equal to only one of two, where one is less
 not-both : (x d e : Pair) → cmp d.0 e.0 ≡ Greater → ties less x d ≡ true → ties less x e ≡ true → true ≡ false
 not-both x d e h with-d with-e =
     sym (behind d e Greater h) ∙ is-order.chain e x d (tied less is-order x e with-e).1 (tied less is-order x d with-d).0

@@ -1,16 +1,16 @@
--- Notes that lead from one version to another, and one note more.
+-- Change records that lead from one version to another, and one more record.
 use Rattle.std.proofs.Common.{◌≡◌, ℕ, suc, ◌<◌, List, [], ◌∷◌, ◌++◌, reverse, Option, None, Some, slice_get, refl, sym, ap, ◌∙◌, subst}
 use Rattle.std.proofs.lemmas.List.{reverse-append}
 use Rattle.std.specs.List.{AllByRecursion, filter_map}
 use Rattle.xml_tree.specs.Tree.{Tree}
 use Rattle.edit_ops.specs.Changes.{Fits, edited}
-use Rattle.notes.specs.Notes.{AreNotesOf, Note, note_of, tag_after, tree_after}
+use Rattle.edit_ops.specs.Notes.{AreNotesOf, Note, note_of, tag_after, tree_after}
 use Rattle.doc_names.specs.declared.usages.Usage.{Usage}
-use Rattle.store_core.specs.Keeping.{FollowFrom, IsSoundFor}
+use Rattle.store_core.specs.ValidStates.{FollowFrom, IsSoundFor}
 use Rattle.store_core.specs.State.{Version}
 use Rattle.store_core.specs.History.{AreSound, Leads}
 
--- ---- one note more
+-- ---- one more record
 
 notes_more : (tag : ℕ) (t : Tree) (ns : List Note) (n : Note) → AreNotesOf tag t ns → Fits (tree_after t ns) n.change → n ≡ note_of (tag_after tag ns) n.next (tree_after t ns) n.change → AreNotesOf tag t (ns ++ n ∷ [])
 notes_more tag t [] n h fits is = (fits, is, tt)
@@ -46,7 +46,7 @@ leads_more usage next from w v ns n h fits made is sound low =
       tags = tags_more next ns n h.tags (subst (λ k. k < next) (sym tagged) low);
     }
 
--- ---- the versions of a document, the newest first
+-- ---- the versions of a document, newest first
 
 -- a version with its number
 pub record Reached (usage : Option Usage) (next : ℕ) (vs : List Version) (ns : List Note) (to : Version) : Type 0 where
@@ -70,7 +70,7 @@ heads x y xs ys h = (cc, cc)
 start : (usage : Option Usage) (next : ℕ) (v : Version) → IsSoundFor usage v.tree → v.tag < next → Leads usage next v [] v
 start usage next v sound low = record { notes = tt; tree = refl; tag = refl; sound = sound; first = low; tags = tt }
 
--- the first notes of these lead from some version to the newest one
+-- the first of these records lead from some version to the newest one
 pub reached : (usage : Option Usage) (next : ℕ) (v : Version) (ws : List Version) (front back : List Note) → AllByRecursion (λ x. IsSoundFor usage x.tree) (v ∷ ws) → AllByRecursion (λ x. x.tag < next) (v ∷ ws) → FollowFrom v ws
     → notes_of (v ∷ ws) ≡ front ++ back → Reached usage next (v ∷ ws) (reverse front) v
 reached usage next v ws [] back sound low f is = record { from = v; number = 0; there = refl; leads = start usage next v sound.0 low.0 }

@@ -1,16 +1,16 @@
--- What a store keeps after a change that was ready for it.
+-- What a store has after a change that was ready for it.
 use Rattle.std.proofs.Common.{◌≡◌, ℕ, Bool, List, Option, None, Some, cond, sym, ap, subst, ◌∙◌}
 use Rattle.std.specs.Map.{lookup}
 use Rattle.std.specs.Set.{is_member}
 use Rattle.std.specs.Str.{bytes_eq}
-use Rattle.doc_names.specs.Same.{same_id}
+use Rattle.doc_names.specs.Equality.{same_id}
 use Rattle.doc_names.specs.declared.doc_id.DocId.{DocId}
 use Rattle.store_core.specs.declared.entry.Entry.{Entry}
-use Rattle.store_core.specs.Changing.{content_after}
-use Rattle.store_core.specs.Held.{Stands, Stock as Content}
+use Rattle.store_core.specs.DocumentChanges.{content_after}
+use Rattle.store_core.specs.Contents.{Represents, StoreContents as Content}
 use Rattle.store_core.specs.KeyAddresses.{KeepsAddressesOf}
 use Rattle.store_core.specs.inner.Storing.{IsStoring, content_in, exchanged, registered, trees_in}
-use Rattle.store_core.specs.Preparing.{HasTree, IsReady, Readied}
+use Rattle.store_core.specs.PreparedChanges.{HasTree, IsReady, Readied}
 use Rattle.store_core.proofs.KeyAddresses.{change_stays}
 use Rattle.store_core.proofs.Stored.{steppable, stored}
 use Rattle.store_core.specs.Stored.{Room, Stored}
@@ -29,14 +29,14 @@ module _ (es : List (DocId × Entry)) (rs : List (List ℕ × ℕ)) (last total 
       steppable es rs last total p p.step storing ready-here.planned ready-here.planned.step (subst (λ (trees : List (DocId × Bool)). HasTree p.step (lookup (same_id p.doc) trees)) shown ready-here.tree)
 
   module _ (left rows : List (List ℕ × ℕ)) (next : List (DocId × Entry)) (created number : ℕ) (leaves enters : List (List ℕ)) (numbered : number ≡ p.note.next) (stepped : Stepped es p.doc number p.step created next)
-      (leaving : leaves ≡ p.leaves) (entering : enters ≡ p.enters)
+      (removed_addresses : leaves ≡ p.leaves) (added_addresses : enters ≡ p.enters)
       (took : (uri : List ℕ) → registered left uri ≡ cond (is_member bytes_eq leaves uri) None (registered rs uri)) (gave : (uri : List ℕ) → registered rows uri ≡ cond (is_member bytes_eq enters uri) (Some created) (registered left uri)) where
     exchanges : (uri : List ℕ) → registered rows uri ≡ exchanged p.leaves p.enters created (registered rs uri) uri
     exchanges uri =
         gave uri
         ∙ ap (λ (o : Option ℕ). cond (is_member bytes_eq enters uri) (Some created) o) (took uri)
-        ∙ ap (λ (us : List (List ℕ)). cond (is_member bytes_eq enters uri) (Some created) (cond (is_member bytes_eq us uri) None (registered rs uri))) leaving
-        ∙ ap (λ (us : List (List ℕ)). cond (is_member bytes_eq us uri) (Some created) (cond (is_member bytes_eq p.leaves uri) None (registered rs uri))) entering
+        ∙ ap (λ (us : List (List ℕ)). cond (is_member bytes_eq enters uri) (Some created) (cond (is_member bytes_eq us uri) None (registered rs uri))) removed_addresses
+        ∙ ap (λ (us : List (List ℕ)). cond (is_member bytes_eq us uri) (Some created) (cond (is_member bytes_eq p.leaves uri) None (registered rs uri))) added_addresses
 
     stepped-so : Stepped es p.doc p.note.next p.step created next
     stepped-so = subst (λ (n : ℕ). Stepped es p.doc n p.step created next) numbered stepped
@@ -54,5 +54,5 @@ module _ (es : List (DocId × Entry)) (rs : List (List ℕ × ℕ)) (last total 
 
     pub keeps-addresses : KeepsAddressesOf s.content q.doc q.note.change (content_in next number)
     keeps-addresses =
-        let stands : Stands s.content storing.kept.0 = subst (λ (x : Stored). Stands x.content storing.kept.0) seen storing.kept.1 in
+        let stands : Represents s.content storing.kept.0 = subst (λ (x : Stored). Represents x.content storing.kept.0) seen storing.kept.1 in
         subst (λ (x : Content). KeepsAddressesOf s.content q.doc q.note.change x) (sym holds-next) (change_stays s.content storing.kept.0 q.doc q.note.change stands storing.kept.2 ready.planned.asks)

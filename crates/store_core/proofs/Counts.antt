@@ -1,11 +1,11 @@
--- What the notes of a ring count against the limit of their weights.
+-- The counted weights of a ring's records.
 use Rattle.std.proofs.Common.{◌≡◌, ℕ, ◌+◌, ◌<◌, ◌≤◌, nat_lt, true, false, cond, [], ◌∷◌, ◌++◌, length, slice_get, Option, None, Some, refl, arith}
 use Rattle.std.proofs.lemmas.Bool.Decides.{nat_tests}
 use Rattle.circular_buffer.specs.Buffer.{Buffer, buffer, keep_last}
-use Rattle.notes.specs.Notes.{Note}
-use Rattle.notes.specs.Operations.{weight}
+use Rattle.edit_ops.specs.Notes.{Note}
+use Rattle.edit_ops.specs.Operations.{weight}
 use Rattle.store_core.specs.State.{is_small, retained}
-use Rattle.store_core.specs.inner.Rings.{IsRing, counted, counted_in}
+use Rattle.store_core.specs.inner.Rings.{IsRing, counted_weight, counted_in}
 use Rattle.store_core.proofs.Rings.{counts-all, counts-less, light-stays, sum-bound, sum-pushed, sum_in, too-heavy}
 
 pub over : (n : ℕ) → nat_lt 65536 n ≡ true → 65536 < n
@@ -25,10 +25,10 @@ light-ring ring count r h few =
 -- a count stays small
 pub small-count : (ring : Buffer Note) (count : ℕ) → IsRing ring count → length ring.items ≤ ring.capacity → count ≤ 4194368
 small-count ring count r few =
-    let bound = sum-bound counted ring.items (λ n. omega arith) in
+    let bound = sum-bound counted_weight ring.items (λ n. omega arith) in
     omega (arith, bound, r.sum, r.room, few)
 
-in-one : (o : Option Note) → sum_in counted o ≡ counted_in o
+in-one : (o : Option Note) → sum_in counted_weight o ≡ counted_in o
 in-one None = refl
 in-one (Some n) = refl
 
@@ -36,9 +36,9 @@ module _ (ring : Buffer Note) (count : ℕ) (note : Note) (r : IsRing ring count
   abbrev pub out : Option Note
   out = cond (nat_lt (length ring.items) ring.capacity) None (slice_get (ring.items ++ note ∷ []) 0)
 
-  pub out-within : counted_in out ≤ count + counted note
-  out-within = omega (arith, sum-pushed counted ring.capacity ring.items note r.room few, in-one out, r.sum)
+  pub out-within : counted_in out ≤ count + counted_weight note
+  out-within = omega (arith, sum-pushed counted_weight ring.capacity ring.items note r.room few, in-one out, r.sum)
 
-  -- with a note more
-  pub pushed-ring : (after : ℕ) → after + counted_in out ≡ count + counted note → IsRing (buffer (keep_last ring.capacity (ring.items ++ note ∷ [])) ring.capacity) after
-  pushed-ring after e = record { room = r.room; sum = omega (arith, sum-pushed counted ring.capacity ring.items note r.room few, in-one out, r.sum, e) }
+  -- with one more record
+  pub pushed-ring : (after : ℕ) → after + counted_in out ≡ count + counted_weight note → IsRing (buffer (keep_last ring.capacity (ring.items ++ note ∷ [])) ring.capacity) after
+  pushed-ring after e = record { room = r.room; sum = omega (arith, sum-pushed counted_weight ring.capacity ring.items note r.room few, in-one out, r.sum, e) }

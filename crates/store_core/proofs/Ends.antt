@@ -5,7 +5,7 @@ use Rattle.std.proofs.lemmas.List.Sums.{sum_by-append}
 use Rattle.store_core.specs.State.{is_small, small_end}
 
 module _ {A : Type 0} (weight : A → ℕ) where
-  -- what isn't small isn't small with an item more
+  -- what isn't small isn't small with one more item
   less : (n m s t : ℕ) → n ≤ m → s ≤ t → (nat_le n 64 && nat_le s 65536) ≡ false → (nat_le m 64 && nat_le t 65536) ≡ false
   less n m s t few light e = grind (arith, nat_tests)
 
@@ -20,7 +20,7 @@ module _ {A : Type 0} (weight : A → ℕ) where
   end-step x y xs n false e by =
       by ∙ sym (ap (λ b. cond b (x ∷ y ∷ (xs ++ n ∷ [])) (small_end weight (y ∷ (xs ++ n ∷ [])))) (not_small (x ∷ y ∷ xs) n e))
 
-  -- the small end with an item more has the small end that the whole list with it has
+  -- the small end with one more item has the same small end as the whole list with it
   pub small_end-push : (xs : List A) (n : A) → small_end weight (small_end weight xs ++ n ∷ []) ≡ small_end weight (xs ++ n ∷ [])
   small_end-push [] n = refl
   small_end-push (x ∷ []) n = refl

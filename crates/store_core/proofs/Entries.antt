@@ -1,4 +1,5 @@
--- The entries of a store's documents, as what the store holds: the entry of a name among the others, and what a kept state says of all.
+-- The entries of a store's documents, as its contents: the entry of a name among the others, and
+-- what a valid state says of all.
 use Rattle.std.proofs.Common.{◌≡◌, ◌≢◌, ℕ, ◌≤◌, Bool, true, false, cond, List, [], ◌∷◌, ◌++◌, length, map, find, sum_by, Option, None, Some, option_map, refl, sym, ap, subst, ◌∙◌, arith}
 use Rattle.std.proofs.lemmas.List.{length-map, map-append}
 use Rattle.std.proofs.lemmas.List.Folds.{flat_map-map}
@@ -7,15 +8,15 @@ use Rattle.std.specs.Map.{lookup}
 use Rattle.xml_tree.specs.Tree.{Tree, height}
 use Rattle.usage_docs.specs.Services.{document_len}
 use Rattle.doc_names.specs.declared.usages.Usage.{Usage}
-use Rattle.doc_names.specs.Same.{same_id}
+use Rattle.doc_names.specs.Equality.{same_id}
 use Rattle.doc_names.specs.declared.doc_id.DocId.{DocId}
 use Rattle.store_core.specs.declared.entry.Entry.{Entry}
 use Rattle.store_core.specs.State.{Document, State}
-use Rattle.store_core.specs.Held.{Held, Stands, held_of, Stock as Content}
-use Rattle.store_core.specs.Keeping.{AreApart, IsKept, IsSoundFor, Kept, addresses, addresses_in}
+use Rattle.store_core.specs.Contents.{StoredDocument, Represents, stored_of, StoreContents as Content}
+use Rattle.store_core.specs.ValidStates.{AreDistinct, IsKept, IsSoundFor, IsValidState, addresses, addresses_in}
 use Rattle.doc_names.specs.Usages.{usage_of}
-use Rattle.store_core.specs.Changing.{document_in, held_name}
-use Rattle.store_core.specs.inner.Storing.{content_in, held_in, len_in, name_in, uris_in}
+use Rattle.store_core.specs.DocumentChanges.{document_in, stored_name}
+use Rattle.store_core.specs.inner.Storing.{content_in, stored_in, len_in, name_in, uris_in}
 use Rattle.store_core.proofs.Accepted.{sum-mapped}
 use Rattle.store_core.proofs.Apart.{apart-behind, each-weaker}
 use Rattle.doc_names.proofs.SameIds.{other-name, id_exact}
@@ -58,13 +59,13 @@ module _ {K V : Type 0} (test : K → Bool) where
   found-at [] v h = cc
   found-at (x ∷ xs) v h = found-step x xs v (test x.0) refl h (found-at xs v)
 
-  unfound-step : (x : K × V) (xs : List (K × V)) (b : Bool) → test x.0 ≡ b → cond b (Some x.1) (lookup test xs) ≡ None → (lookup test xs ≡ None → AllByRecursion (λ e. test e.0 ≡ false) xs) → AllByRecursion (λ e. test e.0 ≡ false) (x ∷ xs)
-  unfound-step x xs true e h by = cc
-  unfound-step x xs false e h by = (e, by h)
+  not_found_refusal-step : (x : K × V) (xs : List (K × V)) (b : Bool) → test x.0 ≡ b → cond b (Some x.1) (lookup test xs) ≡ None → (lookup test xs ≡ None → AllByRecursion (λ e. test e.0 ≡ false) xs) → AllByRecursion (λ e. test e.0 ≡ false) (x ∷ xs)
+  not_found_refusal-step x xs true e h by = cc
+  not_found_refusal-step x xs false e h by = (e, by h)
 
   pub none-found : (es : List (K × V)) → lookup test es ≡ None → AllByRecursion (λ e. test e.0 ≡ false) es
   none-found [] h = tt
-  none-found (x ∷ xs) h = unfound-step x xs (test x.0) refl h (none-found xs)
+  none-found (x ∷ xs) h = not_found_refusal-step x xs (test x.0) refl h (none-found xs)
 
 -- the first entry that passes, whatever is read of it
 module _ {K V H X : Type 0} (test : K → Bool) (held : K × V → H) (name : H → K) (same : (e : K × V) → name (held e) ≡ e.0) (read : H → X) (see : V → X) (agree : (e : K × V) → read (held e) ≡ see e.1) where
@@ -78,8 +79,8 @@ module _ {K V H X : Type 0} (test : K → Bool) (held : K × V → H) (name : H 
   read-as (x ∷ xs) =
       ap (λ k. option_map read (cond (test k) (Some (held x)) (find (λ h. test (name h)) (map held xs)))) (same x) ∙ read-step x xs (test x.0) (read-as xs)
 
-pub tree-and-tag : (es : List (DocId × Entry)) (doc : DocId) → option_map {U = Tree × ℕ} (λ (h : Held). (h.tree, h.tag)) (document_in held_name (map held_in es) doc) ≡ option_map {U = Tree × ℕ} (λ (v : Entry). (v.tree.root, v.tag)) (lookup (same_id doc) es)
-tree-and-tag es doc = read-as (same_id doc) held_in held_name (λ e. refl) (λ (h : Held). (h.tree, h.tag)) (λ (v : Entry). (v.tree.root, v.tag)) (λ e. refl) es
+pub tree-and-tag : (es : List (DocId × Entry)) (doc : DocId) → option_map {U = Tree × ℕ} (λ (h : StoredDocument). (h.tree, h.tag)) (document_in stored_name (map stored_in es) doc) ≡ option_map {U = Tree × ℕ} (λ (v : Entry). (v.tree.root, v.tag)) (lookup (same_id doc) es)
+tree-and-tag es doc = read-as (same_id doc) stored_in stored_name (λ e. refl) (λ (h : StoredDocument). (h.tree, h.tag)) (λ (v : Entry). (v.tree.root, v.tag)) (λ e. refl) es
 
 -- ---- the entry of a name, among entries of different names
 
@@ -95,12 +96,12 @@ pub record Around (es : List (DocId × Entry)) (doc : DocId) (v : Entry) : Type 
   pub none-before : AllByRecursion (λ e. same_id doc e.0 ≡ false) before
   pub none-behind : AllByRecursion (λ e. same_id doc e.0 ≡ false) behind
 
-pub around : (es : List (DocId × Entry)) (doc : DocId) (v : Entry) → AreApart (map name_in es) → lookup (same_id doc) es ≡ Some v → Around es doc v
+pub around : (es : List (DocId × Entry)) (doc : DocId) (v : Entry) → AreDistinct (map name_in es) → lookup (same_id doc) es ≡ Some v → Around es doc v
 around es doc v apart h =
     let s = found-at (same_id doc) es v h in
     let same : s.key ≡ doc = sym (id_exact doc s.key s.passes) in
-    let names : AreApart (map name_in s.before ++ s.key ∷ map name_in s.behind) =
-    subst (λ (xs : List DocId). AreApart xs) (ap (map name_in) s.parts ∙ map-append name_in s.before ((s.key, v) ∷ s.behind)) apart in
+    let names : AreDistinct (map name_in s.before ++ s.key ∷ map name_in s.behind) =
+    subst (λ (xs : List DocId). AreDistinct xs) (ap (map name_in) s.parts ∙ map-append name_in s.before ((s.key, v) ∷ s.behind)) apart in
     record {
       before = s.before;
       behind = s.behind;
@@ -110,11 +111,11 @@ around es doc v apart h =
       none-behind = behind-others doc s.key s.behind s.passes (apart-behind (map name_in s.before) (map name_in s.behind) s.key names);
     }
 
--- ---- what a kept state says of the entries of a store that stands for it
+-- ---- what a valid state says of the entries of a store that represents it
 
 pub record Known (es : List (DocId × Entry)) : Type 0 where
-  pub names : AreApart (map name_in es)
-  pub services : AreApart (flat_map uris_in es)
+  pub names : AreDistinct (map name_in es)
+  pub services : AreDistinct (flat_map uris_in es)
   pub low : AllByRecursion (λ e. height e.1.tree.root ≤ 64) es
   pub few : length es ≤ 1000
   pub room : sum_by len_in es ≤ 33554432
@@ -124,27 +125,27 @@ low-of None t h = absurd h
 low-of (Some usage) t h = h.low
 
 -- what holds of the present tree of each document holds of each entry's tree
-each-tree : (P : Tree → Type 0) (m : State) (es : List (DocId × Entry)) → map held_in es ≡ map held_of m.documents → ((d : Document) → IsKept m.next d → P d.now.tree) → AllByRecursion (IsKept m.next) m.documents → AllByRecursion (λ e. P e.1.tree.root) es
+each-tree : (P : Tree → Type 0) (m : State) (es : List (DocId × Entry)) → map stored_in es ≡ map stored_of m.documents → ((d : Document) → IsKept m.next d → P d.now.tree) → AllByRecursion (IsKept m.next) m.documents → AllByRecursion (λ e. P e.1.tree.root) es
 each-tree P m es same by k =
-    let Q : Held → Type 0 = λ h. P h.tree in
+    let Q : StoredDocument → Type 0 = λ h. P h.tree in
     let kept : Document → Type 0 = λ d. IsKept m.next d in
     let held : Document → Type 0 = λ d. P d.now.tree in
-    each-unmapped Q held_in es (subst (λ (hs : List Held). AllByRecursion Q hs) (sym same) (each-mapped Q held_of m.documents (each-weaker kept held by m.documents k)))
+    each-unmapped Q stored_in es (subst (λ (hs : List StoredDocument). AllByRecursion Q hs) (sym same) (each-mapped Q stored_of m.documents (each-weaker kept held by m.documents k)))
 
-pub known : (es : List (DocId × Entry)) (last : ℕ) (m : State) → Stands (content_in es last) m → Kept m → Known es
+pub known : (es : List (DocId × Entry)) (last : ℕ) (m : State) → Represents (content_in es last) m → IsValidState m → Known es
 known es last m s k =
     let ds = m.documents in
-    let same : map held_in es ≡ map held_of ds = ap (λ (c : Content). c.documents) s in
-    let name : Held → DocId = λ h. h.id in
-    let uris : Held → List (List ℕ) = λ h. addresses_in h.id.auid h.tree in
-    let len : Held → ℕ = λ h. document_len h.tree in
-    let names : map name_in es ≡ map (λ (d : Document). d.id) ds = sym (mapped name held_in es) ∙ ap (map name) same ∙ mapped name held_of ds in
-    let services : flat_map uris_in es ≡ addresses ds = sym (flat_map-map uris held_in es) ∙ ap (flat_map uris) same ∙ flat_map-map uris held_of ds in
-    let lens : sum_by len_in es ≡ sum_by (λ (d : Document). document_len d.now.tree) ds = sym (sum-mapped len held_in es) ∙ ap (sum_by len) same ∙ sum-mapped len held_of ds in
+    let same : map stored_in es ≡ map stored_of ds = ap (λ (c : Content). c.documents) s in
+    let name : StoredDocument → DocId = λ h. h.id in
+    let uris : StoredDocument → List (List ℕ) = λ h. addresses_in h.id.auid h.tree in
+    let len : StoredDocument → ℕ = λ h. document_len h.tree in
+    let names : map name_in es ≡ map (λ (d : Document). d.id) ds = sym (mapped name stored_in es) ∙ ap (map name) same ∙ mapped name stored_of ds in
+    let services : flat_map uris_in es ≡ addresses ds = sym (flat_map-map uris stored_in es) ∙ ap (flat_map uris) same ∙ flat_map-map uris stored_of ds in
+    let lens : sum_by len_in es ≡ sum_by (λ (d : Document). document_len d.now.tree) ds = sym (sum-mapped len stored_in es) ∙ ap (sum_by len) same ∙ sum-mapped len stored_of ds in
     record {
-      names = subst (λ (xs : List DocId). AreApart xs) (sym names) k.names;
-      services = subst (λ (xs : List (List ℕ)). AreApart xs) (sym services) k.services;
+      names = subst (λ (xs : List DocId). AreDistinct xs) (sym names) k.names;
+      services = subst (λ (xs : List (List ℕ)). AreDistinct xs) (sym services) k.services;
       low = each-tree (λ t. height t ≤ 64) m es same (λ d h. low-of (usage_of d.id.auid) d.now.tree h.sound.0) k.documents;
-      few = omega (arith, k.few, ap (λ (hs : List Held). length hs) same, length-map es held_in, length-map ds held_of);
+      few = omega (arith, k.few, ap (λ (hs : List StoredDocument). length hs) same, length-map es stored_in, length-map ds stored_of);
       room = omega (arith, k.room, lens);
     }

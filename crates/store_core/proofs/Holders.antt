@@ -1,4 +1,4 @@
--- Which document has an address, where the addresses of all documents are apart.
+-- Which document has an address, where the addresses of all documents are distinct.
 use Rattle.std.proofs.Common.{◌≡◌, ◌≢◌, ℕ, Bool, true, false, cond, ◌||◌, List, [], ◌∷◌, ◌++◌, Option, None, Some, refl, sym, ap, subst, ◌∙◌, arith}
 use Rattle.std.proofs.lemmas.Bool.Decides.{nat_tests}
 use Rattle.std.proofs.lemmas.List.Concat.{flat_map-append}
@@ -7,7 +7,7 @@ use Rattle.std.proofs.lemmas.Slice.Eq.{bytes_eq-Decides}
 use Rattle.std.specs.List.{AllByRecursion, flat_map}
 use Rattle.std.specs.Set.{is_member}
 use Rattle.std.specs.Str.{bytes_eq}
-use Rattle.store_core.specs.Keeping.{AreApart}
+use Rattle.store_core.specs.ValidStates.{AreDistinct}
 use Rattle.std.specs.Option.{option_or as or_else}
 use Rattle.store_core.specs.inner.Storing.{holder_in, is_others}
 use Rattle.store_core.proofs.Admitted.{apart-unmix, unlike-all}
@@ -23,13 +23,13 @@ among-step : (P : List ℕ → Type 0) (u k : List ℕ) (us : List (List ℕ)) (
 among-step P u k us true e h p by = subst P (sym ((bytes_eq-Decides k u).0 e)) p
 among-step P u k us false e h p by = by h
 
--- what holds of all holds of one among them
+-- what holds of all is true of one among them
 all-among : (P : List ℕ → Type 0) (us : List (List ℕ)) (k : List ℕ) → is_member bytes_eq us k ≡ true → AllByRecursion P us → P k
 all-among P [] k h a = cc
 all-among P (u ∷ us) k h a = among-step P u k us (bytes_eq k u) refl h a.0 (λ g. all-among P us k g a.1)
 
--- where addresses are apart, one among some isn't among the others
-pub not-beside : (xs ys zs : List (List ℕ)) (k : List ℕ) → AreApart (xs ++ (ys ++ zs)) → is_member bytes_eq ys k ≡ true → is_member bytes_eq (xs ++ zs) k ≡ false
+-- where addresses are distinct, one among some isn't among the others
+pub not-beside : (xs ys zs : List (List ℕ)) (k : List ℕ) → AreDistinct (xs ++ (ys ++ zs)) → is_member bytes_eq ys k ≡ true → is_member bytes_eq (xs ++ zs) k ≡ false
 not-beside xs ys zs k apart h =
     let P : List ℕ → Type 0 = λ y. AllByRecursion (λ o. y ≢ o) (xs ++ zs) in
     unlike-all k (xs ++ zs) (all-among P ys k h (apart-unmix xs ys zs apart))
@@ -39,7 +39,7 @@ or-middle true b c h = refl
 or-middle false true c h = refl
 or-middle false false c h = cc
 
--- ---- holders
+-- ---- which document has an address
 
 module _ {D : Type 0} (own : D → List (List ℕ)) (number : D → ℕ) where
   abbrev Hold : List D → List ℕ → Option ℕ
@@ -72,11 +72,11 @@ module _ {D : Type 0} (own : D → List (List ℕ)) (number : D → ℕ) where
       put-step before behind (number d) k (is_member bytes_eq (own d) k) (λ h. none-holds before k (apart h)) (holds-append before behind k)
       ∙ sym (holds-append before (d ∷ behind) k)
 
-  -- the addresses of a document that is apart from the others
-  own-beside : (before behind : List D) (d : D) → AreApart (flat_map own (before ++ d ∷ behind)) → AreApart (flat_map own before ++ (own d ++ flat_map own behind))
-  own-beside before behind d apart = subst (λ (xs : List (List ℕ)). AreApart xs) (flat_map-append own before (d ∷ behind)) apart
+  -- the addresses of a document, distinct from all others
+  own-beside : (before behind : List D) (d : D) → AreDistinct (flat_map own (before ++ d ∷ behind)) → AreDistinct (flat_map own before ++ (own d ++ flat_map own behind))
+  own-beside before behind d apart = subst (λ (xs : List (List ℕ)). AreDistinct xs) (flat_map-append own before (d ∷ behind)) apart
 
-  own-alone : (before behind : List D) (d : D) (k : List ℕ) → AreApart (flat_map own (before ++ d ∷ behind)) → is_member bytes_eq (own d) k ≡ true → is_member bytes_eq (flat_map own (before ++ behind)) k ≡ false
+  own-alone : (before behind : List D) (d : D) (k : List ℕ) → AreDistinct (flat_map own (before ++ d ∷ behind)) → is_member bytes_eq (own d) k ≡ true → is_member bytes_eq (flat_map own (before ++ behind)) k ≡ false
   own-alone before behind d k apart h =
       ap (λ (xs : List (List ℕ)). is_member bytes_eq xs k) (flat_map-append own before behind) ∙ not-beside (flat_map own before) (own d) (flat_map own behind) k (own-beside before behind d apart) h
 
@@ -85,8 +85,8 @@ module _ {D : Type 0} (own : D → List (List ℕ)) (number : D → ℕ) where
       (neither-of (is_member bytes_eq (flat_map own before) k) (is_member bytes_eq (flat_map own behind) k)
       (sym (list_any-append (bytes_eq k) (flat_map own before) (flat_map own behind)) ∙ sym (ap (λ (xs : List (List ℕ)). is_member bytes_eq xs k) (flat_map-append own before behind)) ∙ h)).0
 
-  -- one document more that is apart from the others
-  pub held-apart : (before behind : List D) (d : D) (k : List ℕ) → AreApart (flat_map own (before ++ d ∷ behind)) → cond (is_member bytes_eq (own d) k) (Some (number d)) (Hold (before ++ behind) k) ≡ Hold (before ++ d ∷ behind) k
+  -- one more document, whose addresses are distinct from all others
+  pub held-apart : (before behind : List D) (d : D) (k : List ℕ) → AreDistinct (flat_map own (before ++ d ∷ behind)) → cond (is_member bytes_eq (own d) k) (Some (number d)) (Hold (before ++ behind) k) ≡ Hold (before ++ d ∷ behind) k
   held-apart before behind d k apart = held-more before behind d k (λ h. not-before before behind k (own-alone before behind d k apart h))
 
   -- one document less
@@ -94,13 +94,13 @@ module _ {D : Type 0} (own : D → List (List ℕ)) (number : D → ℕ) where
   less-step rest whole n true none e = sym (none refl)
   less-step rest whole n false none e = sym e
 
-  pub held-less : (before behind : List D) (d : D) (k : List ℕ) → AreApart (flat_map own (before ++ d ∷ behind)) → cond (is_member bytes_eq (own d) k) None (Hold (before ++ d ∷ behind) k) ≡ Hold (before ++ behind) k
+  pub held-less : (before behind : List D) (d : D) (k : List ℕ) → AreDistinct (flat_map own (before ++ d ∷ behind)) → cond (is_member bytes_eq (own d) k) None (Hold (before ++ d ∷ behind) k) ≡ Hold (before ++ behind) k
   held-less before behind d k apart =
       less-step (Hold (before ++ behind) k) (Hold (before ++ d ∷ behind) k) (number d) (is_member bytes_eq (own d) k)
       (λ h. none-holds (before ++ behind) k (own-alone before behind d k apart h))
       (held-apart before behind d k apart)
 
-  -- a document whose addresses were exchanged
+  -- a document whose addresses were replaced
   exchange-step : (n : ℕ) (h : Option ℕ) (e l a b : Bool) → (l ≡ true → ((a || b) ≡ false) × (h ≡ None))
       → cond e (Some n) (cond l None (cond (a || (l || b)) (Some n) h)) ≡ cond (a || (e || b)) (Some n) h
   exchange-step n h true l true b none = refl
@@ -117,7 +117,7 @@ module _ {D : Type 0} (own : D → List (List ℕ)) (number : D → ℕ) where
   among-two xs zs k b h = sym (list_any-append (bytes_eq k) xs zs) ∙ h
 
   pub held-exchanged : (before behind : List D) (d e : D) (front rest leaves enters : List (List ℕ)) (k : List ℕ)
-      → AreApart (flat_map own (before ++ d ∷ behind)) → AreApart (flat_map own (before ++ e ∷ behind)) → number d ≡ number e
+      → AreDistinct (flat_map own (before ++ d ∷ behind)) → AreDistinct (flat_map own (before ++ e ∷ behind)) → number d ≡ number e
       → own d ≡ front ++ (leaves ++ rest) → own e ≡ front ++ (enters ++ rest)
       → cond (is_member bytes_eq enters k) (Some (number e)) (cond (is_member bytes_eq leaves k) None (Hold (before ++ d ∷ behind) k)) ≡ Hold (before ++ e ∷ behind) k
   held-exchanged before behind d e front rest leaves enters k old new same was is =
@@ -131,8 +131,8 @@ module _ {D : Type 0} (own : D → List (List ℕ)) (number : D → ℕ) where
       let has-new : is_member bytes_eq (own e) k ≡ (fr || (en || re)) = ap (λ (us : List (List ℕ)). is_member bytes_eq us k) is ∙ among front enters rest k in
       let held-old : Hold (before ++ d ∷ behind) k ≡ cond (fr || (le || re)) (Some n) other =
       sym (held-apart before behind d k old) ∙ ap (λ (b : Bool). cond b (Some (number d)) other) has-old ∙ ap (λ (m : ℕ). cond (fr || (le || re)) (Some m) other) same in
-      let own-apart : AreApart (front ++ (leaves ++ rest)) =
-      subst (λ (us : List (List ℕ)). AreApart us) was (apart-middle (flat_map own before) (own d) (flat_map own behind) (own-beside before behind d old)) in
+      let own-apart : AreDistinct (front ++ (leaves ++ rest)) =
+      subst (λ (us : List (List ℕ)). AreDistinct us) was (apart-middle (flat_map own before) (own d) (flat_map own behind) (own-beside before behind d old)) in
       let left : le ≡ true → is_member bytes_eq (own d) k ≡ true = λ h. has-old ∙ or-middle fr le re h in
       ap (λ (o : Option ℕ). cond en (Some n) (cond le None o)) held-old
       ∙ exchange-step n other en le fr re
@@ -158,15 +158,15 @@ module _ {D : Type 0} (own : D → List (List ℕ)) (number : D → ℕ) where
   mine-step n rest true c alone e = let h = alone refl in grind (arith, nat_tests)
   mine-step n rest false c alone e = e
 
-  -- beside one document
-  pub others-hold-beside : (before behind : List D) (d : D) (k : List ℕ) → AreApart (flat_map own (before ++ d ∷ behind)) → AllByRecursion (λ e. is_others (Some (number d)) (Some (number e)) ≡ true) (before ++ behind)
+  -- besides one document
+  pub others-hold-beside : (before behind : List D) (d : D) (k : List ℕ) → AreDistinct (flat_map own (before ++ d ∷ behind)) → AllByRecursion (λ e. is_others (Some (number d)) (Some (number e)) ≡ true) (before ++ behind)
       → is_others (Some (number d)) (Hold (before ++ d ∷ behind) k) ≡ is_member bytes_eq (flat_map own (before ++ behind)) k
   others-hold-beside before behind d k apart others =
       ap (λ o. is_others (Some (number d)) o) (sym (held-apart before behind d k apart))
       ∙ mine-step (number d) (Hold (before ++ behind) k) (is_member bytes_eq (own d) k) (is_member bytes_eq (flat_map own (before ++ behind)) k) (own-alone before behind d k apart) (others-hold (Some (number d)) (before ++ behind) k others)
 
-  -- no other document has an address of a document that is apart from the others
-  pub own-free : (before behind : List D) (d : D) → AreApart (flat_map own (before ++ d ∷ behind)) → AllByRecursion (λ e. is_others (Some (number d)) (Some (number e)) ≡ true) (before ++ behind)
+  -- no other document has an address of a document whose addresses are distinct from all others
+  pub own-free : (before behind : List D) (d : D) → AreDistinct (flat_map own (before ++ d ∷ behind)) → AllByRecursion (λ e. is_others (Some (number d)) (Some (number e)) ≡ true) (before ++ behind)
       → AllByRecursion (λ k. is_others (Some (number d)) (Hold (before ++ d ∷ behind) k) ≡ false) (own d)
   own-free before behind d apart others =
       let xs = flat_map own before in

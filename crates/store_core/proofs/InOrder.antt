@@ -1,4 +1,4 @@
--- Names in their order: where no two are one, it is the same in which order they are put in.
+-- Names in order: where no two are equal, the order of insertion doesn't matter.
 use Rattle.std.proofs.Common.{◌≡◌, ◌≢◌, ℕ, List, [], ◌∷◌, refl, sym, ap, subst, ◌∙◌}
 use Rattle.std.proofs.lemmas.Slice.Eq.{bytes_eq-Decides}
 use Rattle.std.specs.BTreeMap.{insert_entry}
@@ -8,7 +8,7 @@ use Rattle.std.specs.Ordering.{is_eq, match_ordering, nat_cmp, ordering_reverse}
 use Rattle.std.specs.declared.cmp.Ordering.{Ordering}
 use Rattle.std.specs.declared.cmp.Ordering.TheVariants.{Less, Equal, Greater}
 use Rattle.xml_tree.specs.Tree.{Tree}
-use Rattle.store_core.specs.inner.Listed.{entered}
+use Rattle.store_core.specs.inner.ServiceListing.{entered}
 
 abbrev pub Pair : Type 0
 Pair = List ℕ × Tree
@@ -24,7 +24,7 @@ abbrev pub placed : Pair → List Pair → List Pair
 placed d [] = d ∷ []
 placed d (e ∷ es) = match_ordering (cmp d.0 e.0) (d ∷ e ∷ es) (d ∷ e ∷ es) (e ∷ placed d es)
 
--- a list put in that order, one after another; AreByUser (specs/Indexes) says what comes of it
+-- a list sorted by insertion, one after another; AreByUser (specs/Indexes) says what comes of it
 abbrev pub in_order : List Pair → List Pair
 in_order [] = []
 in_order (d ∷ ds) = placed d (in_order ds)
@@ -34,7 +34,7 @@ in_order (d ∷ ds) = placed d (in_order ds)
 pub turned : (a b : List ℕ) (o : Ordering) → cmp a b ≡ o → cmp b a ≡ ordering_reverse o
 turned a b o h = nat_list_cmp_total.antisymm b a ∙ ap ordering_reverse h
 
--- a stands before what b doesn't stand behind
+-- a is before what b isn't after
 before : (a b x : List ℕ) (o : Ordering) → cmp a b ≡ Less → cmp b x ≡ o → o ≢ Greater → cmp a x ≡ Less
 before a b x Less h e low = nat_list_cmp_total.trans a b x h e
 before a b x Equal h e low = subst (λ (y : List ℕ). cmp a y ≡ Less) (equal-texts b x e) h
@@ -58,13 +58,13 @@ module _ (d e : Pair) (less : cmp d.0 e.0 ≡ Less) where
   abbrev Swaps : List Pair → Type 0
   Swaps xs = placed d (placed e xs) ≡ placed e (placed d xs)
 
-  -- neither stands behind x
+  -- neither comes after x
   swap-first : (x : Pair) (xs : List Pair) (o : Ordering) → cmp e.0 x.0 ≡ o → o ≢ Greater → put o e x xs (placed e xs) ≡ e ∷ x ∷ xs → placed d (put o e x xs (placed e xs)) ≡ placed e (placed d (x ∷ xs))
   swap-first x xs o h low is =
       ap (placed d) is ∙ first d e (x ∷ xs) less
       ∙ sym (ap (placed e) (first d x xs (before d.0 e.0 x.0 o less h low)) ∙ further e d (x ∷ xs) greater ∙ ap (λ (ys : List Pair). d ∷ ys) (ap (λ (p : Ordering). put p e x xs (placed e xs)) h ∙ is))
 
-  -- e alone stands behind x, or both
+  -- only e comes after x, or both do
   swap-further : (x : Pair) (xs : List Pair) (p : Ordering) → cmp e.0 x.0 ≡ Greater → Swaps xs → put p d x (placed e xs) (placed d (placed e xs)) ≡ placed e (put p d x xs (placed d xs))
   swap-further x xs Less h by = sym (further e d (x ∷ xs) greater ∙ ap (λ (ys : List Pair). d ∷ ys) (further e x xs h))
   swap-further x xs Equal h by = sym (further e d (x ∷ xs) greater ∙ ap (λ (ys : List Pair). d ∷ ys) (further e x xs h))
@@ -84,7 +84,7 @@ swaps-step d e xs Less h other = swap d e h xs
 swaps-step d e xs Equal h other = absurd (other refl)
 swaps-step d e xs Greater h other = sym (swap e d (turned d.0 e.0 Greater h) xs)
 
--- ---- names that are apart
+-- ---- distinct names
 
 abbrev pub Other : Pair → Pair → Type 0
 Other x y = cmp x.0 y.0 ≢ Equal
@@ -93,7 +93,7 @@ abbrev pub NamesApart : List Pair → Type 0
 NamesApart [] = Unit {0}
 NamesApart (x ∷ xs) = AllByRecursion (Other x) xs × NamesApart xs
 
--- another name takes the place of none
+-- another name replaces none
 enters-step : (d e : Pair) (es made : List Pair) (o : Ordering) → o ≢ Equal → made ≡ placed d es → match_ordering o (d ∷ e ∷ es) ((e.0, d.1) ∷ es) (e ∷ made) ≡ put o d e es (placed d es)
 enters-step d e es made Less other is = refl
 enters-step d e es made Equal other is = absurd (other refl)
@@ -103,7 +103,7 @@ enters : (d : Pair) (es : List Pair) → AllByRecursion (Other d) es → insert_
 enters d [] a = refl
 enters d (e ∷ es) a = enters-step d e es (insert_entry cmp es d.0 d.1) (cmp d.0 e.0) a.0 (enters d es a.1)
 
--- these put in order among others, the last first
+-- these inserted in order among others, the last first
 abbrev onto : List Pair → List Pair → List Pair
 onto made [] = made
 onto made (d ∷ ds) = placed d (onto made ds)
@@ -130,7 +130,7 @@ module _ (P : Pair → Type 0) where
   each-placed d [] p a = (p, tt)
   each-placed d (e ∷ es) p a = placed-step d e es (cmp d.0 e.0) p a.0 a.1 (each-placed d es p a.1)
 
--- apart is apart both ways
+-- distinctness is symmetric
 other-turned : (x y : Pair) → Other x y → Other y x
 other-turned x y other = λ (h : cmp y.0 x.0 ≡ Equal). other (turned y.0 x.0 Equal h)
 

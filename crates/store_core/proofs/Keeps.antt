@@ -1,14 +1,14 @@
--- After a change that the store makes it stands for the next state, which is kept.
+-- After a change that the store makes its contents represent the next state, which is valid.
 use Rattle.std.proofs.Common.{◌≡◌, Option, None, Some, Result, Ok, Err, ap, subst}
 use Rattle.doc_names.specs.declared.doc_id.DocId.{DocId}
 use Rattle.edit_ops.specs.declared.change.Change.{Change}
-use Rattle.notes.specs.Notes.{Note}
+use Rattle.edit_ops.specs.Notes.{Note}
 use Rattle.store_core.specs.declared.refusal.StoreRefusal.{StoreRefusal}
 use Rattle.store_core.specs.State.{State}
-use Rattle.store_core.specs.Held.{Stands, Stock as Content}
-use Rattle.store_core.specs.Keeping.{Kept}
-use Rattle.store_core.specs.Asking.{Asks}
-use Rattle.store_core.specs.Changing.{act_of, after, against, answered, changing, content_after, document_in, held_name, note_for}
+use Rattle.store_core.specs.Contents.{Represents, StoreContents as Content}
+use Rattle.store_core.specs.ValidStates.{IsValidState}
+use Rattle.store_core.specs.Queries.{Asks}
+use Rattle.store_core.specs.DocumentChanges.{act_of, after, against, answered, changing, content_after, document_in, stored_name, note_for}
 use Rattle.store_core.proofs.Accepted.{accepted-suits}
 use Rattle.store_core.proofs.KeptAfter.{kept-after}
 use Rattle.store_core.proofs.Standing.{stands-after}
@@ -21,8 +21,8 @@ pub told-next : (o : Option StoreRefusal) (note told : Note) (c next : Content) 
 told-next None note told c next h = ap (holding c) h
 told-next (Some refusal) note told c next h = cc
 
-pub keeps : (c : Content) (m : State) (id : DocId) (change : Change) (note : Note) (next : Content) → Stands c m → Kept m → Asks c id change → changing c id change ≡ Ok (note, next) → Stands next (after m id change) × Kept (after m id change)
+pub keeps : (c : Content) (m : State) (id : DocId) (change : Change) (note : Note) (next : Content) → Represents c m → IsValidState m → Asks c id change → changing c id change ≡ Ok (note, next) → Represents next (after m id change) × IsValidState (after m id change)
 keeps c m id change note next s k a h =
-    let found = document_in held_name c.documents id in
+    let found = document_in stored_name c.documents id in
     let e : content_after c id change ≡ next = told-next (against c id change found (act_of change)) (note_for c id change found) note (content_after c id change) next h in
-    (subst (λ (d : Content). Stands d (after m id change)) e (stands-after c m id change s), kept-after m id change k (accepted-suits c m id change (note, next) s k a h))
+    (subst (λ (d : Content). Represents d (after m id change)) e (stands-after c m id change s), kept-after m id change k (accepted-suits c m id change (note, next) s k a h))

@@ -1,21 +1,21 @@
--- A state that is kept is kept after each change that suits it.
+-- A valid state is valid after each change that suits it.
 use Rattle.std.proofs.Common.{◌≡◌, ◌≢◌, ℕ, ◌+◌, ◌<◌, ◌≤◌, Bool, true, false, not, cond, List, [], ◌∷◌, ◌++◌, length, map, filter, find, sum_by, Option, None, Some, IsSome, IsSomeAnd, refl, sym, ap, subst, ◌∙◌, arith}
 use Rattle.std.specs.List.{AllByRecursion, flat_map}
 use Rattle.std.proofs.lemmas.List.{append-nil, map-append}
 use Rattle.std.proofs.lemmas.List.Concat.{flat_map-append}
 use Rattle.xml_tree.specs.Tree.{Tree}
 use Rattle.usage_docs.specs.Services.{document_len}
-use Rattle.doc_names.specs.Ids.{IsReadable}
-use Rattle.doc_names.specs.Same.{same_id}
+use Rattle.doc_names.specs.Ids.{IsAddressable}
+use Rattle.doc_names.specs.Equality.{same_id}
 use Rattle.doc_names.specs.declared.doc_id.DocId.{DocId}
 use Rattle.edit_ops.specs.Changes.{Fits, edited}
 use Rattle.edit_ops.specs.declared.change.Change.{Change}
-use Rattle.notes.specs.Notes.{note_of}
+use Rattle.edit_ops.specs.Notes.{note_of}
 use Rattle.store_core.specs.State.{Document, State, Version, versions, renewed, created, first_state}
-use Rattle.store_core.specs.Keeping.{AreApart, IsKept, IsSoundFor, IsUsers, Kept, addresses}
+use Rattle.store_core.specs.ValidStates.{AreDistinct, IsKept, IsSoundFor, IsUserDocument, IsValidState, addresses}
 use Rattle.doc_names.specs.Usages.{usage_of}
-use Rattle.store_core.specs.Changing.{Act, Makes, Edits, Removes, act_of, after, after_act}
-use Rattle.store_core.specs.Suiting.{Suits, SuitsAct}
+use Rattle.store_core.specs.DocumentChanges.{Act, Makes, Edits, Removes, act_of, after, after_act}
+use Rattle.store_core.specs.AcceptableChanges.{Suits, SuitsAct}
 use Rattle.store_core.proofs.Apart.{each-append, each-left, each-right, each-weaker, apart-put, apart-cut, apart-behind, split, one-exchanged, one-filtered}
 use Rattle.doc_names.proofs.SameIds.{not-same, other-name}
 
@@ -46,7 +46,7 @@ kept-later n d k =
 kept-all-later : (n : ℕ) (ds : List Document) → AllByRecursion (IsKept n) ds → AllByRecursion (IsKept (n + 1)) ds
 kept-all-later n ds k = each-weaker (IsKept n) (IsKept (n + 1)) (kept-later n) ds k
 
-kept-created : (id : DocId) (n : ℕ) (root : Tree) → 1 ≤ n → IsReadable id → IsUsers id.home → IsSoundFor (usage_of id.auid) root → IsKept (n + 1) (created id n root)
+kept-created : (id : DocId) (n : ℕ) (root : Tree) → 1 ≤ n → IsAddressable id → IsUserDocument id.home → IsSoundFor (usage_of id.auid) root → IsKept (n + 1) (created id n root)
 kept-created id n root s r u h =
     record {
       readable = r;
@@ -66,7 +66,7 @@ kept-renewed n d change s k fits h =
       follows = ((note_of d.now.tag n d.now.tree change, refl, fits, refl, refl), k.tags.0.1, k.follows);
     }
 
--- ---- tags below the next number
+-- ---- etags below the next number
 
 below-one : (n t : ℕ) → t < n → n ≢ t
 below-one n t h e = omega arith
@@ -89,35 +89,35 @@ none-found : (id : DocId) (ds : List Document) → find (λ d. same_id id d.id) 
 none-found id [] h = tt
 none-found id (d ∷ ds) h = none-step id d ds (same_id id d.id) refl h (none-found id ds)
 
--- behind the document that was found there is none of its name
+-- after the document that was found there is none of its name
 none-behind : (id : DocId) (d : Document) (ds : List Document) → same_id id d.id ≡ true → AllByRecursion (λ y. d.id ≢ y) (map name_of ds) → AllByRecursion (λ e. same_id id e.id ≡ false) ds
 none-behind id d [] p h = tt
 none-behind id d (e ∷ es) p h = (other-name id d.id e.id (same_id id e.id) refl p h.0, none-behind id d es p h.1)
 
--- ---- a document that is made
+-- ---- a creation
 
-kept-made : (m : State) (id : DocId) (change : Change) (root : Tree) → Kept m → SuitsAct m id change (Makes root) → AreApart (addresses (after_act m id change (Makes root)).documents)
-    → length (after_act m id change (Makes root)).documents ≤ 1000 → sum_by (λ d. document_len d.now.tree) (after_act m id change (Makes root)).documents ≤ 33554432 → Kept (after_act m id change (Makes root))
+kept-made : (m : State) (id : DocId) (change : Change) (root : Tree) → IsValidState m → SuitsAct m id change (Makes root) → AreDistinct (addresses (after_act m id change (Makes root)).documents)
+    → length (after_act m id change (Makes root)).documents ≤ 1000 → sum_by (λ d. document_len d.now.tree) (after_act m id change (Makes root)).documents ≤ 33554432 → IsValidState (after_act m id change (Makes root))
 kept-made m id change root k s services few room =
     let ds = m.documents in
     let new = created id m.next root in
-    let names : AreApart (map name_of ds ++ id ∷ []) =
-    apart-put (map name_of ds) [] id (subst (λ (xs : List DocId). AreApart xs) (sym (append-nil (map name_of ds))) k.names) (subst (λ (xs : List DocId). AllByRecursion (λ y. id ≢ y) xs) (sym (append-nil (map name_of ds))) (none-found id ds s.0)) in
-    let tags : AreApart (flat_map tags_of ds ++ m.next ∷ []) =
-    apart-put (flat_map tags_of ds) [] m.next (subst (λ (xs : List ℕ). AreApart xs) (sym (append-nil (flat_map tags_of ds))) k.tags) (subst (λ (xs : List ℕ). AllByRecursion (λ t. m.next ≢ t) xs) (sym (append-nil (flat_map tags_of ds))) (below-documents m.next ds k.documents)) in
+    let names : AreDistinct (map name_of ds ++ id ∷ []) =
+    apart-put (map name_of ds) [] id (subst (λ (xs : List DocId). AreDistinct xs) (sym (append-nil (map name_of ds))) k.names) (subst (λ (xs : List DocId). AllByRecursion (λ y. id ≢ y) xs) (sym (append-nil (map name_of ds))) (none-found id ds s.0)) in
+    let tags : AreDistinct (flat_map tags_of ds ++ m.next ∷ []) =
+    apart-put (flat_map tags_of ds) [] m.next (subst (λ (xs : List ℕ). AreDistinct xs) (sym (append-nil (flat_map tags_of ds))) k.tags) (subst (λ (xs : List ℕ). AllByRecursion (λ t. m.next ≢ t) xs) (sym (append-nil (flat_map tags_of ds))) (below-documents m.next ds k.documents)) in
     record {
       started = le-add 1 m.next k.started;
       documents = each-append (IsKept (m.next + 1)) ds (new ∷ []) (kept-all-later m.next ds k.documents) (kept-created id m.next root k.started s.1 s.2 s.3, tt);
-      names = subst (λ (xs : List DocId). AreApart xs) (sym (map-append name_of ds (new ∷ []))) names;
-      tags = subst (λ (xs : List ℕ). AreApart xs) (sym (flat_map-append tags_of ds (new ∷ []))) tags;
+      names = subst (λ (xs : List DocId). AreDistinct xs) (sym (map-append name_of ds (new ∷ []))) names;
+      tags = subst (λ (xs : List ℕ). AreDistinct xs) (sym (flat_map-append tags_of ds (new ∷ []))) tags;
       services = services;
       few = few;
       room = room;
     }
 
--- ---- a document that is held
+-- ---- a stored document
 
--- the documents of a kept state round the one of a name
+-- the documents of a valid state before and after the one of a name
 pub record Round (m : State) (id : DocId) (d : Document) : Type 0 where
   pub before : List Document
   pub behind : List Document
@@ -128,16 +128,16 @@ pub record Round (m : State) (id : DocId) (d : Document) : Type 0 where
   pub kept-before : AllByRecursion (IsKept m.next) before
   pub kept : IsKept m.next d
   pub kept-behind : AllByRecursion (IsKept m.next) behind
-  pub names : AreApart (map name_of before ++ d.id ∷ map name_of behind)
-  pub tags : AreApart (flat_map tags_of before ++ (tags_of d ++ flat_map tags_of behind))
+  pub names : AreDistinct (map name_of before ++ d.id ∷ map name_of behind)
+  pub tags : AreDistinct (flat_map tags_of before ++ (tags_of d ++ flat_map tags_of behind))
 
-pub round : (m : State) (id : DocId) (d : Document) → Kept m → find (λ e. same_id id e.id) m.documents ≡ Some d → Round m id d
+pub round : (m : State) (id : DocId) (d : Document) → IsValidState m → find (λ e. same_id id e.id) m.documents ≡ Some d → Round m id d
 round m id d k h =
     let s = split (λ (e : Document). same_id id e.id) m.documents d h in
     let all : AllByRecursion (IsKept m.next) (s.before ++ d ∷ s.behind) = subst (λ (ds : List Document). AllByRecursion (IsKept m.next) ds) s.parts k.documents in
     let right = each-right (IsKept m.next) s.before (d ∷ s.behind) all in
-    let names : AreApart (map name_of s.before ++ d.id ∷ map name_of s.behind) =
-    subst (λ (xs : List DocId). AreApart xs) (ap (map name_of) s.parts ∙ map-append name_of s.before (d ∷ s.behind)) k.names in
+    let names : AreDistinct (map name_of s.before ++ d.id ∷ map name_of s.behind) =
+    subst (λ (xs : List DocId). AreDistinct xs) (ap (map name_of) s.parts ∙ map-append name_of s.before (d ∷ s.behind)) k.names in
     record {
       before = s.before;
       behind = s.behind;
@@ -149,7 +149,7 @@ round m id d k h =
       kept = right.0;
       kept-behind = right.1;
       names = names;
-      tags = subst (λ (xs : List ℕ). AreApart xs) (ap (flat_map tags_of) s.parts ∙ flat_map-append tags_of s.before (d ∷ s.behind)) k.tags;
+      tags = subst (λ (xs : List ℕ). AreDistinct xs) (ap (flat_map tags_of) s.parts ∙ flat_map-append tags_of s.before (d ∷ s.behind)) k.tags;
     }
 
 below-round : (m : State) (id : DocId) (d : Document) (r : Round m id d) → AllByRecursion (λ t. m.next ≢ t) (flat_map tags_of r.before ++ (tags_of d ++ flat_map tags_of r.behind))
@@ -166,25 +166,25 @@ found-and : (m : State) (id : DocId) (P : Document → Type 0) (o : Option Docum
 found-and m id P None e h = absurd h
 found-and m id P (Some d) e h = record { document = d; found = e; holds = h }
 
-kept-edited : (m : State) (id : DocId) (change : Change) → Kept m → SuitsAct m id change Edits → AreApart (addresses (after_act m id change Edits).documents)
-    → length (after_act m id change Edits).documents ≤ 1000 → sum_by (λ d. document_len d.now.tree) (after_act m id change Edits).documents ≤ 33554432 → Kept (after_act m id change Edits)
+kept-edited : (m : State) (id : DocId) (change : Change) → IsValidState m → SuitsAct m id change Edits → AreDistinct (addresses (after_act m id change Edits).documents)
+    → length (after_act m id change Edits).documents ≤ 1000 → sum_by (λ d. document_len d.now.tree) (after_act m id change Edits).documents ≤ 33554432 → IsValidState (after_act m id change Edits)
 kept-edited m id change k s services few room =
     let f = found-and m id (λ d. Fits d.now.tree change × IsSoundFor (usage_of d.id.auid) (edited d.now.tree change)) (find (λ e. same_id id e.id) m.documents) refl s in
     let d = f.document in
     let r = round m id d k f.found in
-    let renew : Document → Document = λ e. renewed m.next e (note_of e.now.tag m.next e.now.tree change) in
-    let docs : (after_act m id change Edits).documents ≡ r.before ++ renew d ∷ r.behind =
-    ap (λ (ds : List Document). map (λ e. cond (same_id id e.id) (renew e) e) ds) r.parts
-    ∙ one-exchanged (λ (e : Document). same_id id e.id) renew r.before r.behind d r.none-before r.passes r.none-behind in
+    let update_entry : Document → Document = λ e. renewed m.next e (note_of e.now.tag m.next e.now.tree change) in
+    let docs : (after_act m id change Edits).documents ≡ r.before ++ update_entry d ∷ r.behind =
+    ap (λ (ds : List Document). map (λ e. cond (same_id id e.id) (update_entry e) e) ds) r.parts
+    ∙ one-exchanged (λ (e : Document). same_id id e.id) update_entry r.before r.behind d r.none-before r.passes r.none-behind in
     record {
       started = le-add 1 m.next k.started;
       documents =
           subst (λ (ds : List Document). AllByRecursion (IsKept (m.next + 1)) ds) (sym docs)
-          (each-append (IsKept (m.next + 1)) r.before (renew d ∷ r.behind) (kept-all-later m.next r.before r.kept-before)
+          (each-append (IsKept (m.next + 1)) r.before (update_entry d ∷ r.behind) (kept-all-later m.next r.before r.kept-before)
           (kept-renewed m.next d change k.started r.kept f.holds.0 f.holds.1, kept-all-later m.next r.behind r.kept-behind));
-      names = subst (λ (xs : List DocId). AreApart xs) (sym (ap (map name_of) docs ∙ map-append name_of r.before (renew d ∷ r.behind))) r.names;
+      names = subst (λ (xs : List DocId). AreDistinct xs) (sym (ap (map name_of) docs ∙ map-append name_of r.before (update_entry d ∷ r.behind))) r.names;
       tags =
-          subst (λ (xs : List ℕ). AreApart xs) (sym (ap (flat_map tags_of) docs ∙ flat_map-append tags_of r.before (renew d ∷ r.behind)))
+          subst (λ (xs : List ℕ). AreDistinct xs) (sym (ap (flat_map tags_of) docs ∙ flat_map-append tags_of r.before (update_entry d ∷ r.behind)))
           (apart-put (flat_map tags_of r.before) (tags_of d ++ flat_map tags_of r.behind) m.next r.tags (below-round m id d r));
       services = services;
       few = few;
@@ -195,8 +195,8 @@ found-some : (m : State) (id : DocId) (o : Option Document) → find (λ e. same
 found-some m id None e h = cc
 found-some m id (Some d) e h = record { document = d; found = e; holds = tt }
 
-kept-removed : (m : State) (id : DocId) (change : Change) → Kept m → SuitsAct m id change Removes → AreApart (addresses (after_act m id change Removes).documents)
-    → length (after_act m id change Removes).documents ≤ 1000 → sum_by (λ d. document_len d.now.tree) (after_act m id change Removes).documents ≤ 33554432 → Kept (after_act m id change Removes)
+kept-removed : (m : State) (id : DocId) (change : Change) → IsValidState m → SuitsAct m id change Removes → AreDistinct (addresses (after_act m id change Removes).documents)
+    → length (after_act m id change Removes).documents ≤ 1000 → sum_by (λ d. document_len d.now.tree) (after_act m id change Removes).documents ≤ 33554432 → IsValidState (after_act m id change Removes)
 kept-removed m id change k s services few room =
     let f = found-some m id (find (λ e. same_id id e.id) m.documents) refl s in
     let d = f.document in
@@ -209,21 +209,21 @@ kept-removed m id change k s services few room =
       documents =
           subst (λ (ds : List Document). AllByRecursion (IsKept (m.next + 1)) ds) (sym docs)
           (each-append (IsKept (m.next + 1)) r.before r.behind (kept-all-later m.next r.before r.kept-before) (kept-all-later m.next r.behind r.kept-behind));
-      names = subst (λ (xs : List DocId). AreApart xs) (sym (ap (map name_of) docs ∙ map-append name_of r.before r.behind)) (apart-cut (map name_of r.before) (d.id ∷ []) (map name_of r.behind) r.names);
-      tags = subst (λ (xs : List ℕ). AreApart xs) (sym (ap (flat_map tags_of) docs ∙ flat_map-append tags_of r.before r.behind)) (apart-cut (flat_map tags_of r.before) (tags_of d) (flat_map tags_of r.behind) r.tags);
+      names = subst (λ (xs : List DocId). AreDistinct xs) (sym (ap (map name_of) docs ∙ map-append name_of r.before r.behind)) (apart-cut (map name_of r.before) (d.id ∷ []) (map name_of r.behind) r.names);
+      tags = subst (λ (xs : List ℕ). AreDistinct xs) (sym (ap (flat_map tags_of) docs ∙ flat_map-append tags_of r.before r.behind)) (apart-cut (flat_map tags_of r.before) (tags_of d) (flat_map tags_of r.behind) r.tags);
       services = services;
       few = few;
       room = room;
     }
 
-kept-act : (m : State) (id : DocId) (change : Change) (act : Act) → Kept m → SuitsAct m id change act → AreApart (addresses (after_act m id change act).documents)
-    → length (after_act m id change act).documents ≤ 1000 → sum_by (λ d. document_len d.now.tree) (after_act m id change act).documents ≤ 33554432 → Kept (after_act m id change act)
+kept-act : (m : State) (id : DocId) (change : Change) (act : Act) → IsValidState m → SuitsAct m id change act → AreDistinct (addresses (after_act m id change act).documents)
+    → length (after_act m id change act).documents ≤ 1000 → sum_by (λ d. document_len d.now.tree) (after_act m id change act).documents ≤ 33554432 → IsValidState (after_act m id change act)
 kept-act m id change (Makes root) = kept-made m id change root
 kept-act m id change Edits = kept-edited m id change
 kept-act m id change Removes = kept-removed m id change
 
-pub kept-first : (first : ℕ) → 1 ≤ first → Kept (first_state first)
+pub kept-first : (first : ℕ) → 1 ≤ first → IsValidState (first_state first)
 kept-first first h = record { started = h; documents = tt; names = tt; tags = tt; services = tt; few = omega arith; room = omega arith }
 
-pub kept-after : (m : State) (id : DocId) (change : Change) → Kept m → Suits m id change → Kept (after m id change)
+pub kept-after : (m : State) (id : DocId) (change : Change) → IsValidState m → Suits m id change → IsValidState (after m id change)
 kept-after m id change k s = kept-act m id change (act_of change) k s.act s.services s.few s.room

@@ -1,10 +1,10 @@
--- What the calls of a map of documents leave, by the names of its entries.
+-- What the calls of a map of documents do, by the names of its entries.
 use Rattle.std.proofs.Common.{◌≡◌, Bool, true, false, not, cond, List, [], ◌∷◌, map, filter, Some, refl, sym, ap, subst, ◌∙◌}
 use Rattle.std.proofs.lemmas.Map.Keys.{IsDistinct-head, IsDistinct-tail}
 use Rattle.std.proofs.lemmas.Option.{same_Some}
 use Rattle.std.specs.List.{AllByRecursion, IsDistinct}
 use Rattle.std.specs.Map.{keys_of, lookup, remove_entry, set_value}
-use Rattle.doc_names.specs.Same.{same_id}
+use Rattle.doc_names.specs.Equality.{same_id}
 use Rattle.doc_names.specs.contracts.doc_id.DocIdPartialEq.TheImpl.{eq-value}
 use Rattle.doc_names.specs.declared.doc_id.DocId.{DocId}
 use Rattle.doc_names.proofs.Keys.{derived_eq}
@@ -13,7 +13,7 @@ use Rattle.store_core.proofs.Entries.{each-unmapped}
 use Rattle.doc_names.proofs.SameIds.{id_exact}
 
 module _ {V : Type 0} where
-  -- behind an entry of this name there is none of it
+  -- after an entry of this name there is none of it
   none-more : (doc : DocId) (e : DocId × V) (es : List (DocId × V)) → same_id doc e.0 ≡ true → IsDistinct same_id (keys_of (e ∷ es)) → AllByRecursion (λ x. same_id doc x.0 ≡ false) es
   none-more doc e es h d =
       let Q : DocId → Type 0 = λ y. same_id doc y ≡ false in
@@ -41,11 +41,11 @@ module _ {V : Type 0} where
   set-once doc [] w d = refl
   set-once doc (e ∷ es) w d = set-step doc e es w (same_id doc e.0) refl d (set-once doc es w (IsDistinct-tail same_id e.0 (keys_of es) d))
 
-  -- the same of the calls, whose test is the derived `==`
+  -- the calls, whose test is the derived `==`
   pub looked-up : (doc : DocId) (es : List (DocId × V)) → lookup (eq-value.it doc) es ≡ lookup (same_id doc) es
   looked-up doc es = ap (λ eq. lookup (eq doc) es) derived_eq
 
-  -- what a look-up found is what is there
+  -- what a look-up found is the stored entry
   pub one-value : (doc : DocId) (es : List (DocId × V)) (v w : V) → lookup (same_id doc) es ≡ Some v → Some w ≡ lookup (eq-value.it doc) es → v ≡ w
   one-value doc es v w there found = same_Some v w (sym there ∙ sym (looked-up doc es) ∙ sym found)
 
@@ -58,7 +58,7 @@ module _ {V : Type 0} where
   same-step q e es v true h by = ap (λ (x : V). (e.0, x) ∷ es) (sym (same_Some e.1 v h))
   same-step q e es v false h by = ap (λ (xs : List (DocId × V)). e ∷ xs) (by h)
 
-  -- the value that is there written anew
+  -- the stored value, written back
   pub same-set : (q : DocId → Bool) (es : List (DocId × V)) (v : V) → lookup q es ≡ Some v → set_value q es v ≡ es
   same-set q [] v h = cc
   same-set q (e ∷ es) v h = same-step q e es v (q e.0) h (same-set q es v)

@@ -1,6 +1,6 @@
 pub mod Accepted
-pub mod Admitted
 pub mod Admits
+pub mod Admitted
 pub mod Apart
 pub mod Asked
 pub mod Bridge
@@ -19,16 +19,16 @@ pub mod KeptAfter
 pub mod KeyAddresses
 pub mod Keyed
 pub mod Listing
-pub mod PlanAnswers
 pub mod Owning
 pub mod Places
+pub mod PlanAnswers
 pub mod Planning
 pub mod PutLengths
 pub mod Registering
 pub mod Rings
+pub mod Services
 pub mod Sorting
 pub mod SoundHeld
-pub mod Services
 pub mod Standing
 pub mod Stored
 pub mod TellingSince

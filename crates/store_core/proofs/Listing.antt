@@ -1,4 +1,5 @@
--- The documents that the index of all services lists, as a store keeps them: each of another user, and each with at most `MAX_LEVELS` levels.
+-- The documents that the index of all services lists, as a store has them: each of another user,
+-- and each with at most `MAX_LEVELS` levels.
 use Rattle.std.proofs.Common.{◌≡◌, ◌≢◌, ℕ, ◌≤◌, Bool, true, false, Ordering, Less, Equal, Greater, Bor, List, [], ◌∷◌, map, Option, None, Some, refl, sym, ap, subst, ◌∙◌}
 use Rattle.std.proofs.lemmas.List.Elements.{All-from_recursion}
 use Rattle.std.proofs.lemmas.Option.{same_Some}
@@ -17,9 +18,9 @@ use Rattle.doc_names.specs.declared.doc_id.Home.TheVariants.{Global, User}
 use Rattle.doc_names.specs.declared.doc_id.DocId.{DocId}
 use Rattle.store_core.specs.declared.entry.Entry.{Entry}
 use Rattle.store_core.specs.Indexes.{AreIndexTrees, index, indexed, indexed_by}
-use Rattle.store_core.specs.Keeping.{AreApart}
-use Rattle.store_core.specs.inner.Listed.{entered, listed, pairs_in}
-use Rattle.store_core.specs.inner.Storing.{IsStoring, content_in, held_in, name_in}
+use Rattle.store_core.specs.ValidStates.{AreDistinct}
+use Rattle.store_core.specs.inner.ServiceListing.{entered, listed, pairs_in}
+use Rattle.store_core.specs.inner.Storing.{IsStoring, content_in, stored_in, name_in}
 use Rattle.store_core.proofs.ByUser.{index_trees, some-index-trees}
 use Rattle.store_core.proofs.InOrder.{NamesApart, Other, each-in-order, entered-in-order, equal-texts, in_order}
 use Rattle.store_core.proofs.Stored.{known-of}
@@ -31,7 +32,7 @@ Row = DocId × Entry
 abbrev Pair : Type 0
 Pair = List ℕ × Tree
 
--- ---- users' names are apart
+-- ---- users' names are distinct
 
 abbrev of-user : List ℕ → DocId
 of-user xui = record { auid = RlsServices; home = User xui; name = index }
@@ -48,29 +49,29 @@ listed-id RlsServices (User xui) name t x true e h =
     ∙ ap (λ (p : Pair). of-user p.0) (same_Some {A = Pair} (xui, t) x h)
 listed-id XcapCaps home name t x b e h = cc
 
-row-id : (e : Row) (x : Pair) → indexed (held_in e) ≡ Some x → e.0 ≡ of-user x.0
+row-id : (e : Row) (x : Pair) → indexed (stored_in e) ≡ Some x → e.0 ≡ of-user x.0
 row-id e x h = listed-id e.0.auid e.0.home e.0.name e.1.tree.root x (bytes_eq e.0.name index) refl h
 
-others-step : (id : DocId) (x : Pair) (e : Row) (ys : List Pair) (o : Option Pair) → id ≡ of-user x.0 → id ≢ e.0 → indexed (held_in e) ≡ o → AllByRecursion (Other x) ys → AllByRecursion (Other x) (cons_option o ys)
+others-step : (id : DocId) (x : Pair) (e : Row) (ys : List Pair) (o : Option Pair) → id ≡ of-user x.0 → id ≢ e.0 → indexed (stored_in e) ≡ o → AllByRecursion (Other x) ys → AllByRecursion (Other x) (cons_option o ys)
 others-step id x e ys None same apart h by = by
 others-step id x e ys (Some y) same apart h by = (λ (equal : slice_cmp nat_cmp x.0 y.0 ≡ Equal). apart (same ∙ ap (λ (xui : List ℕ). of-user xui) (equal-texts x.0 y.0 equal) ∙ sym (row-id e y h)), by)
 
 others : (id : DocId) (x : Pair) (es : List Row) → id ≡ of-user x.0 → AllByRecursion (λ y. id ≢ y) (map name_in es) → AllByRecursion (Other x) (listed es)
 others id x [] same a = tt
-others id x (e ∷ es) same a = others-step id x e (listed es) (indexed (held_in e)) same a.0 refl (others id x es same a.1)
+others id x (e ∷ es) same a = others-step id x e (listed es) (indexed (stored_in e)) same a.0 refl (others id x es same a.1)
 
-apart-step : (e : Row) (es : List Row) (o : Option Pair) → indexed (held_in e) ≡ o → AllByRecursion (λ y. e.0 ≢ y) (map name_in es) → NamesApart (listed es) → NamesApart (cons_option o (listed es))
+apart-step : (e : Row) (es : List Row) (o : Option Pair) → indexed (stored_in e) ≡ o → AllByRecursion (λ y. e.0 ≢ y) (map name_in es) → NamesApart (listed es) → NamesApart (cons_option o (listed es))
 apart-step e es None h a by = by
 apart-step e es (Some x) h a by = (others e.0 x es (row-id e x h) a, by)
 
-users-apart : (es : List Row) → AreApart (map name_in es) → NamesApart (listed es)
+users-apart : (es : List Row) → AreDistinct (map name_in es) → NamesApart (listed es)
 users-apart [] a = tt
-users-apart (e ∷ es) a = apart-step e es (indexed (held_in e)) refl a.0 (users-apart es a.1)
+users-apart (e ∷ es) a = apart-step e es (indexed (stored_in e)) refl a.0 (users-apart es a.1)
 
 -- ---- their trees have at most `MAX_LEVELS` levels
 
-abbrev IsLow : Pair → Type 0
-IsLow x = height x.1 ≤ 64
+abbrev IsWithinLevels : Pair → Type 0
+IsWithinLevels x = height x.1 ≤ 64
 
 abbrev IsLowRow : Row → Type 0
 IsLowRow e = height e.1.tree.root ≤ 64
@@ -82,19 +83,19 @@ listed-tree RlsServices Global true t x h = cc
 listed-tree RlsServices (User xui) true t x h = ap (λ (p : Pair). p.1) (same_Some {A = Pair} (xui, t) x h)
 listed-tree XcapCaps home b t x h = cc
 
-low-step : (e : Row) (ds : List Pair) (o : Option Pair) → indexed (held_in e) ≡ o → IsLowRow e → AllByRecursion IsLow ds → AllByRecursion IsLow (cons_option o ds)
+low-step : (e : Row) (ds : List Pair) (o : Option Pair) → indexed (stored_in e) ≡ o → IsLowRow e → AllByRecursion IsWithinLevels ds → AllByRecursion IsWithinLevels (cons_option o ds)
 low-step e ds None h low by = by
 low-step e ds (Some x) h low by = (subst (λ (t : Tree). height t ≤ 64) (listed-tree e.0.auid e.0.home (bytes_eq e.0.name index) e.1.tree.root x h) low, by)
 
-low-listed : (es : List Row) → AllByRecursion IsLowRow es → AllByRecursion IsLow (listed es)
+low-listed : (es : List Row) → AllByRecursion IsLowRow es → AllByRecursion IsWithinLevels (listed es)
 low-listed [] a = tt
-low-listed (e ∷ es) a = low-step e (listed es) (indexed (held_in e)) refl a.0 (low-listed es a.1)
+low-listed (e ∷ es) a = low-step e (listed es) (indexed (stored_in e)) refl a.0 (low-listed es a.1)
 
--- what is lent shows these trees, so it is as low
+-- the borrowed trees have these values, so they have no more levels
 first-same : (t u : Tree) (ts us : List Tree) → t ∷ ts ≡ u ∷ us → (t ≡ u) × (ts ≡ us)
 first-same t u ts us h = (cc, cc)
 
-low-shown : (xs : List (Bor Tree)) (ds : List Pair) → map (λ (x : Bor Tree). x.now) xs ≡ map (λ (d : Pair). d.1) ds → AllByRecursion IsLow ds → AllByRecursion (λ (x : Bor Tree). height x.now ≤ 64) xs
+low-shown : (xs : List (Bor Tree)) (ds : List Pair) → map (λ (x : Bor Tree). x.now) xs ≡ map (λ (d : Pair). d.1) ds → AllByRecursion IsWithinLevels ds → AllByRecursion (λ (x : Bor Tree). height x.now ≤ 64) xs
 low-shown [] ds h a = tt
 low-shown (x ∷ xs) [] h a = cc
 low-shown (x ∷ xs) (d ∷ ds) h a =
@@ -126,12 +127,12 @@ trees-in-pairs (e ∷ es) = ap (λ (ts : List Tree). e.1.now ∷ ts) (trees-in-p
 -- ---- in a store
 
 module _ (es : List Row) (rs : List (List ℕ × ℕ)) (last total : ℕ) (storing : IsStoring es rs last total) where
-  -- what such a map holds of a store's documents is in order
+  -- the entries of such a map for a store's documents are in order
   pub listed-in-order : entered [] (listed es) ≡ in_order (listed es)
   listed-in-order = entered-in-order (listed es) (users-apart es (known-of es rs last total storing).names)
 
-  pub low-in-order : AllByRecursion IsLow (in_order (listed es))
-  low-in-order = each-in-order IsLow (listed es) (low-listed es (known-of es rs last total storing).low)
+  pub low-in-order : AllByRecursion IsWithinLevels (in_order (listed es))
+  low-in-order = each-in-order IsWithinLevels (listed es) (low-listed es (known-of es rs last total storing).low)
 
   module _ (made : List (Bor (List ℕ) × Bor Tree)) (all : pairs_in made ≡ entered [] (listed es)) (trees : List (Bor Tree)) (shown : trees ≡ values_of made) where
     trees-in-order : map (λ (t : Bor Tree). t.now) trees ≡ map (λ (d : Pair). d.1) (in_order (listed es))

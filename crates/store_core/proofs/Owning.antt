@@ -1,18 +1,18 @@
--- Which trees nobody shares, and what a store keeps of its documents, whoever shares their trees.
+-- Which trees are unshared, and what a store has of its documents, whoever shares their trees.
 use Rattle.std.proofs.Common.{◌≡◌, ℕ, ◌+◌, ◌≤◌, Bool, true, false, cond, List, [], ◌∷◌, map, sum_by, Option, None, Some, option_map, refl, sym, ap, subst, ◌∙◌}
 use Rattle.std.proofs.lemmas.Option.{same_Some}
 use Rattle.std.specs.List.{AllByRecursion}
 use Rattle.std.specs.Map.{lookup, set_value}
 use Rattle.std.specs.Set.{is_member}
 use Rattle.std.specs.Str.{bytes_eq}
-use Rattle.doc_names.specs.Same.{same_id}
+use Rattle.doc_names.specs.Equality.{same_id}
 use Rattle.doc_names.specs.contracts.doc_id.DocIdPartialEq.TheImpl.{eq-value}
 use Rattle.doc_names.specs.declared.doc_id.DocId.{DocId}
 use Rattle.store_core.specs.declared.entry.Entry.{Entry}
-use Rattle.store_core.specs.Held.{Held, Stock as Content}
-use Rattle.store_core.specs.Keeping.{AreApart}
+use Rattle.store_core.specs.Contents.{StoredDocument, StoreContents as Content}
+use Rattle.store_core.specs.ValidStates.{AreDistinct}
 use Rattle.store_core.specs.inner.Making.{IsOwn}
-use Rattle.store_core.specs.inner.Storing.{IsStoring, all_as_own, as_own, content_in, held_in, holder, len_in, number_in, trees_in, uris_in}
+use Rattle.store_core.specs.inner.Storing.{IsStoring, all_as_own, as_own, content_in, stored_in, holder, len_in, number_in, trees_in, uris_in}
 use Rattle.store_core.proofs.Accepted.{sum-mapped}
 use Rattle.store_core.proofs.Entries.{each-mapped, each-unmapped, mapped}
 use Rattle.store_core.proofs.Keyed.{looked-up, same-set}
@@ -50,7 +50,7 @@ module _ {X : Type 0} (read : Entry → X) (q : DocId → Bool) where
 pub found-tree : (es : List Row) (doc : DocId) (v : Entry) → lookup (same_id doc) es ≡ Some v → lookup (same_id doc) (trees_in es) ≡ Some v.tree.own
 found-tree es doc v found = read-found is_own (same_id doc) es v found
 
--- ---- one entry written
+-- ---- one entry replaced
 
 module _ (q : DocId → Bool) where
   set-step : (e : Row) (es : List Row) (v w : Entry) (b : Bool) → q e.0 ≡ b → cond b (Some e.1) (lookup q es) ≡ Some v → (lookup q es ≡ Some v → lookup q (set_value q es w) ≡ Some w)
@@ -72,7 +72,7 @@ module _ (q : DocId → Bool) where
   own-set (e ∷ es) w = own-step e es w (q e.0) (own-set es w)
 
 module _ (doc : DocId) (es next : List Row) (v w : Entry) (written : next ≡ set_value (eq-value.it doc) es w) (there : Some v ≡ lookup (eq-value.it doc) es) where
-  -- what is written differs at most in who shares the tree
+  -- what is written differs at most in whether the tree is shared
   pub same-written : as_own w ≡ as_own v → all_as_own next ≡ all_as_own es
   same-written same =
       let q = eq-value.it doc in
@@ -88,13 +88,13 @@ module _ (doc : DocId) (es next : List Row) (v w : Entry) (written : next ≡ se
       sym (looked-up doc next) ∙ ap (λ (xs : List Row). lookup q xs) written ∙ set-found q es v w (sym there) in
       same_Some b w.tree.own (sym found ∙ found-tree next doc w here) ∙ own
 
--- the tree of a document that isn't there
+-- the tree of a document that isn't stored
 pub own-missing : (doc : DocId) (es : List Row) → None ≡ lookup (eq-value.it doc) es → IsOwn (trees_in es) doc
 own-missing doc es none = λ b found.
     let missing : lookup (same_id doc) (trees_in es) ≡ None = read-missing is_own (same_id doc) es (sym (looked-up doc es) ∙ sym none) in
     cc
 
--- ---- what is kept
+-- ---- what is unchanged
 
 abbrev HasLen : Row → Type 0
 HasLen e = e.1.len ≡ len_in e
@@ -104,14 +104,14 @@ held-alike [] uri = refl
 held-alike (e ∷ es) uri = ap (λ (o : Option ℕ). cond (is_member bytes_eq (uris_in e) uri) (Some (number_in e)) o) (held-alike es uri)
 
 module _ (es ds : List Row) (same : all_as_own ds ≡ all_as_own es) where
-  same-held : map held_in ds ≡ map held_in es
-  same-held = sym (mapped held_in own_row ds) ∙ ap (map held_in) same ∙ mapped held_in own_row es
+  same-held : map stored_in ds ≡ map stored_in es
+  same-held = sym (mapped stored_in own_row ds) ∙ ap (map stored_in) same ∙ mapped stored_in own_row es
 
   same-numbers : map number_in ds ≡ map number_in es
   same-numbers = sym (mapped number_in own_row ds) ∙ ap (map number_in) same ∙ mapped number_in own_row es
 
   pub alike-content : (last : ℕ) → content_in ds last ≡ content_in es last
-  alike-content last = ap (λ (hs : List Held). let c : Content = record { documents = hs; next = last + 1 } in c) same-held
+  alike-content last = ap (λ (hs : List StoredDocument). let c : Content = record { documents = hs; next = last + 1 } in c) same-held
 
   pub alike-storing : (rs : List (List ℕ × ℕ)) (last total : ℕ) → IsStoring es rs last total → IsStoring ds rs last total
   alike-storing rs last total s =
@@ -119,7 +119,7 @@ module _ (es ds : List Row) (same : all_as_own ds ≡ all_as_own es) where
       record {
         kept = (s.kept.0, alike-content last ∙ s.kept.1, s.kept.2);
         addresses = λ uri. s.addresses uri ∙ sym (held-alike es uri) ∙ ap (λ (xs : List Row). holder xs uri) (sym same) ∙ held-alike ds uri;
-        numbers = subst (λ (ns : List ℕ). AreApart ns) (sym same-numbers) s.numbers;
+        numbers = subst (λ (ns : List ℕ). AreDistinct ns) (sym same-numbers) s.numbers;
         given = each-unmapped P number_in ds (subst (λ (ns : List ℕ). AllByRecursion P ns) (sym same-numbers) (each-mapped P number_in es s.given));
         sum = s.sum ∙ sym (sum-mapped len_in own_row es) ∙ ap (sum_by len_in) (sym same) ∙ sum-mapped len_in own_row ds;
         lens = each-unmapped HasLen own_row ds (subst (λ (xs : List Row). AllByRecursion HasLen xs) (sym same) (each-mapped HasLen own_row es s.lens));

@@ -1,4 +1,4 @@
--- The first item that passes a test, where some items stand among others that don't pass.
+-- The first item that passes a test, where some items are among others that don't pass.
 use Rattle.std.proofs.Common.{◌≡◌, ℕ, ◌+◌, Bool, true, false, cond, List, [], ◌∷◌, ◌++◌, length, Option, None, Some, option_map, refl, sym, ap, ◌∙◌, arith}
 use Rattle.std.proofs.lemmas.Iterator.Adapters.{position_from-zero}
 use Rattle.std.specs.List.{AllByRecursion, position, position_from}
@@ -44,7 +44,7 @@ module _ (p : List ℕ → Bool) where
   by-them place n (u ∷ v ∷ us) come =
       ap (λ (m : ℕ). position_from p m (u ∷ v ∷ us)) come.0 ∙ from-zero place (position_from p 0 (u ∷ v ∷ us)) come.1
 
-  -- the first of all addresses that passes, by the first of those that come
+  -- the first of all addresses that passes, by the first of the added ones
   pub first-among : (place : ℕ) (before us behind : List (List ℕ)) → None-of p before → None-of p behind → ComeAt place (length before) us
       → position p (before ++ (us ++ behind)) ≡ option_map (λ i. max place i) (position p us)
   first-among place before us behind h g come =

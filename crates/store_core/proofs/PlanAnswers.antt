@@ -1,30 +1,30 @@
--- What planning a change answers, from the reasons against it and its parts.
+-- The result of planning a change, from the reasons against it and its parts.
 use Rattle.std.proofs.Common.{◌≡◌, ℕ, ◌+◌, ◌≤◌, Bool, true, false, List, [], length, sum_by, Option, None, Some, IsSome, option_map, Result, Ok, Err, refl, sym, ap, subst, ◌∙◌, arith}
 use Rattle.std.proofs.lemmas.Option.{same_Some}
 use Rattle.std.specs.Map.{lookup}
 use Rattle.std.specs.Option.{option_or as or_else}
 use Rattle.xml_tree.specs.Tree.{Tree}
 use Rattle.usage_docs.specs.Services.{document_len}
-use Rattle.doc_names.specs.Same.{same_id}
+use Rattle.doc_names.specs.Equality.{same_id}
 use Rattle.doc_names.specs.Usages.{usage_of}
 use Rattle.doc_names.specs.declared.doc_id.DocId.{DocId}
 use Rattle.edit_ops.specs.Changes.{Fits, edited}
 use Rattle.edit_ops.specs.declared.change.Change.{Change}
 use Rattle.edit_ops.specs.declared.change.Change.TheVariants.{CreateDocument, RemoveDocument}
-use Rattle.notes.specs.Notes.{Note, note_of}
+use Rattle.edit_ops.specs.Notes.{Note, note_of}
 use Rattle.store_core.specs.declared.refusal.StoreRefusal.{StoreRefusal}
 use Rattle.store_core.specs.declared.entry.Entry.{Entry}
 use Rattle.store_core.specs.declared.staged_tree.StagedTree.TheVariants.{Whole, InPlace}
 use Rattle.store_core.specs.declared.step.Step.{Step}
 use Rattle.store_core.specs.declared.step.Step.TheVariants.{Make, Edit, End}
-use Rattle.store_core.specs.Held.{Held, Stock as Content}
-use Rattle.store_core.specs.Keeping.{IsSoundFor, addresses_in}
-use Rattle.store_core.specs.Asking.{Asks, MayBeFor}
-use Rattle.store_core.specs.Changing.{Act, Edits, act_of, against, against_number, against_tree, answered, changing, content_after, document_in, held_name, note_for, other_lengths}
-use Rattle.store_core.specs.Making.{IsStagedIn, is_within}
+use Rattle.store_core.specs.Contents.{StoredDocument, StoreContents as Content}
+use Rattle.store_core.specs.ValidStates.{IsSoundFor, addresses_in}
+use Rattle.store_core.specs.Queries.{Asks, MayBeFor}
+use Rattle.store_core.specs.DocumentChanges.{Act, Edits, act_of, against, against_number, against_tree, answered, changing, content_after, document_in, stored_name, note_for, other_lengths}
+use Rattle.store_core.specs.TreeChanges.{IsStagedIn, is_within}
 use Rattle.store_core.specs.inner.Making.{IsOwn}
-use Rattle.store_core.specs.Preparing.{Exchanges, HasTree, IsPlanned, IsReady, IsStepOf, Readied, total_of}
-use Rattle.store_core.proofs.Accepted.{passes, unfound}
+use Rattle.store_core.specs.PreparedChanges.{Exchanges, HasTree, IsPlanned, IsReady, IsStepOf, Readied, total_of}
+use Rattle.store_core.proofs.Accepted.{passes, not_found_refusal}
 use Rattle.store_core.proofs.Apart.{none-filtered}
 use Rattle.store_core.proofs.Asked.{asked, found-name}
 use Rattle.store_core.proofs.Exchanging.{exchanged-by}
@@ -52,8 +52,8 @@ pub reason-of : (c : Content) (doc : DocId) (change : Change) (e : StoreRefusal)
 unfolding Plans
 reason-of c doc change e h = h
 
--- the document that a reading found
-pub held-of : (o : Option Held) (t : Tree) (tag : ℕ) → (let x : Tree × ℕ = (t, tag) in Some x) ≡ option_map {U = Tree × ℕ} (λ (h : Held). (h.tree, h.tag)) o → (h : Held) × (o ≡ Some h) × (h.tree ≡ t) × (h.tag ≡ tag)
+-- the document that a look-up found
+pub held-of : (o : Option StoredDocument) (t : Tree) (tag : ℕ) → (let x : Tree × ℕ = (t, tag) in Some x) ≡ option_map {U = Tree × ℕ} (λ (h : StoredDocument). (h.tree, h.tag)) o → (h : StoredDocument) × (o ≡ Some h) × (h.tree ≡ t) × (h.tag ≡ tag)
 held-of None t tag e = cc
 held-of (Some h) t tag e =
     let a : Tree × ℕ = (t, tag) in
@@ -61,31 +61,31 @@ held-of (Some h) t tag e =
     let same : a ≡ b = same_Some a b e in
     (h, refl, sym (ap (λ (x : Tree × ℕ). x.0) same), sym (ap (λ (x : Tree × ℕ). x.1) same))
 
-pub nothing-read : (o : Option Held) → None ≡ option_map {U = Tree × ℕ} (λ (h : Held). (h.tree, h.tag)) o → IsSome o → ⊥
+pub nothing-read : (o : Option StoredDocument) → None ≡ option_map {U = Tree × ℕ} (λ (h : StoredDocument). (h.tree, h.tag)) o → IsSome o → ⊥
 nothing-read None e h = cc
 nothing-read (Some x) e h = cc
 
-pub some-held : (o : Option Held) (h : Held) → o ≡ Some h → IsSome o
+pub some-held : (o : Option StoredDocument) (h : StoredDocument) → o ≡ Some h → IsSome o
 some-held o h e = rw e refl
 
--- ---- a document that is made
+-- ---- a creation
 
 pub creation-refused : (c : Content) (doc : DocId) (root : Tree) (e : StoreRefusal) → against_tree c doc true root ≡ Some e → Plans c doc (CreateDocument root) (Err e)
 creation-refused c doc root e h =
     let change = CreateDocument root in
-    plans-refused c doc change e (refused-first (against_tree c doc true root) (against_number c) e (note_for c doc change (document_in held_name c.documents doc)) (content_after c doc change) h)
+    plans-refused c doc change e (refused-first (against_tree c doc true root) (against_number c) e (note_for c doc change (document_in stored_name c.documents doc)) (content_after c doc change) h)
 
 pub creation-unnumbered : (c : Content) (doc : DocId) (root : Tree) (e : StoreRefusal) → against_tree c doc true root ≡ None → against_number c ≡ Some e → Plans c doc (CreateDocument root) (Err e)
 creation-unnumbered c doc root e h g =
     let change = CreateDocument root in
-    plans-refused c doc change e (refused-last (against_tree c doc true root) (against_number c) e (note_for c doc change (document_in held_name c.documents doc)) (content_after c doc change) h g)
+    plans-refused c doc change e (refused-last (against_tree c doc true root) (against_number c) e (note_for c doc change (document_in stored_name c.documents doc)) (content_after c doc change) h g)
 
-other-lengths-new : (c : Content) (doc : DocId) → document_in held_name c.documents doc ≡ None → other_lengths c doc ≡ total_of c
+other-lengths-new : (c : Content) (doc : DocId) → document_in stored_name c.documents doc ≡ None → other_lengths c doc ≡ total_of c
 other-lengths-new c doc missing =
-    let q : Held → Bool = λ h. same_id doc h.id in
-    ap (λ (hs : List Held). sum_by (λ (h : Held). document_len h.tree) hs) (none-filtered q c.documents (unfound q c.documents missing))
+    let q : StoredDocument → Bool = λ h. same_id doc h.id in
+    ap (λ (hs : List StoredDocument). sum_by (λ (h : StoredDocument). document_len h.tree) hs) (none-filtered q c.documents (not_found_refusal q c.documents missing))
 
-pub creation-room : (c : Content) (doc : DocId) (root : Tree) → document_in held_name c.documents doc ≡ None → against_tree c doc true root ≡ None → (total_of c + document_len root ≤ 33554432) × (document_len root ≤ 262144)
+pub creation-room : (c : Content) (doc : DocId) (root : Tree) → document_in stored_name c.documents doc ≡ None → against_tree c doc true root ≡ None → (total_of c + document_len root ≤ 33554432) × (document_len root ≤ 262144)
 creation-room c doc root missing h =
     let p = passes c doc true root h in
     (omega (arith, p.room, other-lengths-new c doc missing), p.short)
@@ -94,10 +94,10 @@ pub creation-planned : (c : Content) (doc : DocId) (root : Tree) (o : Outline) �
     → Plans c doc (CreateDocument root) (Ok (record { doc = doc; note = record { previous = 0; next = o.number; bindings = []; change = CreateDocument root; fresh = false }; step = Make doc (entry_of o.number root); leaves = o.leaves; enters = o.enters; total = o.total }))
 creation-planned c doc root o asks outlined =
     let change = CreateDocument root in
-    let found = document_in held_name c.documents doc in
+    let found = document_in stored_name c.documents doc in
     let note : ℕ → Note = λ n. record { previous = 0; next = n; bindings = []; change = change; fresh = false } in
     let p : Readied = record { doc = doc; note = note o.number; step = Make doc (entry_of o.number root); leaves = o.leaves; enters = o.enters; total = o.total } in
-    let noted : note_for c doc change found ≡ note o.number = ap (λ (h : Option Held). note_for c doc change h) asks.0 ∙ ap note (sym outlined.number) in
+    let noted : note_for c doc change found ≡ note o.number = ap (λ (h : Option StoredDocument). note_for c doc change h) asks.0 ∙ ap note (sym outlined.number) in
     plans-made c doc change p refl refl (record {
       asks = asks;
       made =
@@ -107,15 +107,15 @@ creation-planned c doc root o asks outlined =
       step = (asks.0, refl, ap (λ (n : ℕ). entry_of n root) outlined.number, outlined.leaves, outlined.enters, outlined.total, refl);
     })
 
--- ---- a document that is edited
+-- ---- an edit
 
-edit-changing : (c : Content) (doc : DocId) (change : Change) (h : Held) → act_of change ≡ Edits → document_in held_name c.documents doc ≡ Some h
+edit-changing : (c : Content) (doc : DocId) (change : Change) (h : StoredDocument) → act_of change ≡ Edits → document_in stored_name c.documents doc ≡ Some h
     → changing c doc change ≡ answered (or_else (against_tree c doc false (edited h.tree change)) (against_number c)) (note_of h.tag c.next h.tree change) (content_after c doc change)
 edit-changing c doc change h edits found =
-    ap (λ (o : Option Held). answered (against c doc change o (act_of change)) (note_for c doc change o) (content_after c doc change)) found
+    ap (λ (o : Option StoredDocument). answered (against c doc change o (act_of change)) (note_for c doc change o) (content_after c doc change)) found
     ∙ ap (λ (act : Act). answered (against c doc change (Some h) act) (note_of h.tag c.next h.tree change) (content_after c doc change)) edits
 
-pub edit-refused : (c : Content) (doc : DocId) (change : Change) (h : Held) (t : Tree) (e : StoreRefusal) → act_of change ≡ Edits → document_in held_name c.documents doc ≡ Some h → t ≡ edited h.tree change
+pub edit-refused : (c : Content) (doc : DocId) (change : Change) (h : StoredDocument) (t : Tree) (e : StoreRefusal) → act_of change ≡ Edits → document_in stored_name c.documents doc ≡ Some h → t ≡ edited h.tree change
     → against_tree c doc false t ≡ Some e → Plans c doc change (Err e)
 edit-refused c doc change h t e edits found tree g =
     let note = note_of h.tag c.next h.tree change in
@@ -123,7 +123,7 @@ edit-refused c doc change h t e edits found tree g =
     (edit-changing c doc change h edits found
     ∙ refused-first (against_tree c doc false (edited h.tree change)) (against_number c) e note (content_after c doc change) (ap (λ (x : Tree). against_tree c doc false x) (sym tree) ∙ g))
 
-pub edit-unnumbered : (c : Content) (doc : DocId) (change : Change) (h : Held) (t : Tree) (e : StoreRefusal) → act_of change ≡ Edits → document_in held_name c.documents doc ≡ Some h → t ≡ edited h.tree change
+pub edit-unnumbered : (c : Content) (doc : DocId) (change : Change) (h : StoredDocument) (t : Tree) (e : StoreRefusal) → act_of change ≡ Edits → document_in stored_name c.documents doc ≡ Some h → t ≡ edited h.tree change
     → against_tree c doc false t ≡ None → against_number c ≡ Some e → Plans c doc change (Err e)
 edit-unnumbered c doc change h t e edits found tree g n =
     let note = note_of h.tag c.next h.tree change in
@@ -134,9 +134,9 @@ edit-unnumbered c doc change h t e edits found tree g n =
 pub edit-room : (c : Content) (doc : DocId) (t : Tree) → against_tree c doc false t ≡ None → (other_lengths c doc + document_len t ≤ 33554432) × (document_len t ≤ 262144)
 edit-room c doc t h = let p = passes c doc false t h in (p.room, p.short)
 
--- what is exchanged of its addresses
-pub edit-exchanged : (c : Content) (doc : DocId) (change : Change) (h : Held) (t : Tree) (first : ℕ) (leaves enters : List (List ℕ)) → Asks c doc change → act_of change ≡ Edits
-    → document_in held_name c.documents doc ≡ Some h → h.tree ≡ t → IsSoundFor (usage_of doc.auid) t → first ≡ first_number change → leaves ≡ leave_in doc.auid t change → enters ≡ enter_in doc.auid change
+-- which of its addresses are replaced
+pub edit-exchanged : (c : Content) (doc : DocId) (change : Change) (h : StoredDocument) (t : Tree) (first : ℕ) (leaves enters : List (List ℕ)) → Asks c doc change → act_of change ≡ Edits
+    → document_in stored_name c.documents doc ≡ Some h → h.tree ≡ t → IsSoundFor (usage_of doc.auid) t → first ≡ first_number change → leaves ≡ leave_in doc.auid t change → enters ≡ enter_in doc.auid change
     → AreExchanged first (addresses_in doc.auid h.tree) leaves enters (addresses_in doc.auid (edited t change))
 edit-exchanged c doc change h t first leaves enters asks edits found tree sound number left entered =
     let asked-for = asked c doc change h edits found asks in
@@ -150,11 +150,11 @@ edit-exchanged c doc change h t first leaves enters asks edits found tree sound 
     (subst (λ (us : List (List ℕ)). AreExchanged (first_number change) (addresses_in doc.auid t) (leave_in doc.auid t change) us new) (sym entered)
     (exchanged-by doc.auid t change fits sound may))))
 
--- so they are exchanged between the same others
+-- so they are replaced between the same others
 pub exchanged-between : (first : ℕ) (old now leaves enters new : List (List ℕ)) → now ≡ old → AreExchanged first old leaves enters new → Exchanges now leaves enters new
 exchanged-between first old now leaves enters new same x = (x.before, x.behind, same ∙ x.was, x.becomes)
 
--- with its memory and its note
+-- with its memory and its change record
 pub edit-planned : (c : Content) (doc : DocId) (change : Change) (v : Entry) (o : Outline) (p : Readied) → Asks c doc change → act_of change ≡ Edits → IsHeldAs c doc v
     → IsOutline c doc v.tree.root change o → IsNoted doc v change o p → Plans c doc change (Ok p)
 edit-planned c doc change v o p asks edits held outlined noted =
@@ -196,22 +196,22 @@ edit-planned c doc change v o p asks edits held outlined noted =
       );
     }))
 
--- ---- a document that is taken away
+-- ---- a removal
 
 pub removal-unnumbered : (c : Content) (doc : DocId) (e : StoreRefusal) → against_number c ≡ Some e → Plans c doc RemoveDocument (Err e)
 removal-unnumbered c doc e h =
-    let note = note_for c doc RemoveDocument (document_in held_name c.documents doc) in
+    let note = note_for c doc RemoveDocument (document_in stored_name c.documents doc) in
     plans-refused c doc RemoveDocument e (ap (λ (o : Option StoreRefusal). answered o note (content_after c doc RemoveDocument)) h)
 
-pub removal-planned : (c : Content) (doc : DocId) (h : Held) (tag number total : ℕ) (leaves : List (List ℕ)) → Asks c doc RemoveDocument → document_in held_name c.documents doc ≡ Some h → against_number c ≡ None → number ≡ c.next
+pub removal-planned : (c : Content) (doc : DocId) (h : StoredDocument) (tag number total : ℕ) (leaves : List (List ℕ)) → Asks c doc RemoveDocument → document_in stored_name c.documents doc ≡ Some h → against_number c ≡ None → number ≡ c.next
     → h.tag ≡ tag → leaves ≡ addresses_in doc.auid h.tree → total + document_len h.tree ≡ total_of c
     → Plans c doc RemoveDocument (Ok (record { doc = doc; note = record { previous = tag; next = number; bindings = []; change = RemoveDocument; fresh = false }; step = End; leaves = leaves; enters = []; total = total }))
 removal-planned c doc h tag number total leaves asks found free numbered tagged left sum =
-    let found_at = document_in held_name c.documents doc in
+    let found_at = document_in stored_name c.documents doc in
     let note : ℕ → ℕ → Note = λ t n. record { previous = t; next = n; bindings = []; change = RemoveDocument; fresh = false } in
     let p : Readied = record { doc = doc; note = note tag number; step = End; leaves = leaves; enters = []; total = total } in
     let noted : note_for c doc RemoveDocument found_at ≡ note tag number =
-    ap (λ (o : Option Held). note_for c doc RemoveDocument o) found ∙ ap (λ (t : ℕ). note t c.next) tagged ∙ ap (note tag) (sym numbered) in
+    ap (λ (o : Option StoredDocument). note_for c doc RemoveDocument o) found ∙ ap (λ (t : ℕ). note t c.next) tagged ∙ ap (note tag) (sym numbered) in
     plans-made c doc RemoveDocument p refl refl (record {
       asks = asks;
       made =
@@ -221,7 +221,7 @@ removal-planned c doc h tag number total leaves asks found free numbered tagged 
       step = (h, found, refl, left, refl, sum);
     })
 
--- ---- a change that was planned, once there is room for it
+-- ---- a planned change, once its memory is reserved
 
 pub prepared-ok : (c : Content) (doc : DocId) (change : Change) (p : Readied) → Plans c doc change (Ok p)
     → (p.doc ≡ doc) × (changing c doc change ≡ Ok (p.note, content_after c doc change)) × (p.note.change ≡ change)

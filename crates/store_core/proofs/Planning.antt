@@ -1,4 +1,5 @@
--- The reasons against a change, as they are found by the registry and the total, are those of the definitions.
+-- The reasons against a change, as the registry and the total give them, are those of the
+-- definitions.
 use Rattle.std.proofs.Common.{◌≡◌, ◌≢◌, ℕ, ◌+◌, ◌-◌, ◌≤◌, nat_lt, nat_le, min, Bool, true, false, not, ◌&&◌, List, [], ◌∷◌, ◌++◌, length, map, filter, sum_by, Option, None, Some, IsSomeAnd, option_map, Ok, Err, refl, sym, ap, subst, ◌∙◌, arith}
 use Rattle.std.proofs.lemmas.Bool.Decides.{nat_tests}
 use Rattle.std.proofs.lemmas.List.{length-map, map-append}
@@ -12,18 +13,18 @@ use Rattle.std.specs.Prelude.{max}
 use Rattle.xml_tree.specs.Tree.{Tree}
 use Rattle.usage_docs.specs.Services.{document_len}
 use Rattle.usage_docs.specs.declared.keys.Clash.{Clash}
-use Rattle.usage_docs.specs.declared.rows.Key.TheVariants.{Uri}
-use Rattle.doc_names.specs.Same.{same_id}
+use Rattle.usage_docs.specs.declared.schema_table.Key.TheVariants.{Uri}
+use Rattle.doc_names.specs.Equality.{same_id}
 use Rattle.doc_names.specs.declared.doc_id.DocId.{DocId}
-use Rattle.notes.specs.Notes.{Note}
+use Rattle.edit_ops.specs.Notes.{Note}
 use Rattle.store_core.specs.declared.entry.Entry.{Entry}
 use Rattle.store_core.specs.declared.refusal.StoreRefusal.{StoreRefusal}
 use Rattle.store_core.specs.declared.refusal.StoreRefusal.TheVariants.{ServiceTaken, TooLarge, TooMany, StoreFull}
-use Rattle.store_core.specs.Held.{Held, Stock as Content}
-use Rattle.store_core.specs.Keeping.{AreApart, addresses_in}
-use Rattle.store_core.specs.Changing.{against_tree, answered, document_in, held_name, only_if, other_addresses, other_lengths, taken, without_document}
-use Rattle.store_core.specs.inner.Storing.{IsStoring, content_in, held_in, holder, is_others, len_in, number_in, registered, uris_in}
-use Rattle.store_core.specs.Preparing.{total_of}
+use Rattle.store_core.specs.Contents.{StoredDocument, StoreContents as Content}
+use Rattle.store_core.specs.ValidStates.{AreDistinct, addresses_in}
+use Rattle.store_core.specs.DocumentChanges.{against_tree, answered, document_in, stored_name, only_if, other_addresses, other_lengths, taken, without_document}
+use Rattle.store_core.specs.inner.Storing.{IsStoring, content_in, stored_in, holder, is_others, len_in, number_in, registered, uris_in}
+use Rattle.store_core.specs.PreparedChanges.{total_of}
 use Rattle.store_core.proofs.Accepted.{sum-mapped, sum-put}
 use Rattle.store_core.proofs.Apart.{each-append, each-left, each-right, each-weaker, apart-behind, none-filtered, one-filtered}
 use Rattle.store_core.proofs.Admitted.{apart-before}
@@ -47,7 +48,7 @@ long n m h = grind (arith, nat_tests)
 short : (n : ℕ) → nat_lt 262144 n ≡ false → min n 18446744073709551615 ≡ n
 short n h = grind (arith, nat_tests)
 
--- a length that was cut at the greatest number tells the same
+-- a length that was capped at the greatest number gives the same test
 cut-step : (place : Option ℕ) (n : ℕ) (full : Bool) (others : ℕ) (b : Bool) → nat_lt 262144 n ≡ b
     → refused_for place (min n 18446744073709551615) full others
     ≡ or_else (option_map (λ clash. ServiceTaken clash) (option_map (λ i. let clash : Clash = record { path = i ∷ []; key = Uri } in clash) place))
@@ -63,7 +64,7 @@ cut-step None n full others false e =
 
 -- ---- the tests of a tree
 
--- where a registry tells of each address whether another document has it
+-- where a registry says of each address whether another document has it
 found-so : (c : Content) (id : DocId) (is_new : Bool) (t : Tree) (test : List ℕ → Bool) (full : Bool) (others : ℕ) → ((uri : List ℕ) → is_member bytes_eq (other_addresses c id) uri ≡ test uri)
     → full ≡ (is_new && nat_le 1000 (length c.documents)) → others ≡ other_lengths c id
     → refused_for (position test (addresses_in id.auid t)) (min (document_len t) 18446744073709551615) full others ≡ against_tree c id is_new t
@@ -84,20 +85,20 @@ found-so c id is_new t test full others tests fullness lengths =
 abbrev others-of : List Row → DocId → List Row
 others-of es id = filter (λ e. not (same_id id e.0)) es
 
-others-held : (es : List Row) (last : ℕ) (id : DocId) → without_document held_name (content_in es last).documents id ≡ map held_in (others-of es id)
-others-held es last id = sym (map-filtered held_in (λ (e : Row). not (same_id id e.0)) (λ (h : Held). not (same_id id h.id)) (λ e. refl) es)
+others-held : (es : List Row) (last : ℕ) (id : DocId) → without_document stored_name (content_in es last).documents id ≡ map stored_in (others-of es id)
+others-held es last id = sym (map-filtered stored_in (λ (e : Row). not (same_id id e.0)) (λ (h : StoredDocument). not (same_id id h.id)) (λ e. refl) es)
 
 other-uris : (es : List Row) (last : ℕ) (id : DocId) → other_addresses (content_in es last) id ≡ flat_map uris_in (others-of es id)
 other-uris es last id =
-    let uris : Held → List (List ℕ) = λ h. addresses_in h.id.auid h.tree in
-    ap (flat_map uris) (others-held es last id) ∙ flat_map-map uris held_in (others-of es id)
+    let uris : StoredDocument → List (List ℕ) = λ h. addresses_in h.id.auid h.tree in
+    ap (flat_map uris) (others-held es last id) ∙ flat_map-map uris stored_in (others-of es id)
 
 other-lens : (es : List Row) (last : ℕ) (id : DocId) → other_lengths (content_in es last) id ≡ sum_by len_in (others-of es id)
 other-lens es last id =
-    let len : Held → ℕ = λ h. document_len h.tree in
-    ap (sum_by len) (others-held es last id) ∙ sum-mapped len held_in (others-of es id)
+    let len : StoredDocument → ℕ = λ h. document_len h.tree in
+    ap (sum_by len) (others-held es last id) ∙ sum-mapped len stored_in (others-of es id)
 
--- ---- a document that isn't held
+-- ---- a new document
 
 all-others : (es : List Row) → AllByRecursion (λ e. is_others None (Some (number_in e)) ≡ true) es
 all-others [] = tt
@@ -109,18 +110,18 @@ against-new es rs last total id t s missing =
     let all : others-of es id ≡ es = none-filtered (λ (e : Row). same_id id e.0) es (none-found (same_id id) es missing) in
     found-so (content_in es last) id true t (λ uri. is_others None (registered rs uri)) (nat_le 1000 (length es)) total
     (λ uri. ap (λ (us : List (List ℕ)). is_member bytes_eq us uri) (other-uris es last id ∙ ap (flat_map uris_in) all) ∙ sym (others-hold uris_in number_in None es uri (all-others es)) ∙ ap (λ (o : Option ℕ). is_others None o) (sym (s.addresses uri)))
-    (ap (λ (n : ℕ). nat_le 1000 n) (sym (length-map es held_in)))
+    (ap (λ (n : ℕ). nat_le 1000 n) (sym (length-map es stored_in)))
     (s.sum ∙ sym (other-lens es last id ∙ ap (sum_by len_in) all))
 
--- ---- a document that is held
+-- ---- a stored document
 
-numbers-apart : (es : List Row) (v : Row) (before behind : List Row) → es ≡ before ++ v ∷ behind → AreApart (map number_in es) → AllByRecursion (λ e. is_others (Some (number_in v)) (Some (number_in e)) ≡ true) (before ++ behind)
+numbers-apart : (es : List Row) (v : Row) (before behind : List Row) → es ≡ before ++ v ∷ behind → AreDistinct (map number_in es) → AllByRecursion (λ e. is_others (Some (number_in v)) (Some (number_in e)) ≡ true) (before ++ behind)
 numbers-apart es v before behind parts apart =
     let n = number_in v in
     let Q : ℕ → Type 0 = λ t. n ≢ t in
     let R : Row → Type 0 = λ e. n ≢ number_in e in
     let S : Row → Type 0 = λ e. is_others (Some n) (Some (number_in e)) ≡ true in
-    let split : AreApart (map number_in before ++ n ∷ map number_in behind) = subst (λ (ns : List ℕ). AreApart ns) (ap (map number_in) parts ∙ map-append number_in before (v ∷ behind)) apart in
+    let split : AreDistinct (map number_in before ++ n ∷ map number_in behind) = subst (λ (ns : List ℕ). AreDistinct ns) (ap (map number_in) parts ∙ map-append number_in before (v ∷ behind)) apart in
     each-append S before behind
     (each-weaker R S (λ e h. is-other n (number_in e) h) before (each-unmapped Q number_in before (apart-before (map number_in before) (map number_in behind) n split)))
     (each-weaker R S (λ e h. is-other n (number_in e) h) behind (each-unmapped Q number_in behind (apart-behind (map number_in before) (map number_in behind) n split)))
@@ -128,7 +129,7 @@ numbers-apart es v before behind parts apart =
 others-round : (es : List Row) (id : DocId) (v : Entry) (r : Around es id v) → others-of es id ≡ r.before ++ r.behind
 others-round es id v r = ap (λ (ds : List Row). others-of ds id) r.parts ∙ one-filtered (λ (e : Row). same_id id e.0) r.before r.behind (id, v) r.none-before r.passes r.none-behind
 
--- the total without it
+-- the total without a document
 pub total-without : (es : List Row) (rs : List (List ℕ × ℕ)) (last total : ℕ) (id : DocId) (v : Entry) → IsStoring es rs last total → lookup (same_id id) es ≡ Some v → total ≡ sum_by len_in (others-of es id) + document_len v.tree.root
 total-without es rs last total id v s found =
     let r = around-of es rs last total id v s found in
@@ -141,8 +142,8 @@ module _ (es : List Row) (rs : List (List ℕ × ℕ)) (last total : ℕ) (id : 
   abbrev round : Around es id v
   round = around-of es rs last total id v s found
 
-  apart-round : AreApart (flat_map uris_in (round.before ++ (id, v) ∷ round.behind))
-  apart-round = subst (λ (ds : List Row). AreApart (flat_map uris_in ds)) round.parts (known-of es rs last total s).services
+  apart-round : AreDistinct (flat_map uris_in (round.before ++ (id, v) ∷ round.behind))
+  apart-round = subst (λ (ds : List Row). AreDistinct (flat_map uris_in ds)) round.parts (known-of es rs last total s).services
 
   others-numbered : AllByRecursion (λ e. is_others (Some v.created) (Some (number_in e)) ≡ true) (round.before ++ round.behind)
   others-numbered = numbers-apart es (id, v) round.before round.behind round.parts s.numbers
@@ -161,14 +162,14 @@ module _ (es : List Row) (rs : List (List ℕ × ℕ)) (last total : ℕ) (id : 
       refl
       (omega (arith, total-without es rs last total id v s found, other-lens es last id))
 
-  -- no address that it has is another document's
+  -- no address of the document is another document's
   own-untaken : AllByRecursion (λ uri. is-taken uri ≡ false) (addresses_in id.auid v.tree.root)
   own-untaken =
       each-weaker (λ (uri : List ℕ). is_others (Some v.created) (holder (round.before ++ (id, v) ∷ round.behind) uri) ≡ false) (λ (uri : List ℕ). is-taken uri ≡ false)
       (λ uri h. ap (λ (o : Option ℕ). is_others (Some v.created) o) (sym (held-round uri)) ∙ h)
       (addresses_in id.auid v.tree.root) (own-free uris_in number_in round.before round.behind (id, v) apart-round others-numbered)
 
-  -- so where it exchanges some, the first that is taken is one of those that come
+  -- so where it replaces some, the first taken one is among the added ones
   pub first-taken : (t : Tree) (place : ℕ) (leaves enters : List (List ℕ)) → AreExchanged place (addresses_in id.auid v.tree.root) leaves enters (addresses_in id.auid t)
       → option_map (λ i. max place i) (position is-taken enters) ≡ position is-taken (addresses_in id.auid t)
   first-taken t place leaves enters x =
@@ -177,16 +178,16 @@ module _ (es : List Row) (rs : List (List ℕ × ℕ)) (last total : ℕ) (id : 
       sym (ap (position is-taken) x.becomes
       ∙ first-among is-taken place x.before enters x.behind (each-left P x.before (leaves ++ x.behind) none) (each-right P leaves x.behind (each-right P x.before (leaves ++ x.behind) none)) x.come)
 
--- ---- what a store finds of a tree, and of the other documents
+-- ---- what a store finds about a tree, and about the other documents
 
 pub total-small : (es : List Row) (rs : List (List ℕ × ℕ)) (last total : ℕ) → IsStoring es rs last total → total ≤ 33554432
 total-small es rs last total s = omega (arith, s.sum, (known-of es rs last total s).room)
 
 module _ (es : List Row) (rs : List (List ℕ × ℕ)) (last total : ℕ) (room : Room) (s : Stored) (doc : DocId) (seen : (let x : Stored = record { content = content_in es last; room = room } in x) ≡ s) (storing : IsStoring es rs last total) where
-  pub new-answer : (t : Tree) (uris : List (List ℕ)) (place : Option ℕ) (len : ℕ) → document_in held_name s.content.documents doc ≡ None → uris ≡ addresses_in doc.auid t
+  pub new-answer : (t : Tree) (uris : List (List ℕ)) (place : Option ℕ) (len : ℕ) → document_in stored_name s.content.documents doc ≡ None → uris ≡ addresses_in doc.auid t
       → place ≡ position (λ uri. is_others None (registered rs uri)) uris → len ≡ min (document_len t) 18446744073709551615 → refused_for place len (nat_le 1000 (length es)) total ≡ against_tree s.content doc true t
   new-answer t uris place len missing own at counted =
-      let absent = absent-entry es rs last total doc storing (subst (λ (x : Stored). document_in held_name x.content.documents doc ≡ None) (sym seen) missing) in
+      let absent = absent-entry es rs last total doc storing (subst (λ (x : Stored). document_in stored_name x.content.documents doc ≡ None) (sym seen) missing) in
       let test : List ℕ → Bool = λ uri. is_others None (registered rs uri) in
       ap (λ (o : Option ℕ). refused_for o len (nat_le 1000 (length es)) total) (at ∙ ap (λ (us : List (List ℕ)). position test us) own)
       ∙ ap (λ (n : ℕ). refused_for (position test (addresses_in doc.auid t)) n (nat_le 1000 (length es)) total) counted
@@ -197,12 +198,12 @@ module _ (es : List Row) (rs : List (List ℕ × ℕ)) (last total : ℕ) (room 
     len-here : v.len ≡ document_len v.tree.root
     len-here = len-of es rs last total doc v storing (sym found)
 
-    held-tree : (h : Held) → document_in held_name s.content.documents doc ≡ Some h → h.tree ≡ v.tree.root
+    held-tree : (h : StoredDocument) → document_in stored_name s.content.documents doc ≡ Some h → h.tree ≡ v.tree.root
     held-tree h is =
         let r = around-of es rs last total doc v storing (sym found) in
-        ap (λ (x : Held). x.tree) (one-held es doc v h r (subst (λ (x : Stored). document_in held_name x.content.documents doc ≡ Some h) (sym seen) is))
+        ap (λ (x : StoredDocument). x.tree) (one-held es doc v h r (subst (λ (x : Stored). document_in stored_name x.content.documents doc ≡ Some h) (sym seen) is))
 
-    pub edit-answer : (h : Held) (t : Tree) (leaves uris : List (List ℕ)) (first len : ℕ) (place : Option ℕ) → document_in held_name s.content.documents doc ≡ Some h
+    pub edit-answer : (h : StoredDocument) (t : Tree) (leaves uris : List (List ℕ)) (first len : ℕ) (place : Option ℕ) → document_in stored_name s.content.documents doc ≡ Some h
         → AreExchanged first (addresses_in doc.auid h.tree) leaves uris (addresses_in doc.auid t)
         → place ≡ option_map (λ i. max first i) (position (λ uri. is_others (Some v.created) (registered rs uri)) uris)
         → len ≡ min (document_len t) 18446744073709551615 → refused_for place len false (total - v.len) ≡ against_tree s.content doc false t
@@ -218,7 +219,7 @@ module _ (es : List Row) (rs : List (List ℕ × ℕ)) (last total : ℕ) (room 
     pub held-as : IsHeldAs s.content doc v
     held-as =
         let r = around-of es rs last total doc v storing (sym found) in
-        subst (λ (x : Stored). IsHeldAs x.content doc v) seen (held_in (doc, v), held-found es doc v r, refl, refl, len-here)
+        subst (λ (x : Stored). IsHeldAs x.content doc v) seen (stored_in (doc, v), held-found es doc v r, refl, refl, len-here)
 
     pub no-longer : v.len ≤ total
     no-longer = omega (arith, len-here, total-without es rs last total doc v storing (sym found))
@@ -228,15 +229,15 @@ module _ (es : List Row) (rs : List (List ℕ × ℕ)) (last total : ℕ) (room 
         let here : total - v.len ≡ other_lengths (content_in es last) doc = omega (arith, len-here, total-without es rs last total doc v storing (sym found), other-lens es last doc) in
         here ∙ ap (λ (x : Stored). other_lengths x.content doc) seen
 
-    pub whole-is : IsSomeAnd (document_in held_name s.content.documents doc) (λ h. (total - v.len) + document_len h.tree ≡ total_of s.content)
+    pub whole-is : IsSomeAnd (document_in stored_name s.content.documents doc) (λ h. (total - v.len) + document_len h.tree ≡ total_of s.content)
     whole-is =
         let r = around-of es rs last total doc v storing (sym found) in
         let n : (total - v.len) + document_len v.tree.root ≡ total_of (content_in es last) =
         omega (arith, len-here, total-without es rs last total doc v storing (sym found), storing.sum, total-is es last) in
-        subst (λ (x : Stored). IsSomeAnd (document_in held_name x.content.documents doc) (λ h. (total - v.len) + document_len h.tree ≡ total_of x.content)) seen
-        (subst (λ (o : Option Held). IsSomeAnd o (λ h. (total - v.len) + document_len h.tree ≡ total_of (content_in es last))) (sym (held-found es doc v r)) n)
+        subst (λ (x : Stored). IsSomeAnd (document_in stored_name x.content.documents doc) (λ h. (total - v.len) + document_len h.tree ≡ total_of x.content)) seen
+        (subst (λ (o : Option StoredDocument). IsSomeAnd o (λ h. (total - v.len) + document_len h.tree ≡ total_of (content_in es last))) (sym (held-found es doc v r)) n)
 
--- ---- what is answered
+-- ---- what is returned
 
 pub refused-first : (a b : Option StoreRefusal) (e : StoreRefusal) (note : Note) (next : Content) → a ≡ Some e → answered (or_else a b) note next ≡ Err e
 refused-first a b e note next h = ap (λ (o : Option StoreRefusal). answered (or_else o b) note next) h

@@ -1,4 +1,4 @@
--- Addresses that come into a registry or leave it, one after another.
+-- Addresses that are added to a registry or removed from it, one after another.
 use Rattle.std.proofs.Common.{◌≡◌, ℕ, ◌+◌, ◌<◌, Bool, true, false, cond, ◌||◌, List, [], ◌∷◌, ◌++◌, length, take, get_or, Option, Result, Ok, Err, OnOk, refl, sym, ap, ◌∙◌}
 use Rattle.std.proofs.lemmas.Cmp.{nat_list_eq_equiv}
 use Rattle.std.proofs.lemmas.List.{take_more}
@@ -10,14 +10,14 @@ or-none : (b : Bool) → b ≡ (b || false)
 or-none true = refl
 or-none false = refl
 
--- one address more behind some
+-- one more address after some
 member-more : (us all : List (List ℕ)) (u k : List ℕ) → all ≡ us ++ u ∷ [] → (is_member bytes_eq us k || bytes_eq u k) ≡ is_member bytes_eq all k
 member-more us all u k more =
     ap (λ (b : Bool). is_member bytes_eq us k || b) (nat_list_eq_equiv.symm u k ∙ or-none (bytes_eq k u))
     ∙ sym (list_any-append (bytes_eq k) us (u ∷ []))
     ∙ ap (λ (xs : List (List ℕ)). is_member bytes_eq xs k) (sym more)
 
--- what they are given, where the last one comes first or last
+-- what they map to, where the last one comes first or last
 module _ (us all : List (List ℕ)) (u k : List ℕ) (given before : Option ℕ) (more : all ≡ us ++ u ∷ []) where
   either : (a b : Bool) → ◌≡◌ {A = Option ℕ} (cond a given (cond b given before)) (cond (a || b) given before)
   either true b = refl
@@ -37,7 +37,7 @@ module _ (us all : List (List ℕ)) (u k : List ℕ) (given before : Option ℕ)
 pub taken-more : (us : List (List ℕ)) (i : ℕ) (u : List ℕ) → i < length us → u ≡ get_or us i u → take (i + 1) us ≡ take i us ++ u ∷ []
 taken-more us i u within is = take_more us i u within ∙ ap (λ (x : List ℕ). take i us ++ x ∷ []) (sym is)
 
--- what a call says where it succeeds
+-- what a successful call did
 pub succeeded : {T E : Type 0} (r : Result T E) (x : T) (P : Type 0) → r ≡ Ok x → OnOk r P → P
 succeeded (Ok y) x P is h = h
 succeeded (Err e) x P is h = cc

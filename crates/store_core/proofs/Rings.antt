@@ -1,4 +1,4 @@
--- What is retained of notes, as a ring gives up its oldest ones.
+-- What is retained of change records, as a ring drops its oldest ones.
 use Rattle.std.proofs.Common.{◌≡◌, ℕ, ◌+◌, ◌-◌, ◌*◌, ◌<◌, ◌≤◌, ◌&&◌, nat_le, nat_lt, min, Bool, true, false, cond, List, [], ◌∷◌, ◌++◌, length, drop, slice_get, sum_by, Option, None, Some, refl, sym, ap, arith, length-append}
 use Rattle.std.proofs.lemmas.Bool.Decides.{nat_tests}
 use Rattle.std.proofs.lemmas.List.Sums.{sum_by-append}
@@ -29,7 +29,7 @@ module _ {A : Type 0} (weight : A → ℕ) where
       by : (n w : ℕ) → w ≤ 65536 → n ≤ 64 → (nat_le n 64 && nat_le w 65536) ≡ true
       by n w light few = grind (arith, nat_tests)
 
--- ---- what the notes of a ring count together
+-- ---- the counted weights of a ring's records together
 
 module _ {E : Type 0} (c : E → ℕ) where
   abbrev pub sum_in : Option E → ℕ
@@ -57,7 +57,7 @@ module _ {E : Type 0} (c : E → ℕ) where
       let gone = ap (λ b. sum_in (cond b None (slice_get (xs ++ n ∷ []) 0))) h in
       omega (arith, rest, gone, sum-popped (xs ++ n ∷ []), sum-behind xs n)
 
-  -- of a note more, and of the one that it pushes out
+  -- of one more record, and of the one that it pushes out
   pub sum-pushed : (cap : ℕ) (xs : List E) (n : E) → cap ≡ 64 → length xs ≤ cap
       → sum_by c (keep_last cap (xs ++ n ∷ [])) + sum_in (cond (nat_lt (length xs) cap) None (slice_get (xs ++ n ∷ []) 0)) ≡ sum_by c xs + c n
   sum-pushed cap xs n e h = by (nat_lt (length xs) cap) refl
@@ -83,7 +83,7 @@ module _ {A : Type 0} (weight : A → ℕ) where
   abbrev cut : A → ℕ
   cut x = min (weight x) 65537
 
-  -- what items count is no more than what they weigh
+  -- counted weights are no more than weights
   pub counts-less : (xs : List A) → sum_by cut xs ≤ sum_by weight xs
   counts-less [] = omega arith
   counts-less (x ∷ xs) = omega (arith, sum-first cut x xs, sum-first weight x xs, counts-less xs)

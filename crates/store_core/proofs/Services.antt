@@ -1,4 +1,5 @@
--- The service addresses of documents: those of one document are apart, and those of two that the store's test lets pass.
+-- The service addresses of documents: those of one document are distinct, and those of two that
+-- the store's test lets pass.
 use Rattle.std.proofs.Common.{◌≡◌, ◌≢◌, ℕ, zero, suc, ◌<◌, ◌+◌, Bool, true, false, cond, ◌||◌, List, [], ◌∷◌, ◌++◌, Option, None, Some, slice_get, option_map, option_and_then, codes, refl, sym, ap, ◌∙◌, arith}
 use Rattle.std.proofs.lemmas.Iterator.Adapters.{position_from-zero}
 use Rattle.std.proofs.lemmas.Option.{same_Some}
@@ -6,30 +7,30 @@ use Rattle.std.specs.List.{AllByRecursion, filter_map, list_any, position, posit
 use Rattle.std.specs.Set.{is_member}
 use Rattle.std.specs.Str.{bytes_eq}
 use Rattle.std.proofs.lemmas.Slice.Eq.{bytes_eq-Decides}
-use Rattle.xml_tree.specs.Tree.{Tree, kids_of}
+use Rattle.xml_tree.specs.Tree.{Tree, child_elements_of}
 use Rattle.xml_tree.specs.declared.names.Attr.{Attr}
 use Rattle.xml_tree.specs.Scopes.{inside}
-use Rattle.usage_docs.specs.Clashes.{Unique, mark, mark_of}
+use Rattle.usage_docs.specs.UniqueKeys.{HasUniqueKeys, mark, mark_of}
 use Rattle.usage_docs.specs.Keys.{attribute_of, key_of, key_value, value_of}
-use Rattle.usage_docs.specs.Rows.{Scope, child_named, kind_of, model_of, space_of_children, root_kind, space_of, word_of}
+use Rattle.usage_docs.specs.SchemaTable.{Scope, child_named, kind_of, content_model_of, namespace_of_children, root_kind, element_namespace, local_name_of}
 use Rattle.usage_docs.specs.Services.{service_uri, service_uris}
 use Rattle.usage_docs.specs.declared.keys.Clash.{Clash}
-use Rattle.usage_docs.specs.declared.rows.Kind.{Kind}
-use Rattle.usage_docs.specs.declared.rows.Kind.TheVariants.{RlsServices, Service}
-use Rattle.usage_docs.specs.declared.rows.Key.TheVariants.{Uri}
+use Rattle.usage_docs.specs.declared.schema_table.ElementKind.{ElementKind}
+use Rattle.usage_docs.specs.declared.schema_table.ElementKind.TheVariants.{RlsServices, Service}
+use Rattle.usage_docs.specs.declared.schema_table.Key.TheVariants.{Uri}
 use Rattle.doc_names.specs.declared.usages.Usage.TheVariants as usages
 use Rattle.doc_names.specs.declared.doc_id.Auid.{Auid}
 use Rattle.doc_names.specs.declared.doc_id.Auid.TheVariants.{ResourceLists, RlsServices as RlsUsage, XcapCaps}
-use Rattle.store_core.specs.Keeping.{AreApart, addresses_in}
+use Rattle.store_core.specs.ValidStates.{AreDistinct, addresses_in}
 use Rattle.doc_names.specs.Usages.{usage_of}
-use Rattle.store_core.specs.Asking.{MayBeFor}
-use Rattle.store_core.specs.Changing.{taken}
+use Rattle.store_core.specs.Queries.{MayBeFor}
+use Rattle.store_core.specs.DocumentChanges.{taken}
 use Rattle.store_core.proofs.Apart.{each-append, each-left, each-right, apart-put}
 
 -- ---- lists
 
 module _ {X : Type 0} where
-  pub apart-mix : (xs ys zs : List X) → AreApart (xs ++ zs) → AreApart ys → AllByRecursion (λ y. AllByRecursion (λ o. y ≢ o) (xs ++ zs)) ys → AreApart (xs ++ (ys ++ zs))
+  pub apart-mix : (xs ys zs : List X) → AreDistinct (xs ++ zs) → AreDistinct ys → AllByRecursion (λ y. AllByRecursion (λ o. y ≢ o) (xs ++ zs)) ys → AreDistinct (xs ++ (ys ++ zs))
   apart-mix xs [] zs a b h = a
   apart-mix xs (y ∷ ys) zs a b h =
       apart-put xs (ys ++ zs) y (apart-mix xs ys zs a b.1 h.1)
@@ -67,7 +68,7 @@ pub none-mapped : {X Y : Type 0} (f : X → Y) (o : Option X) → option_map f o
 none-mapped f None h = refl
 none-mapped f (Some x) h = cc
 
--- where the test finds none, no address of the document is one of the others
+-- where the test finds none, no address of the document is another's
 pub none-taken : (others own : List (List ℕ)) → taken others own ≡ None → AllByRecursion (λ uri. AllByRecursion (λ o. uri ≢ o) others) own
 none-taken others own h =
     let clash : ℕ → Clash = λ i. record { path = i ∷ []; key = Uri } in
@@ -88,34 +89,34 @@ module _ {X Y : Type 0} (f : X → Option Y) where
   behind-one u [] h = tt
   behind-one u (x ∷ xs) h = behind-step u x xs (f x) refl h (behind-one u xs (λ j g. h (suc j) g))
 
-  found-step : (x : X) (xs : List X) (o : Option Y) → f x ≡ o → ((i j : ℕ) (u : Y) → i < j → At (x ∷ xs) i u → At (x ∷ xs) j u → ⊥) → AreApart (filter_map f xs) → AreApart (filter_map f (x ∷ xs))
+  found-step : (x : X) (xs : List X) (o : Option Y) → f x ≡ o → ((i j : ℕ) (u : Y) → i < j → At (x ∷ xs) i u → At (x ∷ xs) j u → ⊥) → AreDistinct (filter_map f xs) → AreDistinct (filter_map f (x ∷ xs))
   found-step x xs None e h by = rw e by
   found-step x xs (Some u) e h by = rw e (behind-one u xs (λ j g. h zero (suc j) u (omega arith) e g), by)
 
-  pub found-apart : (xs : List X) → ((i j : ℕ) (u : Y) → i < j → At xs i u → At xs j u → ⊥) → AreApart (filter_map f xs)
+  pub found-apart : (xs : List X) → ((i j : ℕ) (u : Y) → i < j → At xs i u → At xs j u → ⊥) → AreDistinct (filter_map f xs)
   found-apart [] h = tt
   found-apart (x ∷ xs) h = found-step x xs (f x) refl h (found-apart xs (λ i j u l a b. h (suc i) (suc j) u (omega (arith, l)) a b))
 
-child-of-root : (b : Bool) → (kind : Kind) → cond b (Some Service) None ≡ Some kind → kind ≡ Service
+child-of-root : (b : Bool) → (kind : ElementKind) → cond b (Some Service) None ≡ Some kind → kind ≡ Service
 child-of-root true kind h = sym (same_Some Service kind h)
 child-of-root false kind h = cc
 
-of-space : (b s : Bool) (kind : Kind) → cond b (cond s (Some Service) None) None ≡ Some kind → kind ≡ Service
+of-space : (b s : Bool) (kind : ElementKind) → cond b (cond s (Some Service) None) None ≡ Some kind → kind ≡ Service
 of-space true s kind h = child-of-root s kind h
 of-space false s kind h = cc
 
-kind-of-child : (c : Scope) (e : Tree) (kind : Kind) → kind_of RlsServices (inside c e) e.name ≡ Some kind → kind ≡ Service
-unfolding kind_of child_named model_of word_of
-kind-of-child c e kind h = of-space (bytes_eq (space_of (inside c e) e.name) (space_of_children RlsServices)) (bytes_eq e.name.local (codes "service")) kind h
+kind-of-child : (c : Scope) (e : Tree) (kind : ElementKind) → kind_of RlsServices (inside c e) e.name ≡ Some kind → kind ≡ Service
+unfolding kind_of child_named content_model_of local_name_of
+kind-of-child c e kind h = of-space (bytes_eq (element_namespace (inside c e) e.name) (namespace_of_children RlsServices)) (bytes_eq e.name.local (codes "service")) kind h
 
 key-of-service : (ats : List Attr) → key_value Service ats ≡ value_of Uri ats
 unfolding key_value key_of attribute_of
 key-of-service ats = refl
 
-marked-step : (o : Option Kind) (ats : List Attr) (u : List ℕ) → ((kind : Kind) → o ≡ Some kind → kind ≡ Service) → option_and_then (λ _. value_of Uri ats) o ≡ Some u → option_and_then (λ kind. option_map (mark kind) (key_value kind ats)) o ≡ Some (mark Service u)
+marked-step : (o : Option ElementKind) (ats : List Attr) (u : List ℕ) → ((kind : ElementKind) → o ≡ Some kind → kind ≡ Service) → option_and_then (λ _. value_of Uri ats) o ≡ Some u → option_and_then (λ kind. option_map (mark kind) (key_value kind ats)) o ≡ Some (mark Service u)
 marked-step None ats u k h = cc
 marked-step (Some kind) ats u k h =
-    ap (λ (x : Kind). option_map (mark x) (key_value x ats)) (k kind refl) ∙ ap (λ (v : Option (List ℕ)). option_map (mark Service) v) (key-of-service ats ∙ h)
+    ap (λ (x : ElementKind). option_map (mark x) (key_value x ats)) (k kind refl) ∙ ap (λ (v : Option (List ℕ)). option_map (mark Service) v) (key-of-service ats ∙ h)
 
 service-mark : (c : Scope) (e : Tree) (u : List ℕ) → service_uri c e ≡ Some u → mark_of RlsServices c e ≡ Some (mark Service u)
 unfolding service_uri mark_of
@@ -125,16 +126,16 @@ mark-there : (c : Scope) (o : Option Tree) (u : List ℕ) → option_and_then (s
 mark-there c None u h = cc
 mark-there c (Some e) u h = service-mark c e u h
 
-services-apart : (t : Tree) → Unique usages.RlsServices t → AreApart (service_uris t)
+services-apart : (t : Tree) → HasUniqueKeys usages.RlsServices t → AreDistinct (service_uris t)
 unfolding root_kind key_of attribute_of
 services-apart t unique =
     let c : Scope = t.decls ∷ [] in
-    found-apart (service_uri c) (kids_of t) (λ i j u l a b.
+    found-apart (service_uri c) (child_elements_of t) (λ i j u l a b.
     unique (j ∷ []) Uri
-    (record { shared = mark Service u; earlier = i; comes_first = l; that = mark-there c (slice_get (kids_of t) i) u a; this = mark-there c (slice_get (kids_of t) j) u b; by_key = refl }))
+    (record { shared = mark Service u; earlier = i; comes_first = l; that = mark-there c (slice_get (child_elements_of t) i) u a; this = mark-there c (slice_get (child_elements_of t) j) u b; by_key = refl }))
 
--- the addresses of a document are apart
-pub own-apart : (auid : Auid) (t : Tree) → MayBeFor (usage_of auid) t → AreApart (addresses_in auid t)
+-- the addresses of a document are distinct
+pub own-apart : (auid : Auid) (t : Tree) → MayBeFor (usage_of auid) t → AreDistinct (addresses_in auid t)
 own-apart ResourceLists t h = tt
 own-apart RlsUsage t h = services-apart t h.faultless.2
 own-apart XcapCaps t h = tt

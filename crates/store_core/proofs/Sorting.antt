@@ -1,4 +1,4 @@
--- Stable sorting by a test: two lists in order are one, where those that tie stand alike in both.
+-- Stable sorting by a test: two sorted lists are equal, where equal items are alike in both.
 use Rattle.std.proofs.Common.{◌≡◌, ℕ, suc, zero, ◌+◌, ◌<◌, ◌≤◌, Bool, true, false, cond, not, ◌&&◌, List, [], ◌∷◌, get_or, length, filter, refl, sym, ap, subst, ◌∙◌, arith}
 use Rattle.std.proofs.lemmas.List.Sorted.{sorted_far}
 use Rattle.std.specs.Cmp.{IsStrictWeakOrder}
@@ -10,7 +10,7 @@ module _ {X : Type 0} (lt : X → X → Bool) where
   abbrev pub From : X → List X → Type 0
   From x ys = AllByRecursion (λ y. lt y x ≡ false) ys
 
-  -- none is less than one before it
+  -- none is less than an earlier one
   abbrev pub Rises : List X → Type 0
   Rises [] = Unit {0}
   Rises (x ∷ xs) = From x xs × Rises xs
@@ -60,7 +60,7 @@ module _ {X : Type 0} (lt : X → X → Bool) where
     from-lower x y [] low a = tt
     from-lower x y (z ∷ zs) low a = (o.chain z y x a.0 low, from-lower x y zs low a.1)
 
-    -- where one of these ties with z, z isn't less than what none of them is less than
+    -- where one of these is equal to z, z isn't less than what none of them is less than
     tie-step : (z y w : X) (l rest : List X) (b : Bool) → ties lt z w ≡ b → lt w y ≡ false → (filter (ties lt z) l ≡ z ∷ rest → lt z y ≡ false) → cond b (w ∷ filter (ties lt z) l) (filter (ties lt z) l) ≡ z ∷ rest → lt z y ≡ false
     tie-step z y w l rest true h low by e = o.chain z w y (tied z w h).0 low
     tie-step z y w l rest false h low by e = by e
@@ -69,7 +69,7 @@ module _ {X : Type 0} (lt : X → X → Bool) where
     tie-inside z y [] rest a e = cc
     tie-inside z y (w ∷ l) rest a e = tie-step z y w l rest (ties lt z w) refl a.0 (tie-inside z y l rest a.1) e
 
-    -- the first of a list ties with itself
+    -- the first of a list is equal to itself
     with-itself : (x : X) (xs : List X) → filter (ties lt x) (x ∷ xs) ≡ x ∷ filter (ties lt x) xs
     with-itself x xs = ap (λ (b : Bool). cond b (x ∷ filter (ties lt x) xs) (filter (ties lt x) xs)) (ties-so x x (itself x) (itself x))
 

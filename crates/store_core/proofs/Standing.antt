@@ -1,16 +1,16 @@
--- What a store holds of a state follows a change of the state.
+-- The contents that represent a state follow a change of the state.
 use Rattle.std.proofs.Common.{◌≡◌, ℕ, ◌+◌, Bool, true, false, not, cond, List, [], ◌∷◌, ◌++◌, map, filter, refl, sym, ap, ap₂, ◌∙◌}
 use Rattle.std.proofs.lemmas.List.{map-append, reverse-append}
 use Rattle.std.specs.List.{filter_map}
 use Rattle.doc_names.specs.declared.doc_id.DocId.{DocId}
-use Rattle.doc_names.specs.Same.{same_id}
+use Rattle.doc_names.specs.Equality.{same_id}
 use Rattle.edit_ops.specs.Changes.{edited}
 use Rattle.edit_ops.specs.declared.change.Change.{Change}
-use Rattle.notes.specs.Notes.{Note, note_of}
-use Rattle.notes.specs.Operations.{weight}
+use Rattle.edit_ops.specs.Notes.{Note, note_of}
+use Rattle.edit_ops.specs.Operations.{weight}
 use Rattle.store_core.specs.State.{Document, State, versions, notes, retained, renewed, created}
-use Rattle.store_core.specs.Held.{Held, Stands, held_of, Stock as Content, stock_of as content_of}
-use Rattle.store_core.specs.Changing.{Act, Makes, Edits, Removes, act_of, after, after_act, content_after, content_after_act, held_after}
+use Rattle.store_core.specs.Contents.{StoredDocument, Represents, stored_of, StoreContents as Content, stock_of as content_of}
+use Rattle.store_core.specs.DocumentChanges.{Act, Makes, Edits, Removes, act_of, after, after_act, content_after, content_after_act, held_after}
 use Rattle.store_core.proofs.Ends.{small_end-push}
 
 -- ---- lists of documents
@@ -39,36 +39,36 @@ module _ {D H : Type 0} (h : D → H) (p : D → Bool) (q : H → Bool) (same : 
 notes-renewed : (number : ℕ) (d : Document) (n : Note) → notes (renewed number d n) ≡ notes d ++ n ∷ []
 notes-renewed number d n = reverse-append (n ∷ []) (filter_map (λ v. v.note) (versions d))
 
--- what is held of a document after an edit
-held-renewed : (number : ℕ) (change : Change) (d : Document) → held_of (renewed number d (note_of d.now.tag number d.now.tree change)) ≡ held_after number change (held_of d)
+-- a stored document after an edit
+held-renewed : (number : ℕ) (change : Change) (d : Document) → stored_of (renewed number d (note_of d.now.tag number d.now.tree change)) ≡ held_after number change (stored_of d)
 held-renewed number change d =
     let n = note_of d.now.tag number d.now.tree change in
     let kept : retained (notes (renewed number d n)) ≡ retained (retained (notes d) ++ n ∷ []) = ap retained (notes-renewed number d n) ∙ sym (small_end-push weight (notes d) n) in
-    ap (λ (ns : List Note). let made : Held = record { id = d.id; tag = number; tree = edited d.now.tree change; notes = ns } in made) kept
+    ap (λ (ns : List Note). let made : StoredDocument = record { id = d.id; tag = number; tree = edited d.now.tree change; notes = ns } in made) kept
 
 -- ---- all documents
 
 alike : (c d : Content) → c.documents ≡ d.documents → c.next ≡ d.next → c ≡ d
-alike c d documents next = ap₂ (λ (hs : List Held) (n : ℕ). let made : Content = record { documents = hs; next = n } in made) documents next
+alike c d documents next = ap₂ (λ (hs : List StoredDocument) (n : ℕ). let made : Content = record { documents = hs; next = n } in made) documents next
 
-stood : (c : Content) (m : State) (id : DocId) (change : Change) (act : Act) → c.documents ≡ map held_of m.documents → c.next ≡ m.next → Stands (content_after_act c id change act) (after_act m id change act)
+stood : (c : Content) (m : State) (id : DocId) (change : Change) (act : Act) → c.documents ≡ map stored_of m.documents → c.next ≡ m.next → Represents (content_after_act c id change act) (after_act m id change act)
 stood c m id change (Makes root) documents next =
     alike (content_after_act c id change (Makes root)) (content_of (after_act m id change (Makes root)))
-    (ap (λ (n : ℕ). c.documents ++ held_of (created id n root) ∷ []) next
-    ∙ ap (λ (hs : List Held). hs ++ held_of (created id m.next root) ∷ []) documents
-    ∙ sym (map-append held_of m.documents (created id m.next root ∷ [])))
+    (ap (λ (n : ℕ). c.documents ++ stored_of (created id n root) ∷ []) next
+    ∙ ap (λ (hs : List StoredDocument). hs ++ stored_of (created id m.next root) ∷ []) documents
+    ∙ sym (map-append stored_of m.documents (created id m.next root ∷ [])))
     (ap (λ n. n + 1) next)
 stood c m id change Edits documents next =
     alike (content_after_act c id change Edits) (content_of (after_act m id change Edits))
-    (ap (λ (n : ℕ). map (λ (h : Held). cond (same_id id h.id) (held_after n change h) h) c.documents) next
-    ∙ ap (λ (hs : List Held). map (λ (h : Held). cond (same_id id h.id) (held_after m.next change h) h) hs) documents
-    ∙ sym (map-exchanged held_of (λ (d : Document). same_id id d.id) (λ (h : Held). same_id id h.id) (λ d. refl) (λ (d : Document). renewed m.next d (note_of d.now.tag m.next d.now.tree change)) (held_after m.next change) (held-renewed m.next change) m.documents))
+    (ap (λ (n : ℕ). map (λ (h : StoredDocument). cond (same_id id h.id) (held_after n change h) h) c.documents) next
+    ∙ ap (λ (hs : List StoredDocument). map (λ (h : StoredDocument). cond (same_id id h.id) (held_after m.next change h) h) hs) documents
+    ∙ sym (map-exchanged stored_of (λ (d : Document). same_id id d.id) (λ (h : StoredDocument). same_id id h.id) (λ d. refl) (λ (d : Document). renewed m.next d (note_of d.now.tag m.next d.now.tree change)) (held_after m.next change) (held-renewed m.next change) m.documents))
     (ap (λ n. n + 1) next)
 stood c m id change Removes documents next =
     alike (content_after_act c id change Removes) (content_of (after_act m id change Removes))
-    (ap (λ (hs : List Held). filter (λ (h : Held). not (same_id id h.id)) hs) documents
-    ∙ sym (map-filtered held_of (λ (d : Document). not (same_id id d.id)) (λ (h : Held). not (same_id id h.id)) (λ d. refl) m.documents))
+    (ap (λ (hs : List StoredDocument). filter (λ (h : StoredDocument). not (same_id id h.id)) hs) documents
+    ∙ sym (map-filtered stored_of (λ (d : Document). not (same_id id d.id)) (λ (h : StoredDocument). not (same_id id h.id)) (λ d. refl) m.documents))
     (ap (λ n. n + 1) next)
 
-pub stands-after : (c : Content) (m : State) (id : DocId) (change : Change) → Stands c m → Stands (content_after c id change) (after m id change)
+pub stands-after : (c : Content) (m : State) (id : DocId) (change : Change) → Represents c m → Represents (content_after c id change) (after m id change)
 stands-after c m id change s = stood c m id change (act_of change) (ap (λ (x : Content). x.documents) s) (ap (λ (x : Content). x.next) s)

@@ -1,21 +1,21 @@
--- The notes since a version, found in two pieces of a list and by a document's entry.
+-- The change records since a version, found in two slices and by a document's entry.
 use Rattle.std.proofs.Common.{◌≡◌, ℕ, ◌==◌, Bool, true, false, if◌then◌else◌, List, [], ◌∷◌, ◌++◌, map, Option, None, Some, refl, sym, ap, ◌∙◌}
 use Rattle.std.specs.Map.{lookup}
 use Rattle.std.specs.Option.{option_map}
-use Rattle.doc_names.specs.Same.{same_id}
+use Rattle.doc_names.specs.Equality.{same_id}
 use Rattle.doc_names.specs.declared.doc_id.DocId.{DocId}
-use Rattle.notes.specs.Notes.{Note}
-use Rattle.notes.specs.Recorded.{all_notes as joined}
+use Rattle.edit_ops.specs.Notes.{Note}
+use Rattle.edit_ops.specs.Recorded.{all_notes as joined}
 use Rattle.store_core.specs.declared.entry.Entry.{Entry}
-use Rattle.store_core.specs.Changing.{document_in, held_name}
-use Rattle.store_core.specs.Held.{Held}
-use Rattle.store_core.specs.Since.{Story, Gone, Told, notes_from, since}
-use Rattle.store_core.specs.inner.Stories.{held_since, story_of}
-use Rattle.store_core.specs.inner.Storing.{held_in}
+use Rattle.store_core.specs.DocumentChanges.{document_in, stored_name}
+use Rattle.store_core.specs.Contents.{StoredDocument}
+use Rattle.store_core.specs.Since.{ChangesSince, Gone, ReportedChanges, notes_from, since}
+use Rattle.store_core.specs.inner.ChangesSince.{held_since, changes_since_of}
+use Rattle.store_core.specs.inner.Storing.{stored_in}
 use Rattle.store_core.proofs.Entries.{read-as}
 use Rattle.store_core.specs.Stored.{Stored}
 
--- ---- in two pieces
+-- ---- in two slices
 
 abbrev either : Option (List Note) → List Note → Option (List Note) → Option (List Note)
 either None ys o = o
@@ -38,22 +38,22 @@ in-newer tag older newer none = ap (λ (o : Option (List Note)). either o newer 
 
 -- ---- by the entry
 
--- what an entry tells
-abbrev pub entry_story : ℕ → Entry → Story
-entry_story tag v = if v.tag == tag then Told [] else story_of (notes_from tag v.notes)
+-- the changes by an entry
+abbrev pub entry_story : ℕ → Entry → ChangesSince
+entry_story tag v = if v.tag == tag then ReportedChanges [] else changes_since_of (notes_from tag v.notes)
 
-abbrev pub or_gone : Option Story → Story
+abbrev pub or_gone : Option ChangesSince → ChangesSince
 or_gone None = Gone
 or_gone (Some s) = s
 
-held-or-gone : (tag : ℕ) (o : Option Held) → held_since tag o ≡ or_gone (option_map (λ h. held_since tag (Some h)) o)
+held-or-gone : (tag : ℕ) (o : Option StoredDocument) → held_since tag o ≡ or_gone (option_map (λ h. held_since tag (Some h)) o)
 held-or-gone tag None = refl
 held-or-gone tag (Some h) = refl
 
-pub by-entry : (es : List (DocId × Entry)) (doc : DocId) (tag : ℕ) (s : Stored) (o : Option Entry) → map held_in es ≡ s.content.documents → o ≡ lookup (same_id doc) es
+pub by-entry : (es : List (DocId × Entry)) (doc : DocId) (tag : ℕ) (s : Stored) (o : Option Entry) → map stored_in es ≡ s.content.documents → o ≡ lookup (same_id doc) es
     → or_gone (option_map (entry_story tag) o) ≡ since s.content doc tag
 by-entry es doc tag s o same found =
     ap (λ (l : Option Entry). or_gone (option_map (entry_story tag) l)) found
-    ∙ ap or_gone (sym (read-as (same_id doc) held_in held_name (λ e. refl) (λ (h : Held). held_since tag (Some h)) (entry_story tag) (λ e. refl) es))
-    ∙ sym (held-or-gone tag (document_in held_name (map held_in es) doc))
-    ∙ ap (λ (hs : List Held). held_since tag (document_in held_name hs doc)) same
+    ∙ ap or_gone (sym (read-as (same_id doc) stored_in stored_name (λ e. refl) (λ (h : StoredDocument). held_since tag (Some h)) (entry_story tag) (λ e. refl) es))
+    ∙ sym (held-or-gone tag (document_in stored_name (map stored_in es) doc))
+    ∙ ap (λ (hs : List StoredDocument). held_since tag (document_in stored_name hs doc)) same

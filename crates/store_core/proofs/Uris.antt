@@ -1,4 +1,5 @@
--- In a valid document of services every child of the root is a service with an address; and what edits of attributes do to it.
+-- In a valid document of services every child of the root is a service with an address; and what
+-- edits of attributes do to it.
 use Rattle.std.proofs.Common.{◌≡◌, ℕ, Bool, true, false, cond, ◌&&◌, List, [], ◌∷◌, map, find, Option, None, Some, is_some, IsTrue, option_map, option_and_then, inl, inr, refl, sym, ap, ap₂, ◌∙◌}
 use Rattle.std.proofs.lemmas.Map.Keys.{IsDistinct-head, IsDistinct-tail}
 use Rattle.std.proofs.lemmas.Slice.Eq.{bytes_eq-Decides}
@@ -7,18 +8,18 @@ use Rattle.std.specs.Option.{ForSome, option_map_or}
 use Rattle.std.specs.Str.{bytes_eq}
 use Rattle.doc_names.specs.declared.usages.Usage.TheVariants as usages
 use Rattle.xml_tree.specs.Attributes.{is_written_so, with_new_value, with_attr, without_attr}
-use Rattle.xml_tree.specs.Expanded.{Expanded, attr_name, same_expanded}
+use Rattle.xml_tree.specs.Expanded.{ExpandedName, attr_name, same_expanded}
 use Rattle.xml_tree.specs.Scopes.{bound, inside}
-use Rattle.xml_tree.specs.Tree.{Content, last, more, note, Tree, kids, kids_of}
+use Rattle.xml_tree.specs.Tree.{Content, last, more, comment_node, Tree, child_elements, child_elements_of}
 use Rattle.xml_tree.specs.declared.names.Attr.{Attr}
 use Rattle.xml_tree.specs.declared.names.Name.{Name}
 use Rattle.usage_docs.specs.Keys.{attribute_of, attrs_pass, is_key, value_of, word}
-use Rattle.usage_docs.specs.Rows.{Scope, Child, known, foreign, stray, ModelItem as Item, any, ends, takes, may_take, takes_none, takes_more, takes_no_more, IsIn, MatchesModel as Matches, child_of, children_in, is_foreign, items_in, kind_by, kind_in, kind_of, model_of, root_kind, space_of}
+use Rattle.usage_docs.specs.SchemaTable.{Scope, Child, known, foreign, stray, ModelItem as Item, any, ends, takes, may_take, takes_none, takes_more, takes_no_more, IsIn, MatchesModel as Matches, child_class_of, children_in, is_foreign, items_in, kind_by, kind_in, kind_of, content_model_of, root_kind, element_namespace}
 use Rattle.usage_docs.specs.Services.{service_uri}
-use Rattle.usage_docs.specs.Validity.{AllKeep, Schema}
-use Rattle.usage_docs.specs.declared.rows.Key.TheVariants.{Uri}
-use Rattle.usage_docs.specs.declared.rows.Kind.{Kind}
-use Rattle.usage_docs.specs.declared.rows.Kind.TheVariants.{RlsServices, Service}
+use Rattle.usage_docs.specs.Validity.{AllKeep, IsValidDocument}
+use Rattle.usage_docs.specs.declared.schema_table.Key.TheVariants.{Uri}
+use Rattle.usage_docs.specs.declared.schema_table.ElementKind.{ElementKind}
+use Rattle.usage_docs.specs.declared.schema_table.ElementKind.TheVariants.{RlsServices, Service}
 use Rattle.store_core.specs.inner.Addresses.{is_uri}
 use Rattle.store_core.proofs.Entries.{each-unmapped}
 
@@ -43,22 +44,22 @@ module _ (P : Child → Type 0) where
 abbrev IsKnown : Child → Type 0
 IsKnown x = x ≡ known Service
 
-services-alone : (xs : List Child) → Matches (items_in (model_of RlsServices)) xs → AllByRecursion IsKnown xs
-unfolding model_of
+services-alone : (xs : List Child) → Matches (items_in (content_model_of RlsServices)) xs → AllByRecursion IsKnown xs
+unfolding content_model_of
 services-alone xs m = all-taken IsKnown (any (known Service ∷ []) ∷ []) xs m (only, tt)
   where
     only : (x : Child) → IsIn (known Service ∷ []) x → x ≡ known Service
     only x (inl e) = sym e
     only x (inr h) = absurd h
 
-known-kind : (o : Option Kind) (b : Bool) → option_map_or known o (cond b foreign stray) ≡ known Service → o ≡ Some Service
+known-kind : (o : Option ElementKind) (b : Bool) → option_map_or known o (cond b foreign stray) ≡ known Service → o ≡ Some Service
 known-kind (Some k) b h = ap kind_in h
 known-kind None true h = cc
 known-kind None false h = cc
 
-kind-of-known : (c : Scope) (n : Name) → child_of RlsServices c n ≡ known Service → kind_of RlsServices c n ≡ Some Service
-unfolding child_of kind_of
-kind-of-known c n h = known-kind (kind_by RlsServices (space_of c n) n.local) (is_foreign RlsServices (space_of c n)) h
+kind-of-known : (c : Scope) (n : Name) → child_class_of RlsServices c n ≡ known Service → kind_of RlsServices c n ≡ Some Service
+unfolding child_class_of kind_of
+kind-of-known c n h = known-kind (kind_by RlsServices (element_namespace c n) n.local) (is_foreign RlsServices (element_namespace c n)) h
 
 -- ---- services
 
@@ -74,9 +75,9 @@ module _ (c : Scope) where
   abbrev HasAttrs : Tree → Type 0
   HasAttrs e = ForSome (kind_of RlsServices (inside c e) e.name) (λ kind. IsTrue (attrs_pass kind (inside c e) e.attrs))
 
-  have-attrs : (k : Content) → AllKeep RlsServices c k → AllByRecursion HasAttrs (kids k)
+  have-attrs : (k : Content) → AllKeep RlsServices c k → AllByRecursion HasAttrs (child_elements k)
   have-attrs (last t) h = tt
-  have-attrs (note t x rest) h = have-attrs rest h
+  have-attrs (comment_node t x rest) h = have-attrs rest h
   have-attrs (more t n ds ats k rest) h = ((λ kind is. (h.0 kind is).0.attributes), have-attrs rest h.1)
 
   there : (o : Option (List ℕ)) → is_some o ≡ true → (uri : List ℕ) × (o ≡ Some uri)
@@ -88,7 +89,7 @@ module _ (c : Scope) where
   has-uri d ats h = there (value_of Uri ats) (both _ _ h).1
 
   abbrev IsOne : Tree → Type 0
-  IsOne e = child_of RlsServices (inside c e) e.name ≡ known Service
+  IsOne e = child_class_of RlsServices (inside c e) e.name ≡ known Service
 
   serve-all : (es : List Tree) → AllByRecursion IsOne es → AllByRecursion HasAttrs es → AllByRecursion Serves es
   serve-all [] a b = tt
@@ -96,16 +97,16 @@ module _ (c : Scope) where
       let kind = kind-of-known (inside c e) e.name a.0 in
       ((kind, has-uri (inside c e) e.attrs (b.0 Service kind)), serve-all es a.1 b.1)
 
-pub all-serve : (t : Tree) → Schema usages.RlsServices t → AllByRecursion (Serves (t.decls ∷ [])) (kids_of t)
+pub all-serve : (t : Tree) → IsValidDocument usages.RlsServices t → AllByRecursion (Serves (t.decls ∷ [])) (child_elements_of t)
 unfolding root_kind
 all-serve t schema =
     let c : Scope = t.decls ∷ [] in
-    let child : Tree → Child = λ e. child_of RlsServices (inside c e) e.name in
-    serve-all c (kids_of t) (each-unmapped IsKnown child (kids_of t) (services-alone (map child (kids_of t)) schema.valid.0.children)) (have-attrs c t.content schema.valid.1)
+    let child : Tree → Child = λ e. child_class_of RlsServices (inside c e) e.name in
+    serve-all c (child_elements_of t) (each-unmapped IsKnown child (child_elements_of t) (services-alone (map child (child_elements_of t)) schema.valid.0.children)) (have-attrs c t.content schema.valid.1)
 
 -- ---- attributes
 
--- an attribute of a name is the address's where the name is
+-- an attribute of a name is the address's if the name is
 tested : (n : Name) (a : Attr) → is_written_so n a ≡ true → is_key Uri a ≡ is_uri n
 tested n a h =
     let same = both (bytes_eq a.name.prefix n.prefix) (bytes_eq a.name.local n.local) h in
@@ -113,7 +114,7 @@ tested n a h =
     let local = (bytes_eq-Decides a.name.local n.local).0 same.1 in
     ap₂ (λ (p l : List ℕ). bytes_eq p [] && bytes_eq l (word Uri)) prefix local
 
--- and another one isn't
+-- and else it isn't
 same-test : (n : Name) (a : Attr) → is_uri n ≡ true → is_written_so n a ≡ is_key Uri a
 same-test n a h =
     let is = both (bytes_eq n.prefix []) (bytes_eq n.local (word Uri)) h in
@@ -156,7 +157,7 @@ module _ (n : Name) (v : List ℕ) where
       by true e ih = ap value (hit (is_key Uri a) (with_new_value v a) (find (is_key Uri) ats) (tested n a e ∙ same))
       by false e ih = ap value (skip (is_key Uri a) a (find (is_key Uri) (with_attr n v ats)) (sym (same-test n a same) ∙ e)) ∙ ih
 
-  -- what is written as another attribute leaves the address, and what is written as this one is it
+  -- what is written as another attribute keeps the address, and what is written as this one is it
   pub other-written : is_uri n ≡ false → (ats : List Attr) → value_of Uri (with_attr n v ats) ≡ value_of Uri ats
   unfolding value_of
   other-written other ats = ap value (written-other other ats)
@@ -179,19 +180,19 @@ module _ (n : Name) where
   unfolding value_of
   other-dropped other ats = ap (option_map (λ (a : Attr). a.value)) (dropped-other other ats)
 
--- ---- an address that is dropped
+-- ---- an address that is removed
 
 module _ (c : Scope) where
-  abbrev names : List Attr → List Expanded
+  abbrev names : List Attr → List ExpandedName
   names ats = map (λ (a : Attr). attr_name c a.name) ats
 
-  abbrev bare : Expanded
+  abbrev bare : ExpandedName
   bare = record { uri = None; local = word Uri }
 
   unprefixed : (a : Attr) → is_key Uri a ≡ true → attr_name c a.name ≡ bare
   unprefixed a h =
       let is = both (bytes_eq a.name.prefix []) (bytes_eq a.name.local (word Uri)) h in
-      ap₂ (λ (b : Bool) (l : List ℕ). let x : Expanded = record { uri = cond b None (bound c a.name.prefix); local = l } in x) is.0 ((bytes_eq-Decides a.name.local (word Uri)).0 is.1)
+      ap₂ (λ (b : Bool) (l : List ℕ). let x : ExpandedName = record { uri = cond b None (bound c a.name.prefix); local = l } in x) is.0 ((bytes_eq-Decides a.name.local (word Uri)).0 is.1)
 
   one-name : (a b : Attr) → is_key Uri a ≡ true → is_key Uri b ≡ true → same_expanded (attr_name c a.name) (attr_name c b.name) ≡ true
   one-name a b h g = ap₂ same_expanded (unprefixed a h) (unprefixed b g) ∙ (bytes_eq-Decides (word Uri) (word Uri)).1 refl

@@ -1,11 +1,11 @@
--- An edit that isn't one within the root exchanges the root for the element that it brings.
+-- An edit that isn't one within the root replaces the root by the element that it puts.
 use Rattle.std.proofs.Common.{◌≡◌, false, [], ◌∷◌, refl}
 use Rattle.xml_tree.specs.Tree.{Tree}
 use Rattle.edit_ops.specs.Changes.{Fits, edited}
 use Rattle.edit_ops.specs.declared.change.Change.{Change}
 use Rattle.edit_ops.specs.declared.change.Change.TheVariants.{CreateDocument, Insert, Replace, Remove, SetAttr, DropAttr, RemoveDocument}
-use Rattle.notes.specs.Brought.{BringsElement, brought}
-use Rattle.store_core.specs.Making.{is_within}
+use Rattle.edit_ops.specs.Inserted.{BringsElement, inserted_part}
+use Rattle.store_core.specs.TreeChanges.{is_within}
 
 pub brings-whole : (t : Tree) (change : Change) → Fits t change → is_within change ≡ false → BringsElement change
 brings-whole t (CreateDocument root) fits whole = tt
@@ -16,7 +16,7 @@ brings-whole t (SetAttr p name value) fits whole = cc
 brings-whole t (DropAttr p name) fits whole = cc
 brings-whole t RemoveDocument fits whole = absurd fits
 
-pub whole-edited : (t : Tree) (change : Change) → Fits t change → is_within change ≡ false → brought change ≡ edited t change
+pub whole-edited : (t : Tree) (change : Change) → Fits t change → is_within change ≡ false → inserted_part change ≡ edited t change
 whole-edited t (CreateDocument root) fits whole = absurd fits
 whole-edited t (Insert parent gap element) fits whole = cc
 whole-edited t (Replace [] element) fits whole = refl

@@ -1,4 +1,5 @@
--- A version of a document, and the notes from it to the version that the document has now. RFC 5874, section 3: changes between two entity tags.
+-- A version of a document, and the change records from it to the present version. RFC 5874,
+-- section 3: changes between two entity tags.
 use Rattle.std.specs.Prelude.{◌≡◌, ℕ, ◌<◌, ◌≤◌, List, [], ◌∷◌, Option, Some, length, slice_get}
 use Rattle.std.specs.List.{AllByRecursion}
 use Rattle.xml_tree.specs.Tree.{Tree}
@@ -6,18 +7,19 @@ use Rattle.doc_names.specs.declared.doc_id.DocId.{DocId}
 use Rattle.doc_names.specs.declared.usages.Usage.{Usage}
 use Rattle.doc_names.specs.Usages.{usage_of}
 use Rattle.edit_ops.specs.Changes.{edited}
-use Rattle.notes.specs.Notes.{AreNotesOf, Note, tag_after, tree_after}
-use Rattle.store_core.specs.Changing.{document_in, document_name}
-use Rattle.store_core.specs.Keeping.{IsSoundFor}
-use Rattle.store_core.specs.Limits.{most_notes}
+use Rattle.edit_ops.specs.Notes.{AreNotesOf, Note, tag_after, tree_after}
+use Rattle.store_core.specs.DocumentChanges.{document_in, document_name}
+use Rattle.store_core.specs.ValidStates.{IsSoundFor}
+use Rattle.store_core.specs.Limits.{max_notes}
 use Rattle.store_core.specs.State.{Document, State, Version, versions}
 
--- the tree, and each one that a note leaves, may be a document of the usage
+-- the tree, and the tree after each record, may be a document of the application usage
 abbrev pub AreSound : Option Usage → Tree → List Note → Type 0
 AreSound usage t [] = IsSoundFor usage t
 AreSound usage t (n ∷ ns) = IsSoundFor usage t × AreSound usage (edited t n.change) ns
 
--- the notes lead from the first version to the second, through sound trees, and give tags below a bound
+-- the records lead from the first version to the second, through sound trees, and have etags below
+-- a bound
 pub record Leads (usage : Option Usage) (next : ℕ) (from : Version) (ns : List Note) (to : Version) : Type 0 where
   pub notes : AreNotesOf from.tag from.tree ns
   pub tree : tree_after from.tree ns ≡ to.tree
@@ -26,7 +28,8 @@ pub record Leads (usage : Option Usage) (next : ℕ) (from : Version) (ns : List
   pub first : from.tag < next
   pub tags : AllByRecursion (λ n. n.next < next) ns
 
--- the document of this name has a version with this tag, from which the notes lead to the one that it has now; they are at most `most_notes`
+-- the document of this name has a version with this etag, from which the records lead to the
+-- present one; there are at most `max_notes`
 pub record IsSince (state : State) (id : DocId) (tag : ℕ) (ns : List Note) : Type 0 where
   pub document : Document
   pub there : document_in document_name state.documents id ≡ Some document
@@ -35,4 +38,4 @@ pub record IsSince (state : State) (id : DocId) (tag : ℕ) (ns : List Note) : T
   pub is_version : slice_get (versions document) number ≡ Some from
   pub same_tag : from.tag ≡ tag
   pub leads : Leads (usage_of document.id.auid) state.next from ns document.now
-  pub few : length ns ≤ most_notes
+  pub few : length ns ≤ max_notes

@@ -1,4 +1,5 @@
--- The documents that the index of all services lists. RFC 4826, section 4.4.7: those that users keep under the name `index`.
+-- The documents that the index of all services lists. RFC 4826, section 4.4.7: the users'
+-- documents with the name `index`.
 use Rattle.std.specs.Prelude.{◌≡◌, ℕ, Bool, true, List, map, codes, Option, None, Some, chars, filter_map}
 use Rattle.std.specs.List.Sorted.{IsSortedByKey, IsStableByKey}
 use Rattle.std.specs.Cmp.Lexicographic.{slice_cmp}
@@ -9,9 +10,9 @@ use Rattle.doc_names.specs.declared.doc_id.Auid.{Auid}
 use Rattle.doc_names.specs.declared.doc_id.Auid.TheVariants.{RlsServices}
 use Rattle.doc_names.specs.declared.doc_id.Home.{Home}
 use Rattle.doc_names.specs.declared.doc_id.Home.TheVariants.{Global, User}
-use Rattle.store_core.specs.Held.{Held, Stock}
+use Rattle.store_core.specs.Contents.{StoredDocument, StoreContents}
 
--- the name that each document of services has which the index lists
+-- the name of each document of services that the index lists
 unfoldable pub index : List ℕ
 index = chars (codes "index")
 
@@ -24,14 +25,15 @@ abbrev pub indexed_by : Auid → Bool → Home → Tree → Option (List ℕ × 
 indexed_by RlsServices true home t = indexed_in home t
 indexed_by _ _ home t = None
 
-abbrev pub indexed : Held → Option (List ℕ × Tree)
+abbrev pub indexed : StoredDocument → Option (List ℕ × Tree)
 indexed h = indexed_by h.id.auid (bytes_eq h.id.name index) h.id.home h.tree
 
--- these documents in the order of the users' names, by code point; those of one user stay in their order
+-- these documents in the order of the users' names, by code point; documents of one user keep
+-- their order
 pub record AreByUser (documents ordered : List (List ℕ × Tree)) : Type 0 where
   pub rises : IsSortedByKey (λ (d : List ℕ × Tree). d.0) (slice_cmp nat_cmp) ordered
   pub keeps : IsStableByKey (λ (d : List ℕ × Tree). d.0) (slice_cmp nat_cmp) documents ordered
 
 -- the trees that the index lists, by the users' names
-abbrev pub AreIndexTrees : Stock → List Tree → Type 0
+abbrev pub AreIndexTrees : StoreContents → List Tree → Type 0
 AreIndexTrees c trees = (ordered : List (List ℕ × Tree)) × AreByUser (filter_map indexed c.documents) ordered × (trees ≡ map (λ d. d.1) ordered)

@@ -1,23 +1,25 @@
--- The limits of what is held, which are the constants of the code. They are this server's own; no standard sets any.
+-- The limits of the store, which are the constants of the code. They are this server's own; no
+-- standard sets any.
 use Rattle.std.specs.Prelude.{ℕ}
-use Rattle.store_core.specs.declared.limits.TheConstants.{MOST_DOCUMENTS, MOST_BYTES, MOST_BYTES_TOGETHER, MOST_NOTES, MOST_WEIGHT}
+use Rattle.store_core.specs.declared.limits.TheConstants.{MAX_DOCUMENTS, MAX_BYTES, MAX_BYTES_TOGETHER, MAX_NOTES, MAX_WEIGHT}
 
--- how many documents there are at most
-abbrev pub most_documents : ℕ
-most_documents = MOST_DOCUMENTS
+-- the greatest number of documents
+abbrev pub max_documents : ℕ
+max_documents = MAX_DOCUMENTS
 
--- how many bytes a printed document has at most
-abbrev pub most_bytes : ℕ
-most_bytes = MOST_BYTES
+-- the greatest number of bytes of a printed document
+abbrev pub max_bytes : ℕ
+max_bytes = MAX_BYTES
 
--- how many bytes all printed documents have together at most
-abbrev pub most_bytes_together : ℕ
-most_bytes_together = MOST_BYTES_TOGETHER
+-- the greatest number of bytes of all printed documents together
+abbrev pub max_bytes_together : ℕ
+max_bytes_together = MAX_BYTES_TOGETHER
 
--- how many notes of a document are retained at most
-abbrev pub most_notes : ℕ
-most_notes = MOST_NOTES
+-- the greatest number of retained change records of a document
+abbrev pub max_notes : ℕ
+max_notes = MAX_NOTES
 
--- how much they weigh together at most, unless the newest alone weighs more
-abbrev pub most_weight : ℕ
-most_weight = MOST_WEIGHT
+-- the greatest weight of a document's retained records together, unless the newest alone weighs
+-- more
+abbrev pub max_weight : ℕ
+max_weight = MAX_WEIGHT

@@ -1,19 +1,20 @@
--- The state of the machine: every document with all its versions. RFC 4825, section 8.5, has each change give a document a new entity tag.
+-- The state of the abstract machine: every document with all its versions. RFC 4825, section 8.5:
+-- each change gives a document a new entity tag.
 use Rattle.std.specs.Prelude.{ℕ, Bool, ◌&&◌, nat_le, List, [], ◌∷◌, length, reverse, sum_by, Option, None, Some, if◌then◌else◌, filter_map}
 use Rattle.xml_tree.specs.Tree.{Tree}
 use Rattle.doc_names.specs.declared.doc_id.DocId.{DocId}
 use Rattle.edit_ops.specs.Changes.{edited}
-use Rattle.notes.specs.Notes.{Note}
-use Rattle.notes.specs.Operations.{weight}
-use Rattle.store_core.specs.Limits.{most_notes, most_weight}
+use Rattle.edit_ops.specs.Notes.{Note}
+use Rattle.edit_ops.specs.Operations.{weight}
+use Rattle.store_core.specs.Limits.{max_notes, max_weight}
 
--- a version: its tag, its tree, and the note of the change that made it from the version before
+-- a version: its etag, its tree, and the record of the change that made it from the version before
 pub record Version : Type 0 where
   pub tag : ℕ
   pub tree : Tree
   pub note : Option Note
 
--- a document: its name, the version that it has now, and those before it, the newest first
+-- a document: its name, its present version, and the earlier ones, newest first
 pub record Document : Type 0 where
   pub id : DocId
   pub now : Version
@@ -28,27 +29,27 @@ pub record State : Type 0 where
 abbrev pub first_state : ℕ → State
 first_state first = record { documents = []; next = first }
 
--- all versions of a document, the newest first
+-- all versions of a document, newest first
 abbrev pub versions : Document → List Version
 versions d = d.now ∷ d.earlier
 
--- its notes, the oldest first
+-- its change records, oldest first
 abbrev pub notes : Document → List Note
 notes d = reverse (filter_map (λ v. v.note) (versions d))
 
--- ---- what is retained of the notes, for subscribers that hold an older version
+-- ---- which records are retained, for subscribers with an older version
 
--- as many items as notes may be retained, which weigh no more than these may
+-- no more items than records may be retained, and no heavier together than these may be
 abbrev pub is_small : {A : Type 0} → (A → ℕ) → List A → Bool
-is_small weight xs = nat_le (length xs) most_notes && nat_le (sum_by weight xs) most_weight
+is_small weight xs = nat_le (length xs) max_notes && nat_le (sum_by weight xs) max_weight
 
--- the longest end of the list that is small; its last item is in it whatever that weighs
+-- the longest end of the list that is small; the last item is always in it
 abbrev pub small_end : {A : Type 0} → (A → ℕ) → List A → List A
 small_end weight [] = []
 small_end weight (x ∷ []) = x ∷ []
 small_end weight (x ∷ y ∷ xs) = if is_small weight (x ∷ y ∷ xs) then x ∷ y ∷ xs else small_end weight (y ∷ xs)
 
--- a note weighs as much as its operation's text has bytes
+-- the retained records; a record weighs as many bytes as its operation's text has
 abbrev pub retained : List Note → List Note
 retained ns = small_end weight ns
 
@@ -58,6 +59,6 @@ retained ns = small_end weight ns
 abbrev pub renewed : ℕ → Document → Note → Document
 renewed tag d n = record { id = d.id; now = record { tag = tag; tree = edited d.now.tree n.change; note = Some n }; earlier = versions d }
 
--- a document that was just made
+-- a new document
 abbrev pub created : DocId → ℕ → Tree → Document
 created id tag root = record { id = id; now = record { tag = tag; tree = root; note = None }; earlier = [] }

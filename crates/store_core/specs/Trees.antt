@@ -1,8 +1,8 @@
--- The tree of a document as a store has it.
+-- The tree of a document in a store.
 use Rattle.std.specs.Prelude.{Bool}
 use Rattle.xml_tree.specs.Tree.{Tree}
 
--- the tree, and whether the store has it for itself: if it doesn't, a note may share it
+-- the tree, and whether it is unshared: if not, a change record may share it
 pub record HeldTree : Type 0 where
   pub root : Tree
   pub own : Bool

@@ -1,11 +1,12 @@
-//! The service addresses of documents, and those that an edit takes out and brings (RFC 4826, section 4.4.5).
+//! The service addresses of documents, and those that an edit removes and adds (RFC 4826, section
+//! 4.4.5).
 ghost use Rattle.std.specs.Prelude.{◌≡◌, ◌∷◌, [], IfOk};
 ghost use Rattle.std.specs.Str.{bytes_eq};
 ghost use Rattle.usage_docs.specs.Keys.{word};
 ghost use Rattle.usage_docs.specs.Services.{service_uris};
-ghost use Rattle.usage_docs.specs.declared.rows.Key.TheVariants as keys;
-ghost use Rattle.store_core.specs.Keeping.{addresses_in};
-ghost use Rattle.store_core.specs.inner.Addresses.{address, address_at, addresses_at, enter_in, first, first_number, is_uri, leave_in, put_at, put_below, services_enter, services_leave, written_at};
+ghost use Rattle.usage_docs.specs.declared.schema_table.Key.TheVariants as keys;
+ghost use Rattle.store_core.specs.ValidStates.{addresses_in};
+ghost use Rattle.store_core.specs.inner.Addresses.{address, address_at, addresses_at, enter_in, first, first_number, is_uri, leave_in, put_at, added_address, services_enter, services_leave, written_at};
 
 use doc_names::Auid;
 use edit_ops::Change;
@@ -15,7 +16,7 @@ use xml_tree::{Element, List, LocalName, Name, Path, Text};
 
 // ---- all of a document
 
-// Those of its services, in order.
+// The addresses of the document's services, in order.
 fn service_addresses(alloc: Global, root: &Element) -> Result<List<Text>, AllocError>
     ensures addresses_in_order { IfOk result (λ made. made ≡ service_uris root.now) }
 {
@@ -27,9 +28,9 @@ fn service_addresses(alloc: Global, root: &Element) -> Result<List<Text>, AllocE
     Ok(made)
 }
 
-/// The service addresses of a document of this usage, in order; the other usage has none.
+/// The service addresses of a document of this AUID, in order; of the other AUIDs there are none.
 pub(crate) fn addresses(alloc: Global, auid: Auid, root: &Element) -> Result<List<Text>, AllocError>
-    ensures addresses_of_the_usage { IfOk result (λ made. made ≡ addresses_in auid root.now) }
+    ensures ok { IfOk result (λ made. made ≡ addresses_in auid root.now) }
 {
     match auid {
         Auid::RlsServices => service_addresses(alloc, root),
@@ -42,7 +43,7 @@ pub(crate) fn addresses(alloc: Global, auid: Auid, root: &Element) -> Result<Lis
 
 // A list of one text.
 fn one(alloc: Global, text: Text) -> Result<List<Text>, AllocError>
-    ensures holds_the_text { IfOk result (λ made. made ≡ text ∷ []) }
+    ensures ok { IfOk result (λ made. made ≡ text ∷ []) }
 {
     let mut made = List::empty(alloc);
     made.push(text)?;
@@ -51,7 +52,7 @@ fn one(alloc: Global, text: Text) -> Result<List<Text>, AllocError>
 
 // The address of a service.
 fn address(alloc: Global, service: &Element) -> Result<List<Text>, AllocError>
-    ensures address_of_the_service { IfOk result (λ made. made ≡ address service.now) }
+    ensures ok { IfOk result (λ made. made ≡ address service.now) }
 {
     match value_of(Key::Uri, service.attrs()) {
         Some(uri) => one(alloc, Text::from(alloc, uri)?),
@@ -59,22 +60,22 @@ fn address(alloc: Global, service: &Element) -> Result<List<Text>, AllocError>
     }
 }
 
-// That of the service that a way of one step leads to from the root.
+// The address of the service at the end of a path of one step from the root.
 fn address_at(alloc: Global, root: &Element, way: &[usize]) -> Result<List<Text>, AllocError>
-    ensures address_there { IfOk result (λ made. made ≡ address_at root.now way.now) }
+    ensures ok { IfOk result (λ made. made ≡ address_at root.now way.now) }
 {
     let [number] = way else {
         return Ok(List::empty(alloc));
     };
-    match root.kid(*number) {
+    match root.child_element(*number) {
         Some(service) => address(alloc, service),
         None => Ok(List::empty(alloc)),
     }
 }
 
-// Those of the services that go where the element there is exchanged.
+// The addresses of the services that the replacement of the element at this path removes.
 fn addresses_at(alloc: Global, root: &Element, way: &[usize]) -> Result<List<Text>, AllocError>
-    ensures addresses_that_go { IfOk result (λ made. made ≡ addresses_at root.now way.now) }
+    ensures ok { IfOk result (λ made. made ≡ addresses_at root.now way.now) }
 {
     match way {
         [] => service_addresses(alloc, root),
@@ -82,9 +83,9 @@ fn addresses_at(alloc: Global, root: &Element, way: &[usize]) -> Result<List<Tex
     }
 }
 
-// Those of the services that come where an element is put there.
+// The addresses of the services that an element put at this path adds.
 fn put_at(alloc: Global, way: &[usize], element: &Element) -> Result<List<Text>, AllocError>
-    ensures addresses_that_come { IfOk result (λ made. made ≡ put_at way.now element.now) }
+    ensures ok { IfOk result (λ made. made ≡ put_at way.now element.now) }
 {
     match way {
         [] => service_addresses(alloc, element),
@@ -93,9 +94,9 @@ fn put_at(alloc: Global, way: &[usize], element: &Element) -> Result<List<Text>,
     }
 }
 
-// That of the service that comes where an element is put into the one there.
-fn put_below(alloc: Global, way: &[usize], element: &Element) -> Result<List<Text>, AllocError>
-    ensures address_that_comes { IfOk result (λ made. made ≡ put_below way.now element.now) }
+// The address of the service that an element inserted under the one at this path adds.
+fn added_address(alloc: Global, way: &[usize], element: &Element) -> Result<List<Text>, AllocError>
+    ensures ok { IfOk result (λ made. made ≡ added_address way.now element.now) }
 {
     match way {
         [] => address(alloc, element),
@@ -103,9 +104,9 @@ fn put_below(alloc: Global, way: &[usize], element: &Element) -> Result<List<Tex
     }
 }
 
-// A value that is written there.
+// The value, if it is written at a service.
 fn written_at(alloc: Global, way: &[usize], value: &Text) -> Result<List<Text>, AllocError>
-    ensures value_of_a_service { IfOk result (λ made. made ≡ written_at way.now value.now) }
+    ensures ok { IfOk result (λ made. made ≡ written_at way.now value.now) }
 {
     match way {
         [_] => one(alloc, value.copy(alloc)?),
@@ -113,29 +114,29 @@ fn written_at(alloc: Global, way: &[usize], value: &Text) -> Result<List<Text>, 
     }
 }
 
-// Whether it is the local name of the attribute that holds a service's address.
+// Whether it is the local name of the attribute with a service's address.
 fn is_uri_word(local: &LocalName) -> bool
-    ensures tells_whether_it_is_the_word { result ≡ bytes_eq local.now (word keys.Uri) }
+    ensures exact { result ≡ bytes_eq local.now (word keys.Uri) }
 {
     local.is(Key::Uri.word())
 }
 
-// Whether it is the name of that attribute.
+// Whether it is the name of the attribute with a service's address.
 fn is_uri(name: &Name) -> bool
-    ensures tells_whether_it_is_the_name { result ≡ is_uri name.now }
+    ensures exact { result ≡ is_uri name.now }
 {
     name.prefix.is("") && is_uri_word(&name.local)
 }
 
 // ---- of an edit
 
-// The addresses that an edit takes out of a document of services.
+// The addresses that an edit removes from a document of services.
 fn services_leave(
     alloc: Global,
     before: &Element,
     change: &Change,
 ) -> Result<List<Text>, AllocError>
-    ensures addresses_that_leave { IfOk result (λ made. made ≡ services_leave before.now change.now) }
+    ensures ok { IfOk result (λ made. made ≡ services_leave before.now change.now) }
 {
     match change {
         Change::CreateDocument { .. } => Ok(List::empty(alloc)),
@@ -153,9 +154,9 @@ fn services_leave(
     }
 }
 
-// The addresses that it brings.
+// The addresses that an edit adds to a document of services.
 fn services_enter(alloc: Global, change: &Change) -> Result<List<Text>, AllocError>
-    ensures addresses_that_enter { IfOk result (λ made. made ≡ services_enter change.now) }
+    ensures ok { IfOk result (λ made. made ≡ services_enter change.now) }
 {
     match change {
         Change::CreateDocument { .. } => Ok(List::empty(alloc)),
@@ -163,7 +164,7 @@ fn services_enter(alloc: Global, change: &Change) -> Result<List<Text>, AllocErr
             parent,
             element,
             ..
-        } => put_below(alloc, parent.numbers(), element),
+        } => added_address(alloc, parent.numbers(), element),
         Change::Replace { at, element } => put_at(alloc, at.numbers(), element),
         Change::Remove { .. } => Ok(List::empty(alloc)),
         Change::SetAttr { at, name, value } => {
@@ -177,15 +178,15 @@ fn services_enter(alloc: Global, change: &Change) -> Result<List<Text>, AllocErr
     }
 }
 
-/// The service addresses that an edit takes out of a document of this usage. Of the tree no more
-/// than the place of the edit is looked at, unless the root is exchanged.
-pub(crate) fn leaving(
+/// The service addresses that an edit removes from a document of this AUID. Only the place of the
+/// edit is looked at, unless the root is replaced.
+pub(crate) fn removed_addresses(
     alloc: Global,
     auid: Auid,
     before: &Element,
     change: &Change,
 ) -> Result<List<Text>, AllocError>
-    ensures addresses_of_the_usage_that_leave { IfOk result (λ made. made ≡ leave_in auid before.now change.now) }
+    ensures ok { IfOk result (λ made. made ≡ leave_in auid before.now change.now) }
 {
     match auid {
         Auid::RlsServices => services_leave(alloc, before, change),
@@ -194,9 +195,13 @@ pub(crate) fn leaving(
     }
 }
 
-/// The service addresses that it brings.
-pub(crate) fn entering(alloc: Global, auid: Auid, change: &Change) -> Result<List<Text>, AllocError>
-    ensures addresses_of_the_usage_that_enter { IfOk result (λ made. made ≡ enter_in auid change.now) }
+/// The service addresses that an edit adds to a document of this AUID.
+pub(crate) fn added_addresses(
+    alloc: Global,
+    auid: Auid,
+    change: &Change,
+) -> Result<List<Text>, AllocError>
+    ensures ok { IfOk result (λ made. made ≡ enter_in auid change.now) }
 {
     match auid {
         Auid::RlsServices => services_enter(alloc, change),
@@ -205,9 +210,9 @@ pub(crate) fn entering(alloc: Global, auid: Auid, change: &Change) -> Result<Lis
     }
 }
 
-// The number that stands first on a path; 0 on the empty one.
+// The first number of a path; 0 of the empty one.
 fn first(path: &Path) -> usize
-    ensures first_of_the_path { result ≡ first path.now }
+    ensures exact { result ≡ first path.now }
 {
     match path.numbers() {
         [] => 0,
@@ -215,9 +220,9 @@ fn first(path: &Path) -> usize
     }
 }
 
-/// The number of the first service among those that an edit brings, where it brings one.
+/// The number of the first service that an edit adds, where it adds one.
 pub(crate) fn first_number(change: &Change) -> usize
-    ensures first_that_comes { result ≡ first_number change.now }
+    ensures exact { result ≡ first_number change.now }
 {
     match change {
         Change::CreateDocument { .. } => 0,

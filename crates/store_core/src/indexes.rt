@@ -2,10 +2,10 @@
 ghost use Rattle.std.specs.Prelude.{◌≡◌, ◌≤◌, [], map, All, IfOk, None, if◌then◌else◌};
 ghost use Rattle.std.specs.Str.{bytes_eq};
 ghost use Rattle.std.specs.Option.{option_map};
-ghost use Rattle.xml_tree.specs.Limits.{most_levels};
+ghost use Rattle.xml_tree.specs.Limits.{max_levels};
 ghost use Rattle.xml_tree.specs.Tree.{Tree, height};
 ghost use Rattle.store_core.specs.Indexes.{AreIndexTrees, index, indexed_by, indexed_in};
-ghost use Rattle.store_core.specs.inner.Listed.{entered, listed, pairs_in};
+ghost use Rattle.store_core.specs.inner.ServiceListing.{entered, listed, pairs_in};
 
 use crate::step::Documents;
 use crate::{NoMemory, Store};
@@ -14,9 +14,10 @@ use std::alloc::{AllocError, Global};
 use std::collections::BTreeMap;
 use xml_tree::{Element, Text};
 
-// The user whose home this is.
+// The user who owns the home.
 fn user_of(home: &Home) -> Option<&Text>
-    ensures user_of_the_home { (t : Tree) → option_map (λ user. (user.now, t)) result ≡ indexed_in home.now t }
+    ensures indexed_user { (t : Tree)
+        → option_map (λ user. (user.now, t)) result ≡ indexed_in home.now t }
 {
     match home {
         Home::Global => None,
@@ -24,10 +25,12 @@ fn user_of(home: &Home) -> Option<&Text>
     }
 }
 
-// The user who keeps a document under the name `index`.
+// The user whose document has the name `index`.
 #[tactic(auto, unfolding(crate::specs::Indexes::index))]
 fn user_of_index(doc: &DocId) -> Option<&Text>
-    ensures user_of_the_index { (t : Tree) → option_map (λ user. (user.now, t)) result ≡ (if bytes_eq doc.now.name index then indexed_in doc.now.home t else None) }
+    ensures indexed_user { (t : Tree)
+        → option_map (λ user. (user.now, t)) result
+        ≡ (if bytes_eq doc.now.name index then indexed_in doc.now.home t else None) }
 {
     if !doc.name.is("index") {
         return None;
@@ -35,9 +38,11 @@ fn user_of_index(doc: &DocId) -> Option<&Text>
     user_of(&doc.home)
 }
 
-// The user whose document the index lists, if it lists this one.
+// The user of a document, if the index lists it.
 fn listed_user(doc: &DocId) -> Option<&Text>
-    ensures user_whom_it_lists { (t : Tree) → option_map (λ user. (user.now, t)) result ≡ indexed_by doc.now.auid (bytes_eq doc.now.name index) doc.now.home t }
+    ensures indexed_user { (t : Tree)
+        → option_map (λ user. (user.now, t)) result
+        ≡ indexed_by doc.now.auid (bytes_eq doc.now.name index) doc.now.home t }
 {
     match doc.auid {
         Auid::ResourceLists => None,
@@ -51,7 +56,8 @@ fn trees_by_user<'a>(
     alloc: Global,
     documents: &'a Documents,
 ) -> Result<BTreeMap<&'a Text, &'a Element>, AllocError>
-    ensures trees_that_are_listed { IfOk result (λ made. pairs_in made.entries ≡ entered [] (listed documents.now.entries)) }
+    ensures listed_trees { IfOk result
+        (λ made. pairs_in made.entries ≡ entered [] (listed documents.now.entries)) }
 {
     let mut made = BTreeMap::new(alloc);
     for (doc, entry) in documents.iter() {
@@ -63,14 +69,16 @@ fn trees_by_user<'a>(
 }
 
 impl Store {
-    /// The trees of the documents of services that users keep under the name `index`, in the order of the users' names by code
-    /// point (RFC 4826, section 4.4.7).
+    /// The trees of the users' documents of services with the name `index`, in the order of the
+    /// users' names by code point (RFC 4826, section 4.4.7).
     ///
     /// # Errors
-    /// `NoMemory` for want of memory.
+    /// `NoMemory` when out of memory.
     pub fn user_indexes(&self, alloc: Global) -> Result<Vec<&Element>, NoMemory>
-        ensures trees_of_the_index { IfOk result (λ made. AreIndexTrees self.now.content (map (λ e. e.now) made.items)) }
-        ensures is_low_enough { IfOk result (λ made. All (λ e. height e.now ≤ most_levels) made.items) }
+        ensures index_trees { IfOk result
+            (λ made. AreIndexTrees self.now.content (map (λ e. e.now) made.items)) }
+        ensures within_levels { IfOk result
+            (λ made. All (λ e. height e.now ≤ max_levels) made.items) }
     {
         let trees = trees_by_user(alloc, &self.documents)?;
         trees.into_values().collect(alloc)

@@ -1,59 +1,74 @@
-//! Laws of the words: what a store holds of a state follows every change of it, and a kept state stays kept.
+//! Laws of the definitions: a store's contents follow every change of the state that they
+//! represent, and a valid state stays valid.
 ghost use Rattle.std.specs.Prelude.{◌≡◌, ℕ, ◌<◌, ◌≤◌, List, Ok};
 ghost use Rattle.xml_tree.specs.Tree.{Tree};
 ghost use Rattle.store_core.specs.State.{State, first_state};
-ghost use Rattle.store_core.specs.Held.{Stands, Stock};
+ghost use Rattle.store_core.specs.Contents.{Represents, StoreContents};
 ghost use Rattle.store_core.specs.Indexes.{AreIndexTrees};
 ghost use Rattle.store_core.specs.KeyAddresses.{KeepsAddressesOf};
-ghost use Rattle.store_core.specs.Keeping.{Kept};
-ghost use Rattle.store_core.specs.Changing.{after, changing, content_after, document_in, held_name, note_for};
-ghost use Rattle.store_core.specs.Suiting.{Suits};
+ghost use Rattle.store_core.specs.ValidStates.{IsValidState};
+ghost use Rattle.store_core.specs.DocumentChanges.{after, changing, content_after, document_in, stored_name, note_for};
+ghost use Rattle.store_core.specs.AcceptableChanges.{Suits};
 ghost use Rattle.doc_names.specs.declared.doc_id.DocId.{DocId};
-ghost use Rattle.notes.specs.Notes.{Note};
-ghost use Rattle.store_core.specs.Asking.{Asks};
+ghost use Rattle.edit_ops.specs.Notes.{Note};
+ghost use Rattle.store_core.specs.Queries.{Asks};
 ghost use Rattle.edit_ops.specs.declared.change.Change.{Change};
 
-/// A law: where a store stands for a state, what it holds after a change stands for the state after that change.
+/// A law: where contents represent a state, the contents after a change represent the state after
+/// that change.
 pub fn stores_stand_after_each_change()
-    ensures stands_after_the_change { (c : Stock) (m : State) (id : DocId) (change : Change) → Stands c m → Stands (content_after c id change) (after m id change) }
+    ensures represents_after { (c : StoreContents) (m : State) (id : DocId) (change : Change)
+        → Represents c m → Represents (content_after c id change) (after m id change) }
 {}
 
-/// A law: a state that is kept is kept after each change that suits it.
-pub fn states_are_kept_after_each_change()
-    ensures kept_after_the_change { (m : State) (id : DocId) (change : Change) → Kept m → Suits m id change → Kept (after m id change) }
+/// A law: a valid state is valid after each change that suits it.
+pub fn states_stay_valid_after_each_change()
+    ensures valid_after { (m : State) (id : DocId) (change : Change)
+        → IsValidState m → Suits m id change → IsValidState (after m id change) }
 {}
 
-/// A law: the state without documents is kept, where the first number is 1 or more.
-pub fn the_first_state_is_kept()
-    ensures keeps_the_first_state { (first : ℕ) → 1 ≤ first → Kept (first_state first) }
+/// A law: the state without documents is valid, where the first number is 1 or more.
+pub fn the_first_state_is_valid()
+    ensures first_state_valid { (first : ℕ) → 1 ≤ first → IsValidState (first_state first) }
 {}
 
-/// A law: where a store stands for a kept state, a change that the store answers with its note suits the state.
+/// A law: where contents represent a valid state, a change that the store makes suits the state.
 pub fn changes_that_are_made_suit_the_state()
-    ensures suits_if_it_is_made { (c : Stock) (m : State) (id : DocId) (change : Change) (made : Note × Stock) → Stands c m → Kept m → Asks c id change → changing c id change ≡ Ok made → Suits m id change }
+    ensures made_suits { (c : StoreContents) (m : State) (id : DocId) (change : Change)
+        (made : Note × StoreContents) → Represents c m → IsValidState m → Asks c id change
+        → changing c id change ≡ Ok made → Suits m id change }
 {}
 
-/// A law: where a store stands for a kept state and makes a change that may be asked for, what it then holds stands for the next state, which is kept.
+/// A law: where contents represent a valid state and the store makes a change that may be asked
+/// for, the new contents represent the next state, which is valid.
 pub fn changes_that_are_made_keep_store_and_state()
-    ensures stands_for_the_next_and_keeps_it { (c : Stock) (m : State) (id : DocId) (change : Change) (note : Note) (next : Stock) → Stands c m → Kept m → Asks c id change → changing c id change ≡ Ok (note, next) → Stands next (after m id change) × Kept (after m id change) }
+    ensures represents_valid_next { (c : StoreContents) (m : State) (id : DocId) (change : Change)
+        (note : Note) (next : StoreContents) → Represents c m → IsValidState m → Asks c id change
+        → changing c id change ≡ Ok (note, next) → Represents next (after m id change)
+        × IsValidState (after m id change) }
 {}
 
-/// A law: where a store stands for a kept state, it makes each change that suits the state, while 64 bits hold the next number.
+/// A law: where contents represent a valid state, the store makes each change that suits the
+/// state, as long as the next number fits 64 bits.
 pub fn changes_that_suit_the_state_are_made()
-    ensures made_if_it_suits { (c : Stock) (m : State) (id : DocId) (change : Change) → Stands c m → Kept m → Suits m id change → m.next < 18446744073709551616 → changing c id change ≡ Ok (note_for c id change (document_in held_name c.documents id), content_after c id change) }
+    ensures suited_is_made { (c : StoreContents) (m : State) (id : DocId) (change : Change)
+        → Represents c m → IsValidState m
+        → Suits m id change → m.next < 18446744073709551616 → changing c id change
+        ≡ Ok (note_for c id change (document_in stored_name c.documents id), content_after c id change) }
 {}
 
-/// A law: where a store stands for a kept state, a change that it makes leaves what the document's
-/// key addresses select. An address that selected an element selects it where the change moves it,
-/// if it is still there and no key on the way to it is written or dropped.
+/// A law: where contents represent a valid state, a change that the store makes preserves what the
+/// document's key addresses select. An address that selected an element selects it where the
+/// change moves it, if it still exists and no key on its path is written or removed.
 pub fn changes_that_are_made_leave_key_addresses()
-    ensures leaves_what_they_select { (c : Stock) (m : State) (id : DocId) (change : Change)
-        (note : Note) (next : Stock) → Stands c m → Kept m → Asks c id change
+    ensures keeps_selected { (c : StoreContents) (m : State) (id : DocId) (change : Change)
+        (note : Note) (next : StoreContents) → Represents c m → IsValidState m → Asks c id change
         → changing c id change ≡ Ok (note, next) → KeepsAddressesOf c id change next }
 {}
 
-/// A law: of what is held there is exactly one list of the trees that the index of services lists.
+/// A law: the contents have exactly one list of the trees that the index of services lists.
 pub fn the_index_has_one_list()
-    ensures there_is_a_list { (c : Stock) → (trees : List Tree) × AreIndexTrees c trees }
-    ensures lists_are_one { (c : Stock) (trees others : List Tree) → AreIndexTrees c trees → AreIndexTrees c others → trees ≡ others }
+    ensures list_exists { (c : StoreContents) → (trees : List Tree) × AreIndexTrees c trees }
+    ensures lists_are_one { (c : StoreContents) (trees others : List Tree) → AreIndexTrees c trees
+        → AreIndexTrees c others → trees ≡ others }
 {}

@@ -1,39 +1,44 @@
-//! The documents that a server keeps, each with its tag and the notes of its last changes.
-//! Promises upward one meaning of a machine's state, of what a state keeps to, of what a store holds of it, and of what each change makes of both.
-//! The standards are RFC 4825, sections 7 and 8, RFC 4826 and RFC 5874; the limits are the project's own.
+//! The document store: each document with its etag and the records of its last changes. A change
+//! is prepared (`prepare`, which takes all memory and may refuse it) and then committed (`commit`,
+//! which can't fail). Upward: a store's contents represent a valid state of the abstract machine
+//! (`Represents`, `IsValidState`), each change makes the next state (`after`, `content_after`,
+//! `changing`), and `since` returns the records since an etag. The standards are RFC 4825,
+//! sections 7 and 8, RFC 4826 and RFC 5874; the limits are this server's own.
+//! Versions are listed newest first. Whether a tree is shared is in the store's `Room`, not in its
+//! contents: `commit` needs an unshared tree for an edit in place.
 #![tactic(auto)]
 
 mod addresses;
-mod committing;
+mod cached_tree;
+mod commit_change;
 mod entry;
 mod indexes;
-mod kept_tree;
 mod laws;
 mod limits;
 mod outlines;
-mod prepared;
-mod preparing;
+mod prepare_change;
+mod prepared_change;
 mod printed_tree;
 mod prints;
 mod put;
 mod refusal;
 mod registry;
-mod retained;
-mod root;
+mod retained_records;
+mod root_tests;
+mod shared_root;
 mod since;
 mod staged_tree;
 mod step;
 mod store;
-mod within;
 
 pub use laws::{
     changes_that_are_made_keep_store_and_state, changes_that_are_made_leave_key_addresses,
     changes_that_are_made_suit_the_state, changes_that_suit_the_state_are_made,
-    states_are_kept_after_each_change, stores_stand_after_each_change, the_first_state_is_kept,
+    states_stay_valid_after_each_change, stores_stand_after_each_change, the_first_state_is_valid,
     the_index_has_one_list,
 };
-pub use limits::MOST_BYTES;
-pub use prepared::Prepared;
+pub use limits::MAX_BYTES;
+pub use prepared_change::Prepared;
 pub use refusal::StoreRefusal;
 pub use since::{Since, notes_since_a_version_lead_from_it};
 pub use std::alloc::AllocError as NoMemory;

@@ -1,16 +1,17 @@
-//! The limits of what is held. They are this server's own; no standard sets any.
+//! The limits of the store. They are this server's own; no standard sets any.
 
-/// How many documents there are at most.
-pub const MOST_DOCUMENTS: usize = 1_000;
+/// The greatest number of documents.
+pub const MAX_DOCUMENTS: usize = 1_000;
 
-/// How many bytes a printed document has at most.
-pub const MOST_BYTES: usize = 262_144;
+/// The greatest number of bytes of a printed document.
+pub const MAX_BYTES: usize = 262_144;
 
-/// How many bytes all printed documents have together at most.
-pub const MOST_BYTES_TOGETHER: u64 = 33_554_432;
+/// The greatest number of bytes of all printed documents together.
+pub const MAX_BYTES_TOGETHER: u64 = 33_554_432;
 
-/// How many notes of a document are retained at most.
-pub const MOST_NOTES: usize = 64;
+/// The greatest number of retained change records of a document.
+pub const MAX_NOTES: usize = 64;
 
-/// How much they weigh together at most, unless the newest alone weighs more.
-pub const MOST_WEIGHT: usize = 65_536;
+/// The greatest weight of a document's retained records together, unless the newest alone weighs
+/// more.
+pub const MAX_WEIGHT: usize = 65_536;

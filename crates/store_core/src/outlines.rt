@@ -1,46 +1,45 @@
-//! Changes of documents with all their memory: the note of each, and what the store does.
+//! Builds prepared changes: the record of each change, and the step that the store makes.
 ghost use Rattle.std.specs.Prelude.{◌≡◌, [], false, IfOk, min};
 ghost use Rattle.edit_ops.specs.Changes.{Fits};
 ghost use Rattle.edit_ops.specs.Lengths.{element_len};
 ghost use Rattle.edit_ops.specs.declared.change.Change.TheVariants as changes;
-ghost use Rattle.notes.specs.Brought.{BringsElement, brought};
-ghost use Rattle.notes.specs.Notes.{note_of};
-ghost use Rattle.store_core.specs.Making.{IsStagedIn};
+ghost use Rattle.edit_ops.specs.Inserted.{BringsElement, inserted_part};
+ghost use Rattle.edit_ops.specs.Notes.{note_of};
+ghost use Rattle.store_core.specs.TreeChanges.{IsStagedIn};
 ghost use Rattle.store_core.specs.Stored.{entry_of};
 ghost use Rattle.store_core.specs.declared.step.Step.TheVariants as steps;
 ghost use Rattle.store_core.specs.inner.Planning.{IsNoted, IsStepOfEdit};
-ghost use Rattle.store_core.specs.inner.Prints.{IsPrintBrought, IsPrintOf};
+ghost use Rattle.store_core.specs.inner.Prints.{IsInsertedPrint, IsPrintOf};
 ghost use Rattle.usage_docs.specs.Services.{document_len};
 
 use crate::NoMemory;
 use crate::entry::Entry;
-use crate::prepared::Prepared;
+use crate::prepared_change::Prepared;
 use crate::printed_tree::PrintedTree;
 use crate::put::Put;
+use crate::root_tests::is_within;
 use crate::staged_tree::StagedTree;
 use crate::step::Step;
-use crate::within::is_within;
 use doc_names::DocId;
-use edit_ops::{Change, stage};
-use notes::{EditNote, NotedTree};
+use edit_ops::{Change, EditNote, RecordedTree, stage};
 use std::alloc::Global;
 use xcap_io::Bytes;
 use xml_tree::{Element, List, Text};
 
-/// What is known of a document after a change, before there is a note of it.
+/// What is known of a document after a change, before there is a change record.
 #[derive(Drop)]
 pub(crate) struct Outline {
     pub(crate) number: u64,
     pub(crate) put: Put,
-    // How many bytes the document has, and all documents together.
+    // The number of bytes of the document, and of all documents together.
     pub(crate) len: usize,
     pub(crate) total: u64,
-    // The service addresses that leave, and those that come in.
+    // The removed and the added service addresses.
     pub(crate) leaves: List<Text>,
     pub(crate) enters: List<Text>,
 }
 
-// The step that makes a document under this name. It shares its tree with the note.
+// The step that creates a document under this name. It shares its tree with the change record.
 fn make_step(
     alloc: Global,
     doc: &DocId,
@@ -49,19 +48,20 @@ fn make_step(
     print: Option<Bytes>,
     len: usize,
 ) -> Result<Step, NoMemory>
-    requires brings { BringsElement note.now.change }
-    requires print { IsPrintOf (brought note.now.change) print }
-    requires len { len ≡ document_len (brought note.now.change) }
-    ensures makes_the_document { IfOk result (λ step. step ≡ steps.Make doc.now (entry_of number (brought note.now.change))) }
+    requires brings_part { BringsElement note.now.change }
+    requires print_of_part { IsPrintOf (inserted_part note.now.change) print }
+    requires length_exact { len ≡ document_len (inserted_part note.now.change) }
+    ensures makes_document { IfOk result
+        (λ step. step ≡ steps.Make doc.now (entry_of number (inserted_part note.now.change))) }
 {
-    let noted = NotedTree::of(note)?;
+    let noted = RecordedTree::of(note)?;
     let tree = PrintedTree::of(noted, print);
     let entry = Entry::new(alloc, number, tree, len)?;
     let key = doc.copy(alloc)?;
     Ok(Step::Make(key, entry))
 }
 
-// The note of a document that is made, and the step.
+// The change record of a creation, and its step.
 fn noted_creation(
     alloc: Global,
     doc: &DocId,
@@ -70,17 +70,19 @@ fn noted_creation(
     print: Option<Bytes>,
     len: usize,
 ) -> Result<(EditNote, Step), NoMemory>
-    requires print { IsPrintOf root print }
-    requires len { len ≡ document_len root }
-    ensures notes_the_creation { IfOk result (λ made. made.0 ≡ record { previous = 0; next = number; bindings = []; change = changes.CreateDocument root; fresh = false }) }
-    ensures makes_the_document { IfOk result (λ made. made.1 ≡ steps.Make doc.now (entry_of number root)) }
+    requires print_of_part { IsPrintOf root print }
+    requires length_exact { len ≡ document_len root }
+    ensures creation_record { IfOk result
+        (λ made. made.0 ≡ record { previous = 0; next = number; bindings = []; change = changes.CreateDocument root; fresh = false }) }
+    ensures makes_document { IfOk result
+        (λ made. made.1 ≡ steps.Make doc.now (entry_of number root)) }
 {
     let note = EditNote::of_document(alloc, 0, number, Change::CreateDocument { root })?;
     let step = make_step(alloc, doc, number, &note, print, len)?;
     Ok((note, step))
 }
 
-/// A document that is made, by its outline.
+/// The creation of a document, by its outline.
 ///
 /// # Errors
 /// `NoMemory` when out of memory.
@@ -90,9 +92,9 @@ pub(crate) fn creation(
     root: Element,
     outline: Outline,
 ) -> Result<Prepared, NoMemory>
-    requires print { IsPrintOf root outline.put.print }
-    requires len { outline.len ≡ document_len root }
-    ensures prepares_the_creation { IfOk result (λ p. p ≡ record {
+    requires print_of_part { IsPrintOf root outline.put.print }
+    requires length_exact { outline.len ≡ document_len root }
+    ensures ok { IfOk result (λ p. p ≡ record {
       doc = doc;
       note = record { previous = 0; next = outline.number; bindings = []; change = changes.CreateDocument root; fresh = false };
       step = steps.Make doc (entry_of outline.number root);
@@ -120,7 +122,7 @@ pub(crate) fn creation(
     })
 }
 
-/// A document that is taken away.
+/// The removal of a document.
 ///
 /// # Errors
 /// `NoMemory` when out of memory.
@@ -132,7 +134,7 @@ pub(crate) fn removal(
     leaves: List<Text>,
     total: u64,
 ) -> Result<Prepared, NoMemory>
-    ensures prepares_the_removal { IfOk result (λ p. p ≡ record {
+    ensures ok { IfOk result (λ p. p ≡ record {
       doc = doc;
       note = record { previous = tag; next = number; bindings = []; change = changes.RemoveDocument; fresh = false };
       step = steps.End;
@@ -152,8 +154,8 @@ pub(crate) fn removal(
     })
 }
 
-// What the change of a note brings into the tree that it is one of. Where it exchanges the root, the tree is shared with the note, and
-// its print comes with it.
+// What the change of a record inserts into the tree. Where it replaces the root, the tree is
+// shared with the record, and comes with its print.
 fn staged(
     alloc: Global,
     root: &Element,
@@ -161,20 +163,20 @@ fn staged(
     print: Option<Bytes>,
 ) -> Result<StagedTree, NoMemory>
     requires fits { Fits root.now note.now.change }
-    requires print { IsPrintBrought note.now.change print }
-    ensures stages_the_change { IfOk result (λ made. IsStagedIn root.now note.now.change made) }
+    requires print_of_part { IsInsertedPrint note.now.change print }
+    ensures stages_change { IfOk result (λ made. IsStagedIn root.now note.now.change made) }
 {
     let change = note.change();
     if is_within(change) {
         let staged = stage(alloc, root, change)?;
         return Ok(StagedTree::InPlace(staged));
     }
-    let noted = NotedTree::of(note)?;
+    let noted = RecordedTree::of(note)?;
     let tree = PrintedTree::of(noted, print);
     Ok(StagedTree::Whole(tree))
 }
 
-// The step that makes the edit of a note in this tree.
+// The step that makes the edit of a change record in this tree.
 fn edit_step(
     alloc: Global,
     root: &Element,
@@ -183,15 +185,15 @@ fn edit_step(
     len: usize,
 ) -> Result<Step, NoMemory>
     requires fits { Fits root.now note.now.change }
-    requires print { IsPrintBrought note.now.change print }
-    ensures stages_the_change { IfOk result (λ step. IsStepOfEdit root.now note.now len step) }
+    requires print_of_part { IsInsertedPrint note.now.change print }
+    ensures stages_change { IfOk result (λ step. IsStepOfEdit root.now note.now len step) }
 {
     let staged = staged(alloc, root, note, print)?;
     let kept = note.copy()?;
     Ok(Step::Edit { staged, kept, len })
 }
 
-// The note of an edit of a document, and the step.
+// The change record of an edit of a document, and its step.
 fn noted_edit(
     alloc: Global,
     entry: &Entry,
@@ -201,10 +203,11 @@ fn noted_edit(
     len: usize,
 ) -> Result<(EditNote, Step), NoMemory>
     requires fits { Fits entry.now.tree.root change }
-    requires put { put.len ≡ min (element_len change) usize.MAX }
-    requires print { IsPrintBrought change put.print }
-    ensures notes_the_edit { IfOk result (λ made. made.0 ≡ note_of entry.now.tag number entry.now.tree.root change) }
-    ensures stages_the_edit { IfOk result (λ made. IsStepOfEdit entry.now.tree.root made.0 len made.1) }
+    requires length_of_part { put.len ≡ min (element_len change) usize.MAX }
+    requires print_of_part { IsInsertedPrint change put.print }
+    ensures change_record { IfOk result
+        (λ made. made.0 ≡ note_of entry.now.tag number entry.now.tree.root change) }
+    ensures staged_edit { IfOk result (λ made. IsStepOfEdit entry.now.tree.root made.0 len made.1) }
 {
     let tree = entry.tree.root();
     let note = EditNote::of(alloc, entry.tag, number, tree, change, put.len)?;
@@ -212,7 +215,7 @@ fn noted_edit(
     Ok((note, step))
 }
 
-/// A document that is edited, by its outline.
+/// The edit of a document, by its outline.
 ///
 /// # Errors
 /// `NoMemory` when out of memory.
@@ -224,9 +227,9 @@ pub(crate) fn edit(
     outline: Outline,
 ) -> Result<Prepared, NoMemory>
     requires fits { Fits entry.now.tree.root change }
-    requires put { outline.put.len ≡ min (element_len change) usize.MAX }
-    requires print { IsPrintBrought change outline.put.print }
-    ensures prepares_the_edit { IfOk result (λ p. IsNoted doc entry.now change outline p) }
+    requires length_of_part { outline.put.len ≡ min (element_len change) usize.MAX }
+    requires print_of_part { IsInsertedPrint change outline.put.print }
+    ensures prepared_edit { IfOk result (λ p. IsNoted doc entry.now change outline p) }
 {
     let Outline {
         number,

@@ -2,14 +2,15 @@
 ghost use Rattle.std.specs.Prelude.{◌≡◌};
 ghost use Rattle.store_core.specs.inner.Prints.{IsPrintOf};
 
-use notes::NotedTree;
+use edit_ops::RecordedTree;
 use std::marker::Model;
 use xcap_io::Bytes;
 
-/// A tree that a note brings, with the print of its document, if there was memory for that. Contracts see the tree.
+/// A tree that a change record inserted, with the print of its document, if there was memory for
+/// that. Contracts see the tree.
 #[derive(Drop)]
 pub struct PrintedTree {
-    pub(crate) tree: NotedTree,
+    pub(crate) tree: RecordedTree,
     pub(crate) print: Option<Bytes>,
 }
 
@@ -28,10 +29,10 @@ impl Model for PrintedTree {
 }
 
 impl PrintedTree {
-    /// That of a note, with the print of its document. Takes no memory.
-    pub(crate) fn of(tree: NotedTree, print: Option<Bytes>) -> PrintedTree
+    /// The tree of a change record, with the print of its document. Does not allocate.
+    pub(crate) fn of(tree: RecordedTree, print: Option<Bytes>) -> PrintedTree
         requires { IsPrintOf tree print }
-        ensures has_the_tree { result ≡ tree }
+        ensures exact { result ≡ tree }
     {
         PrintedTree { tree, print }
     }

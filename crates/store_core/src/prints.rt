@@ -1,11 +1,11 @@
-//! Documents as they are printed (RFC 4825, section 8.3).
+//! The prints of documents (RFC 4825, section 8.3).
 ghost use Rattle.std.specs.Prelude.{◌≡◌, encode_utf8_all, IfOk, Some};
 ghost use Rattle.std.specs.Map.{lookup};
 ghost use Rattle.indexmap.specs.IndexMap.{spare};
 ghost use Rattle.std.specs.Option.{option_map};
-ghost use Rattle.doc_names.specs.Same.{same_id};
+ghost use Rattle.doc_names.specs.Equality.{same_id};
 ghost use Rattle.xml_tree.specs.Print.{document_print};
-ghost use Rattle.store_core.specs.Changing.{document_in, held_name};
+ghost use Rattle.store_core.specs.DocumentChanges.{document_in, stored_name};
 
 use crate::NoMemory;
 use crate::entry::Entry;
@@ -17,21 +17,24 @@ use xcap_io::Bytes;
 
 // The print of an entry's document.
 fn print_of(alloc: Global, entry: &mut Entry) -> Result<Option<Bytes>, NoMemory>
-    ensures prints_the_document { IfOk result (λ print. print ≡ Some (encode_utf8_all (document_print entry.old.tree.root))) }
-    ensures holds_the_same { entry.new ≡ entry.old }
+    ensures prints_document { IfOk result
+        (λ print. print ≡ Some (encode_utf8_all (document_print entry.old.tree.root))) }
+    ensures contents_unchanged { entry.new ≡ entry.old }
 {
     let print = entry.tree.print(alloc)?;
     Ok(Some(print))
 }
 
-// The print of a document, if it is there.
-fn print_in(
+// The print of a document, if it is stored.
+fn stored_print(
     alloc: Global,
     documents: &mut Documents,
     doc: &DocId,
 ) -> Result<Option<Bytes>, NoMemory>
-    ensures prints_the_document { IfOk result (λ print. print ≡ option_map (λ v. encode_utf8_all (document_print v.tree.root)) (lookup (same_id doc.now) documents.old.entries)) }
-    ensures holds_the_same { documents.new.entries ≡ documents.old.entries }
+    ensures prints_document { IfOk result
+        (λ print. print ≡ option_map (λ v. encode_utf8_all (document_print v.tree.root))
+        (lookup (same_id doc.now) documents.old.entries)) }
+    ensures contents_unchanged { documents.new.entries ≡ documents.old.entries }
     ensures room_stays { spare documents.new ≡ spare documents.old }
 {
     match documents.get_mut(doc) {
@@ -41,16 +44,18 @@ fn print_in(
 }
 
 impl Store {
-    /// The print of a document: None exactly where it isn't held. It is printed when the document is put as a whole, or when it
-    /// is first asked for since an edit, and then stays beside the tree, if there is memory for that: so at most all documents stand there
-    /// once as printed.
+    /// The print of a document: None exactly where it isn't stored. A document is printed when it
+    /// is put as a whole, or first read after an edit, and the print is then cached, if there is
+    /// memory for that: so at most one print of each document is cached.
     ///
     /// # Errors
-    /// `NoMemory` for want of memory.
+    /// `NoMemory` when out of memory.
     pub fn print(&mut self, doc: &DocId) -> Result<Option<Bytes>, NoMemory>
-        ensures prints_the_document { IfOk result (λ print. print ≡ option_map (λ h. encode_utf8_all (document_print h.tree)) (document_in held_name self.old.content.documents doc.now)) }
-        ensures holds_the_same { self.new ≡ self.old }
+        ensures prints_document { IfOk result
+            (λ print. print ≡ option_map (λ h. encode_utf8_all (document_print h.tree))
+            (document_in stored_name self.old.content.documents doc.now)) }
+        ensures contents_unchanged { self.new ≡ self.old }
     {
-        print_in(self.alloc, &mut self.documents, doc)
+        stored_print(self.alloc, &mut self.documents, doc)
     }
 }

@@ -1,18 +1,18 @@
-//! Why a change of a document isn't made.
+//! Why a change of a document is refused.
 
 use usage_docs::Clash;
 
-/// Why the store refuses a change. Of several reasons the first one in this order is told.
+/// Why the store refuses a change. Of several reasons the first in this order is reported.
 #[derive(Drop)]
 pub enum StoreRefusal {
-    /// Another document holds the address of this service.
+    /// Another document has the address of this service.
     ServiceTaken(Clash),
-    /// The document would have so many bytes, more than `MOST_BYTES`.
+    /// The document would have this many bytes, more than `MAX_BYTES`.
     TooLarge(usize),
-    /// `MOST_DOCUMENTS` are held.
+    /// `MAX_DOCUMENTS` are stored.
     TooMany,
-    /// All documents together would have so many bytes, more than `MOST_BYTES_TOGETHER`.
+    /// All documents together would have this many bytes, more than `MAX_BYTES_TOGETHER`.
     StoreFull(u64),
-    /// The greatest number has been given.
+    /// The greatest number has been used.
     NoNumber,
 }

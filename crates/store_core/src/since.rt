@@ -1,37 +1,37 @@
-//! What a store tells of a document since a version of it (RFC 5874, section 3).
+//! The changes of a document since a version of it (RFC 5874, section 3).
 ghost use Rattle.std.specs.Prelude.{◌≡◌, ◌==◌, ℕ, List, [], if◌then◌else◌};
 ghost use Rattle.std.specs.Option.{option_map};
 ghost use Rattle.doc_names.specs.declared.doc_id.DocId.{DocId};
-ghost use Rattle.notes.specs.Notes.{Note};
-ghost use Rattle.notes.specs.Recorded.{all_notes};
-ghost use Rattle.store_core.specs.Held.{Stands, Stock};
+ghost use Rattle.edit_ops.specs.Notes.{Note};
+ghost use Rattle.edit_ops.specs.Recorded.{all_notes};
+ghost use Rattle.store_core.specs.Contents.{Represents, StoreContents};
 ghost use Rattle.store_core.specs.History.{IsSince};
-ghost use Rattle.store_core.specs.Keeping.{Kept};
-ghost use Rattle.store_core.specs.Since.{Told, notes_from, since};
-ghost use Rattle.store_core.specs.inner.Stories.{story_of};
+ghost use Rattle.store_core.specs.ValidStates.{IsValidState};
+ghost use Rattle.store_core.specs.Since.{ReportedChanges, notes_from, since};
+ghost use Rattle.store_core.specs.inner.ChangesSince.{changes_since_of};
 ghost use Rattle.store_core.specs.State.{State};
-ghost use Rattle.store_core.specs.Stories.{story_in};
+ghost use Rattle.store_core.specs.ChangesSince.{changes_since_in};
 
 use crate::entry::Entry;
 use crate::step::find;
 use crate::store::Store;
 use doc_names::DocId;
-use notes::{EditNote, Notes};
+use edit_ops::{EditNote, Notes};
 
-/// What became of a document since the version with a tag.
+/// What became of a document since the version with an etag.
 #[derive(Clone, Copy)]
 pub enum Since<'a> {
-    /// The document isn't held.
+    /// The document isn't stored.
     Gone,
-    /// The tag is neither that of the document nor the one before a note that is retained.
+    /// The etag is neither the document's own nor the one before a retained record.
     Unknown,
-    /// The notes of the changes since, in order; none where the tag is that of the document.
+    /// The records of the changes since, in order; none where the etag is the document's own.
     Changes(Notes<'a>),
 }
 
-// The notes from the one on that goes on from this tag, if there is one.
-fn from_tag(notes: &[EditNote], tag: u64) -> Option<&[EditNote]>
-    ensures notes_from_the_tag { option_map (λ found. found.now) result ≡ notes_from tag notes.now }
+// The records from the one on that continues from this etag, if there is one.
+fn records_from_tag(notes: &[EditNote], tag: u64) -> Option<&[EditNote]>
+    ensures exact { option_map (λ found. found.now) result ≡ notes_from tag notes.now }
 {
     for (number, note) in notes.iter().enumerate() {
         if note.previous() == tag {
@@ -41,11 +41,12 @@ fn from_tag(notes: &[EditNote], tag: u64) -> Option<&[EditNote]>
     None
 }
 
-// The same, in two pieces of which the older is empty.
+// The records from this etag on as two slices, of which the older is empty.
 fn from_tag_alone(newer: &[EditNote], tag: u64) -> Option<Notes<'_>>
-    ensures notes_of_one_piece_from_the_tag { option_map (λ found. all_notes found.older.now found.newer.now) result ≡ notes_from tag newer.now }
+    ensures exact { option_map (λ found. all_notes found.older.now found.newer.now) result
+        ≡ notes_from tag newer.now }
 {
-    match from_tag(newer, tag) {
+    match records_from_tag(newer, tag) {
         Some(found) => Some(Notes {
             older: &[],
             newer: found,
@@ -54,11 +55,16 @@ fn from_tag_alone(newer: &[EditNote], tag: u64) -> Option<Notes<'_>>
     }
 }
 
-// The same of notes in two pieces.
-fn from_tag_in<'a>(older: &'a [EditNote], newer: &'a [EditNote], tag: u64) -> Option<Notes<'a>>
-    ensures notes_of_both_from_the_tag { option_map (λ found. all_notes found.older.now found.newer.now) result ≡ notes_from tag (all_notes older.now newer.now) }
+// The records from this etag on, of records in two slices.
+fn records_from_tag_in<'a>(
+    older: &'a [EditNote],
+    newer: &'a [EditNote],
+    tag: u64,
+) -> Option<Notes<'a>>
+    ensures exact { option_map (λ found. all_notes found.older.now found.newer.now) result
+        ≡ notes_from tag (all_notes older.now newer.now) }
 {
-    match from_tag(older, tag) {
+    match records_from_tag(older, tag) {
         Some(found) => Some(Notes {
             older: found,
             newer,
@@ -67,9 +73,11 @@ fn from_tag_in<'a>(older: &'a [EditNote], newer: &'a [EditNote], tag: u64) -> Op
     }
 }
 
-// What the entry of a document tells.
+// The changes of an entry's document since this etag.
 fn told_by(entry: &Entry, tag: u64) -> Since<'_>
-    ensures tells_its_story { story_in result ≡ (if entry.now.tag == tag then Told [] else story_of (notes_from tag entry.now.notes)) }
+    ensures exact { changes_since_in result
+        ≡ (if entry.now.tag == tag then ReportedChanges []
+        else changes_since_of (notes_from tag entry.now.notes)) }
 {
     if entry.tag == tag {
         return Since::Changes(Notes {
@@ -78,18 +86,18 @@ fn told_by(entry: &Entry, tag: u64) -> Since<'_>
         });
     }
     let Notes { older, newer } = entry.notes.notes();
-    match from_tag_in(older, newer, tag) {
+    match records_from_tag_in(older, newer, tag) {
         Some(notes) => Since::Changes(notes),
         None => Since::Unknown,
     }
 }
 
 impl Store {
-    /// What became of a document since the version with this tag: `Gone` exactly where it isn't
-    /// held, `Unknown` exactly where the tag is neither its own nor the one before a note that is
-    /// retained, and else the notes from there on, which are lent. Takes no memory.
+    /// What became of a document since the version with this etag: `Gone` exactly where it isn't
+    /// stored, `Unknown` exactly where the etag is neither its own nor the one before a retained
+    /// record, else the records from there on, borrowed. Does not allocate.
     pub fn since(&self, doc: &DocId, tag: u64) -> Since<'_>
-        ensures tells_what_became_of_it { story_in result ≡ since self.now.content doc.now tag }
+        ensures exact { changes_since_in result ≡ since self.now.content doc.now tag }
     {
         match find(&self.documents, doc) {
             Some(entry) => told_by(entry, tag),
@@ -98,9 +106,11 @@ impl Store {
     }
 }
 
-/// A law: where a store stands for a kept state and tells notes since a tag, the document has a
-/// version with that tag, the notes lead from it to the version that the document has now, through
-/// sound trees, and they are at most `MOST_NOTES`.
+/// A law: where contents represent a valid state and the store returns records since an etag, the
+/// document has a version with that etag, the records lead from it to the present version, through
+/// sound trees, and there are at most `MAX_NOTES`.
 pub fn notes_since_a_version_lead_from_it()
-    ensures notes_lead_to_what_is_held { (c : Stock) (m : State) (id : DocId) (tag : ℕ) (ns : List Note) → Kept m → Stands c m → since c id tag ≡ Told ns → IsSince m id tag ns }
+    ensures records_lead_here { (c : StoreContents) (m : State) (id : DocId) (tag : ℕ)
+        (ns : List Note) → IsValidState m → Represents c m → since c id tag ≡ ReportedChanges ns
+        → IsSince m id tag ns }
 {}

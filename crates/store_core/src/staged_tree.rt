@@ -1,12 +1,12 @@
-//! What a change brings into the tree of a document that is held.
+//! What a change inserts into the tree of a stored document.
 use crate::printed_tree::PrintedTree;
 use edit_ops::Staged;
 
-/// What a change brings, with all memory that it wants.
+/// What a change inserts, with all its memory.
 #[derive(Drop)]
 pub enum StagedTree {
-    /// The root that takes the place of the tree, shared with the note of the change.
+    /// The root that replaces the tree, shared with the change record.
     Whole(PrintedTree),
-    /// What is brought into the tree in place.
+    /// What is inserted into the tree in place.
     InPlace(Staged),
 }

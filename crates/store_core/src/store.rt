@@ -1,14 +1,14 @@
 //! The store of all documents.
 ghost use Rattle.std.specs.Prelude.{◌≡◌, ℕ, ◌+◌, ◌≤◌, [], length, sum_by, IfOk, IfSome, OnOk};
 ghost use Rattle.std.specs.Option.{option_map};
-ghost use Rattle.xml_tree.specs.Limits.{most_levels};
+ghost use Rattle.xml_tree.specs.Limits.{max_levels};
 ghost use Rattle.xml_tree.specs.Tree.{Tree, height};
 ghost use Rattle.usage_docs.specs.Services.{document_len};
 ghost use Rattle.store_core.specs.State.{State};
-ghost use Rattle.store_core.specs.Held.{Stands};
-ghost use Rattle.store_core.specs.Keeping.{IsSoundFor, Kept};
+ghost use Rattle.store_core.specs.Contents.{Represents};
+ghost use Rattle.store_core.specs.ValidStates.{IsSoundFor, IsValidState};
 ghost use Rattle.doc_names.specs.Usages.{usage_of};
-ghost use Rattle.store_core.specs.Changing.{document_in, held_name};
+ghost use Rattle.store_core.specs.DocumentChanges.{document_in, stored_name};
 
 use crate::NoMemory;
 use crate::registry::Registry;
@@ -19,8 +19,8 @@ use std::alloc::{AllocError, Global};
 use std::marker::Model;
 use xml_tree::Element;
 
-/// All documents in order of their creation, each with its tag and the notes that are retained. Contracts see them and the next
-/// number; and whatever a store holds always stands for a state that is kept.
+/// All documents in order of their creation, each with its etag and the retained change records.
+/// Contracts see them and the next number; the contents of a store always represent a valid state.
 #[derive(Drop)]
 pub struct Store {
     pub(crate) alloc: Global,
@@ -50,13 +50,14 @@ impl Model for Store {
 }
 
 impl Store {
-    /// A store without documents, whose first change gets the number `first`. Takes no memory.
+    /// A store without documents, whose first change gets the number `first`. Does not allocate.
     ///
     /// # Errors
-    /// None: it always answers a store.
+    /// None: it always returns a store.
     pub fn new(alloc: Global, first: u64) -> Result<Store, NoMemory>
         requires { 1 ≤ first }
-        ensures begins_without_documents { IfOk result (λ s. s.content ≡ record { documents = []; next = first }) }
+        ensures begins_without_documents { IfOk result
+            (λ s. s.content ≡ record { documents = []; next = first }) }
     {
         Ok(Store {
             alloc,
@@ -67,51 +68,54 @@ impl Store {
         })
     }
 
-    /// The tree and the tag of a document: None exactly where it isn't held. The tree is sound for
-    /// its usage, with at most `MAX_LEVELS` levels and at most `MOST_BYTES` bytes, printed. Takes no
-    /// memory.
+    /// The tree and the etag of a document: None exactly where it isn't stored. The tree is sound
+    /// for its application usage, with at most `MAX_LEVELS` levels and at most `MAX_BYTES` bytes,
+    /// printed. Does not allocate.
     pub fn get(&self, doc: &DocId) -> Option<(&Element, u64)>
-        ensures version_that_is_held { option_map (λ x. (x.0.now, x.1)) result ≡ option_map {U = Tree × ℕ} (λ h. (h.tree, h.tag)) (document_in held_name self.now.content.documents doc.now) }
-        ensures is_low_enough { IfSome result (λ x. height x.0.now ≤ most_levels) }
+        ensures stored_version { option_map (λ x. (x.0.now, x.1)) result
+            ≡ option_map {U = Tree × ℕ} (λ h. (h.tree, h.tag))
+            (document_in stored_name self.now.content.documents doc.now) }
+        ensures within_levels { IfSome result (λ x. height x.0.now ≤ max_levels) }
         ensures tree_is_sound { IfSome result (λ x. IsSoundFor (usage_of doc.now.auid) x.0.now) }
     {
         let entry = find(&self.documents, doc)?;
         Some((entry.tree.root(), entry.tag))
     }
 
-    /// The number that was given last. Takes no memory.
+    /// The number of the last change. Does not allocate.
     pub fn last_number(&self) -> u64
-        ensures number_before_the_next { result + 1 ≡ self.now.content.next }
+        ensures below_next { result + 1 ≡ self.now.content.next }
     {
         self.last
     }
 
-    /// How many documents are held. Takes no memory.
+    /// The number of documents. Does not allocate.
     pub fn count(&self) -> usize
-        ensures counts_the_documents { result ≡ length self.now.content.documents }
+        ensures exact { result ≡ length self.now.content.documents }
     {
         self.documents.len()
     }
 
-    /// How many bytes all documents have, printed. Takes no memory.
+    /// The number of bytes of all printed documents. Does not allocate.
     pub fn total(&self) -> u64
-        ensures sums_their_lengths { result ≡ sum_by (λ h. document_len h.tree) self.now.content.documents }
+        ensures exact { result ≡ sum_by (λ h. document_len h.tree) self.now.content.documents }
     {
         self.total
     }
 
-    /// A law: what a store holds stands for a state that is kept.
-    pub fn stands(&self)
-        ensures stands_for_a_kept_state { (m : State) × Stands self.now.content m × Kept m }
+    /// A law: the contents of a store represent a valid state.
+    pub fn represents_valid_state(&self)
+        ensures valid_state { (m : State) × Represents self.now.content m × IsValidState m }
     {
         let _last = self.last;
     }
 
-    /// Makes room for a document more, and for so many service addresses.
+    /// Reserves memory for one more document and this many service addresses.
     pub(crate) fn reserve(&mut self, addresses: usize) -> Result<(), AllocError>
-        ensures holds_the_same { self.new.content ≡ self.old.content }
-        ensures there_is_room { OnOk result ((1 ≤ self.new.room.documents) × (addresses ≤ self.new.room.services)) }
-        ensures trees_stay { self.new.room.trees ≡ self.old.room.trees }
+        ensures contents_unchanged { self.new.content ≡ self.old.content }
+        ensures keeps_spare { OnOk result
+            ((1 ≤ self.new.room.documents) × (addresses ≤ self.new.room.services)) }
+        ensures same_trees { self.new.room.trees ≡ self.old.room.trees }
     {
         self.documents.reserve(1)?;
         self.services.reserve(addresses)

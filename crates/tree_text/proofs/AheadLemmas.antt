@@ -1,13 +1,13 @@
--- What stands next in a text, told by its bytes.
+-- What comes next in a text, by its bytes.
 use Rattle.std.proofs.Common.{◌≡◌, ℕ, ◌<◌, ◌≤◌, Bool, true, false, cond, ◌||◌, List, [], ◌∷◌, length, drop, get_or, chars, encode_utf8_all, IsUtf8, Err, refl, sym, ap, subst, ◌∙◌, eq-eqb, arith}
 use Rattle.std.specs.Prelude.{nat_eq, nat_le, nat_lt}
 use Rattle.std.specs.Str.{IsCharBoundary}
 use Rattle.std.specs.Int.{is_in_range as within}
 use Rattle.std.proofs.lemmas.Bool.{and_right, eqb-true, lt-leb, ltb-false, ltb-true, ne_eqb, or_from, true≢false}
 use Rattle.std.proofs.lemmas.Str.{byte_from_char, chars-nil, encodes-chars, IsCharBoundary-after_ascii}
-use Rattle.grammar_rules.specs.Reading.{Syntax, head_is, starts, read_word}
+use Rattle.xml_grammar.specs.Reading.{Syntax, head_is, starts, read_word}
 use Rattle.xml_tree.specs.Characters.{is_space}
-use Rattle.tree_text.specs.declared.kind.Kind.{Kind}
+use Rattle.tree_text.specs.declared.fault_kind.FaultKind.{FaultKind}
 use Rattle.tree_text.proofs.TextBytes.{ascii_first, first_at}
 
 -- a test that passes ASCII characters alone
@@ -55,7 +55,7 @@ no_small c high = and_right (nat_le 97 c) (nat_le c 122) (lt-leb c 122 (omega (a
 pub small_by_bytes : (bs : List ℕ) → IsUtf8 bs → head_is (within 97 122) bs ≡ head_is (within 97 122) (chars bs)
 small_by_bytes bs u = head_by_bytes (within 97 122) no_small bs u
 
--- # A letter that stands next
+-- # A letter that comes next
 
 first_byte : (letter : ℕ) (bs : List ℕ) → head_is (λ c. nat_eq c letter) bs ≡ true → (0 < length bs) × (get_or bs 0 0 ≡ letter)
 first_byte letter [] h = absurd cc
@@ -79,7 +79,7 @@ module _ (letter : ℕ) (bs : List ℕ) (low : letter < 128) (is : head_is (λ c
 turned : (a b : ℕ) → nat_eq a b ≡ false → nat_eq b a ≡ false
 turned a b h = ne_eqb b a (λ e. true≢false (sym (eq-eqb a b (sym e)) ∙ h))
 
-pub word_unread : (letter : ℕ) (w text : List ℕ) → head_is (λ c. nat_eq c letter) text ≡ false → read_word {Kind = Kind} (letter ∷ w) text ≡ Err (Syntax text)
+pub word_unread : (letter : ℕ) (w text : List ℕ) → head_is (λ c. nat_eq c letter) text ≡ false → read_word {Kind = FaultKind} (letter ∷ w) text ≡ Err (Syntax text)
 word_unread letter w [] h = refl
 word_unread letter w (d ∷ text) h = rw (turned d letter h) refl
 

@@ -1,4 +1,4 @@
--- What holds of an answer holds of it where the call may also want memory.
+-- What holds of a result also holds where the call may run out of memory.
 use Rattle.std.proofs.Common.{Result, Ok, Err}
 use Rattle.xml_tree.specs.declared.read_error.ReadError.{ReadError}
 use Rattle.xml_tree.specs.declared.read_error.ReadError.TheVariants.{Fault, NoMemory}

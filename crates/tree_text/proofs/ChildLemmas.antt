@@ -1,4 +1,5 @@
--- A child is made in its place: a bare element is put behind the nodes of its parent, and then it is filled there.
+-- A child is built in place: an empty element is appended to the nodes of its parent, and then
+-- filled there.
 use Rattle.std.proofs.Common.{◌≡◌, ◌-◌, List, [], ◌∷◌, ◌++◌, length, slice_set, Option, Some, IsSome, refl, sym, subst, ap, ◌∙◌}
 use Rattle.xml_tree.specs.Edits.{with_elem}
 use Rattle.xml_tree.specs.Nodes.{AreNormal, content_of, last_elem}
@@ -23,7 +24,7 @@ module _ (before nodes : List Node) (bare : Tree) (added : nodes ≡ before ++ E
   pub still_normal : (child : Tree) → AreNormal before → AreNormal (slice_set nodes (length nodes - 1) (Elem child))
   still_normal child h = subst AreNormal (sym (filled child)) (AreNormal-push_elem before child h)
 
-  -- with the nodes back in it, the parent has the child behind its content
+  -- with the nodes back in it, the parent has the child after its content
   pub in_place : (child parent emptied made : Tree) → content_of before ≡ parent.content → emptied ≡ record parent { content = last [] }
       → made ≡ record emptied { content = content_of (slice_set nodes (length nodes - 1) (Elem child)) } → made ≡ with_one parent (Inner child)
   in_place child parent emptied made held none back =

@@ -1,4 +1,4 @@
--- Classes of bytes: a table that was held against a test at each byte.
+-- Classes of bytes: a table that was compared with a test at each byte.
 use Rattle.std.proofs.Common.{◌≡◌, ℕ, ◌<◌, Bool, true, not, nat_eq, bit_and, get_or, List}
 use Rattle.std.proofs.lemmas.Bool.{agree_below, agree_below_at}
 

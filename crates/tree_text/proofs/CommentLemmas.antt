@@ -1,17 +1,17 @@
--- The inside of a comment, with its line ends read, can stand in a tree.
+-- The inside of a comment, with its line ends normalized, can occur in a tree.
 use Rattle.std.proofs.Common.{◌≡◌, ℕ, Bool, true, false, cond, List, [], ◌∷◌, length, drop, Result, Ok, Err, refl, sym, ap, subst}
 use Rattle.std.specs.Prelude.{◌&&◌, not, ◌==◌, nat_eq, None, Some}
 use Rattle.std.specs.List.{list_all, cons_option as with_char}
 use Rattle.std.proofs.lemmas.Bool.{eqb-true, eq-eqb}
-use Rattle.grammar_rules.specs.Reading.{Stop, Syntax, ◌>>=◌, head_is, starts}
-use Rattle.grammar_rules.specs.readers.Functions.{read_up_to}
+use Rattle.xml_grammar.specs.Reading.{Stop, Syntax, ◌>>=◌, head_is, starts}
+use Rattle.xml_grammar.specs.readers.Functions.{read_up_to}
 use Rattle.xml_tree.specs.Characters.{is_char}
 use Rattle.xml_tree.specs.Comments.{is_kept_char, hyphens_apart, is_comment}
-use Rattle.tree_text.specs.declared.kind.Kind.{Kind}
+use Rattle.tree_text.specs.declared.fault_kind.FaultKind.{FaultKind}
 use Rattle.tree_text.specs.Pieces.{line_ends}
 use Rattle.tree_text.specs.readers.Words.{dashes}
 
--- the first character is there, and no hyphen
+-- there is a first character, and it isn't a hyphen
 other_head : List ℕ → Bool
 other_head [] = false
 other_head (d ∷ ds) = not (d == 45)
@@ -59,7 +59,7 @@ unfolding other_head
 apart_parts c [] h = (λ e. none_by (c == 45) h e, refl)
 apart_parts c (d ∷ ds) h = split_by (c == 45) (d == 45) (hyphens_apart (d ∷ ds)) h
 
--- line ends are read
+-- line ends are normalized
 head_by : (a b : Bool) (c : ℕ) (xs : List ℕ) → (a ≡ true → b ≡ true → other_head xs ≡ true) → not (c == 45) ≡ true → other_head (with_char (cond a (cond b None (Some 10)) (Some c)) xs) ≡ true
 unfolding other_head
 head_by true true c xs f h = f refl refl
@@ -105,19 +105,19 @@ cond_false : (b : Bool) → cond b true false ≡ false → b ≡ false
 cond_false true h = absurd cc
 cond_false false h = refl
 
-first_of : (d : ℕ) (a : Bool) (out : Result (List ℕ × List ℕ) (Stop Kind)) (e : Stop Kind) (x : List ℕ × List ℕ) → cond a (out >>= λ y. Ok (d ∷ y.0, y.1)) (Err e) ≡ Ok x → (a ≡ true) × (ds : List ℕ) × (out ≡ Ok (ds, x.1)) × (x.0 ≡ d ∷ ds)
+first_of : (d : ℕ) (a : Bool) (out : Result (List ℕ × List ℕ) (Stop FaultKind)) (e : Stop FaultKind) (x : List ℕ × List ℕ) → cond a (out >>= λ y. Ok (d ∷ y.0, y.1)) (Err e) ≡ Ok x → (a ≡ true) × (ds : List ℕ) × (out ≡ Ok (ds, x.1)) × (x.0 ≡ d ∷ ds)
 first_of d true (Ok y) e x h =
     let same : (d ∷ y.0, y.1) ≡ x = cc in
     (refl, y.0, ap (λ (z : List ℕ × List ℕ). let w : List ℕ × List ℕ = (y.0, z.1) in Ok w) same, sym (ap (λ (z : List ℕ × List ℕ). z.0) same))
 first_of d true (Err f) e x h = absurd cc
 first_of d false out e x h = absurd cc
 
-behind_hyphen : (tail : List ℕ) (x : List ℕ × List ℕ) → read_up_to {Kind = Kind} is_char dashes tail ≡ Ok x → starts dashes (45 ∷ tail) ≡ false → other_head x.0 ≡ true
+behind_hyphen : (tail : List ℕ) (x : List ℕ × List ℕ) → read_up_to {Kind = FaultKind} is_char dashes tail ≡ Ok x → starts dashes (45 ∷ tail) ≡ false → other_head x.0 ≡ true
 unfolding other_head
 behind_hyphen [] x h s = absurd cc
 behind_hyphen (d ∷ ds) x h s =
     let f : nat_eq 45 d ≡ false = cond_false (nat_eq 45 d) s in
-    let g : cond (is_char d) (read_up_to {Kind = Kind} is_char dashes ds >>= λ y. Ok (d ∷ y.0, y.1)) (Err (Syntax (d ∷ ds))) ≡ Ok x = rw f at h in
+    let g : cond (is_char d) (read_up_to {Kind = FaultKind} is_char dashes ds >>= λ y. Ok (d ∷ y.0, y.1)) (Err (Syntax (d ∷ ds))) ≡ Ok x = rw f at h in
     let k = first_of d (is_char d) (read_up_to is_char dashes ds) (Syntax (d ∷ ds)) x g in
     subst (λ (z : List ℕ). other_head z ≡ true) (sym k.3) (unlike d (d == 45) refl f)
 
@@ -128,22 +128,22 @@ pub record IsKept (cs : List ℕ) : Type 0 where
 kept_more : (c : ℕ) (tail cs : List ℕ) → is_char c ≡ true → (c == 45 ≡ true → other_head cs ≡ true) → IsKept cs → IsKept (c ∷ cs)
 kept_more c tail cs p f k = record { chars = join (is_char c) (list_all is_char cs) p k.chars; apart = apart_cons c cs f k.apart }
 
-nil_of : (rest : List ℕ) (x : List ℕ × List ℕ) → let z : Result (List ℕ × List ℕ) (Stop Kind) = Ok ([], rest) in z ≡ Ok x → x.0 ≡ []
+nil_of : (rest : List ℕ) (x : List ℕ × List ℕ) → let z : Result (List ℕ × List ℕ) (Stop FaultKind) = Ok ([], rest) in z ≡ Ok x → x.0 ≡ []
 nil_of rest x h = let same : ([], rest) ≡ x = cc in sym (ap (λ (z : List ℕ × List ℕ). z.0) same)
 
-hyphen_next : (c : ℕ) (tail : List ℕ) (x : List ℕ × List ℕ) → read_up_to {Kind = Kind} is_char dashes tail ≡ Ok x → starts dashes (c ∷ tail) ≡ false → c == 45 ≡ true → other_head x.0 ≡ true
+hyphen_next : (c : ℕ) (tail : List ℕ) (x : List ℕ × List ℕ) → read_up_to {Kind = FaultKind} is_char dashes tail ≡ Ok x → starts dashes (c ∷ tail) ≡ false → c == 45 ≡ true → other_head x.0 ≡ true
 hyphen_next c tail x h s e = behind_hyphen tail x h (subst (λ (z : ℕ). starts dashes (z ∷ tail) ≡ false) (eqb-true c 45 e) s)
 
-kept_cond : (c : ℕ) (tail : List ℕ) (b : Bool) (x : List ℕ × List ℕ) → starts dashes (c ∷ tail) ≡ b → ((y : List ℕ × List ℕ) → read_up_to {Kind = Kind} is_char dashes tail ≡ Ok y → IsKept y.0)
-    → cond b (Ok ([], drop (length dashes) (c ∷ tail))) (cond (is_char c) (read_up_to {Kind = Kind} is_char dashes tail >>= λ y. Ok (c ∷ y.0, y.1)) (Err (Syntax (c ∷ tail)))) ≡ Ok x → IsKept x.0
+kept_cond : (c : ℕ) (tail : List ℕ) (b : Bool) (x : List ℕ × List ℕ) → starts dashes (c ∷ tail) ≡ b → ((y : List ℕ × List ℕ) → read_up_to {Kind = FaultKind} is_char dashes tail ≡ Ok y → IsKept y.0)
+    → cond b (Ok ([], drop (length dashes) (c ∷ tail))) (cond (is_char c) (read_up_to {Kind = FaultKind} is_char dashes tail >>= λ y. Ok (c ∷ y.0, y.1)) (Err (Syntax (c ∷ tail)))) ≡ Ok x → IsKept x.0
 kept_cond c tail true x s f h = subst IsKept (sym (nil_of (drop (length dashes) (c ∷ tail)) x h)) (record { chars = refl; apart = refl })
 kept_cond c tail false x s f h =
     let k = first_of c (is_char c) (read_up_to is_char dashes tail) (Syntax (c ∷ tail)) x h in
     subst IsKept (sym k.3) (kept_more c tail k.1 k.0 (λ e. hyphen_next c tail (k.1, x.1) k.2 s e) (f (k.1, x.1) k.2))
 
-kept_of : (text : List ℕ) (x : List ℕ × List ℕ) → read_up_to {Kind = Kind} is_char dashes text ≡ Ok x → IsKept x.0
+kept_of : (text : List ℕ) (x : List ℕ × List ℕ) → read_up_to {Kind = FaultKind} is_char dashes text ≡ Ok x → IsKept x.0
 kept_of [] x h = absurd cc
 kept_of (c ∷ tail) x h = kept_cond c tail (starts dashes (c ∷ tail)) x refl (λ y i. kept_of tail y i) h
 
-pub read_is_comment : (text : List ℕ) (x : List ℕ × List ℕ) → read_up_to {Kind = Kind} is_char dashes text ≡ Ok x → is_comment (line_ends x.0) ≡ true
+pub read_is_comment : (text : List ℕ) (x : List ℕ × List ℕ) → read_up_to {Kind = FaultKind} is_char dashes text ≡ Ok x → is_comment (line_ends x.0) ≡ true
 read_is_comment text x h = let k = kept_of text x h in join (list_all is_kept_char (line_ends x.0)) (hyphens_apart (line_ends x.0)) (all_kept x.0 k.chars) (all_apart x.0 k.apart)

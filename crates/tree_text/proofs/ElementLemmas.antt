@@ -1,18 +1,18 @@
--- An element is read: its tag, and what stands behind it.
+-- Reading an element: its tag, and what follows it.
 use Rattle.std.proofs.Common.{◌≡◌, ℕ, suc, ◌+◌, Bool, true, false, cond, ◌||◌, List, [], ◌∷◌, ◌++◌, length, chars, encode_utf8_all, Result, Ok, Err, refl, sym, subst, ap, ◌∙◌, arith}
 use Rattle.std.proofs.lemmas.List.{same_from_push}
 use Rattle.std.specs.Prelude.{nat_eq, ◌==◌}
-use Rattle.grammar_rules.specs.Reading.{Reader, Stop, Syntax, Faulty, ◌>>=◌, head_is, starts, read_valued}
-use Rattle.grammar_rules.specs.readers.Functions.{judgement, read_judged, read_at_most, read_many}
+use Rattle.xml_grammar.specs.Reading.{Reader, Stop, Syntax, Faulty, ◌>>=◌, head_is, starts, read_valued}
+use Rattle.xml_grammar.specs.readers.Functions.{judgement, read_judged, read_at_most, read_many}
 use Rattle.xml_tree.specs.Edits.{with_text}
 use Rattle.xml_tree.specs.Tree.{Content, last, Tree, tree_of}
 use Rattle.xml_tree.specs.declared.names.Decl.{Decl}
-use Rattle.tree_text.specs.readers.Bindings.{AreBack, AreKept, lists}
+use Rattle.tree_text.specs.readers.Bindings.{AreBack, AreOpenNamespaces, lists}
 use Rattle.tree_text.specs.declared.bindings.Bindings.{Bindings}
-use Rattle.tree_text.specs.declared.kind.Kind.{Kind}
-use Rattle.tree_text.specs.declared.stop.Stop.{Stop as CodeStop}
-use Rattle.tree_text.specs.declared.stop.Stop.TheVariants as stops
-use Rattle.tree_text.specs.readers.Gives.{Fails}
+use Rattle.tree_text.specs.declared.fault_kind.FaultKind.{FaultKind}
+use Rattle.tree_text.specs.declared.parse_error.ParseError.{ParseError as CodeStop}
+use Rattle.tree_text.specs.declared.parse_error.ParseError.TheVariants as stops
+use Rattle.tree_text.specs.readers.Results.{Fails}
 use Rattle.tree_text.specs.readers.Members.{filled, tree_with, with_chars, with_one, read_chars_onto, read_member, read_child, read_onto, read_filled, read_filled_behind}
 use Rattle.tree_text.specs.Names.{decls_of, attrs_of, element_of}
 use Rattle.tree_text.specs.readers.Judging.{counted_back, first_of_tag, tag_fault}
@@ -21,35 +21,35 @@ use Rattle.tree_text.specs.readers.Texts.{markup_follows, other_follows, read_ch
 use Rattle.tree_text.specs.readers.Words.{bang, instruction_start}
 use Rattle.tree_text.proofs.Loops.{finish, start, valued_ok, valued_err, valued_stops}
 
-abbrev dressed_read : StartTag → Result (Content × List ℕ) (Stop Kind) → Result (Tree × List ℕ) (Stop Kind)
+abbrev dressed_read : StartTag → Result (Content × List ℕ) (Stop FaultKind) → Result (Tree × List ℕ) (Stop FaultKind)
 dressed_read t out = out >>= λ y. Ok (element_of (t, y.0), y.1)
 
 -- # Content of an element that has none
 
-module _ (inner : Reader Kind Tree) (e : Tree) (empty : e.content ≡ last []) where
-  pieces_onto : (cs : List ℕ) (out : Result (List (Markup × List ℕ) × List ℕ) (Stop Kind)) → (finish (λ a xs. with_pieces (last a) xs) cs out >>= λ x. let z : Tree × List ℕ = (filled e x.0, x.1) in Ok z) ≡ finish tree_with (record e { content = with_text cs e.content }) out
+module _ (inner : Reader FaultKind Tree) (e : Tree) (empty : e.content ≡ last []) where
+  pieces_onto : (cs : List ℕ) (out : Result (List (Markup × List ℕ) × List ℕ) (Stop FaultKind)) → (finish (λ a xs. with_pieces (last a) xs) cs out >>= λ x. let z : Tree × List ℕ = (filled e x.0, x.1) in Ok z) ≡ finish tree_with (record e { content = with_text cs e.content }) out
   pieces_onto cs (Ok y) = ap (λ (z : Content). let w : Tree × List ℕ = (filled e (with_pieces (with_text cs z) y.0), y.1) in Ok w) (sym empty)
   pieces_onto cs (Err s) = refl
 
-  -- behind the first characters, with as many pieces at most as there are characters
+  -- after the first characters, with at most as many pieces as there are characters
   pub begins : (text left : List ℕ) (made : Tree) (most : ℕ) → most ≡ length (encode_utf8_all left) → read_chars_onto e text ≡ Ok (made, left) → read_filled e inner text ≡ finish tree_with made (read_at_most markup_follows (read_member inner) most left)
   begins text left made most all h =
       let v = valued_ok (with_chars e) (read_chars text) made left h in
-      ap (λ (r : Result (Content × List ℕ) (Stop Kind)). r >>= λ x. let z : Tree × List ℕ = (filled e x.0, x.1) in Ok z) (start markup_follows read_chars (read_markup inner) (λ x. with_pieces (last x.0) x.1) text left v.value v.read)
+      ap (λ (r : Result (Content × List ℕ) (Stop FaultKind)). r >>= λ x. let z : Tree × List ℕ = (filled e x.0, x.1) in Ok z) (start markup_follows read_chars (read_markup inner) (λ x. with_pieces (last x.0) x.1) text left v.value v.read)
       ∙ pieces_onto v.value (read_many markup_follows (read_member inner) left)
       ∙ ap (λ (n : ℕ). finish tree_with (with_chars e v.value) (read_at_most markup_follows (read_member inner) n left)) (sym all)
       ∙ ap (λ (z : Tree). finish tree_with z (read_at_most markup_follows (read_member inner) most left)) v.made
 
--- one piece more of it
+-- one more piece of it
 pub piece_more : (e made : Tree) (m : Markup) (run : List ℕ) (xs : List (Markup × List ℕ)) → with_one e m ≡ made → tree_with e ((m, run) ∷ xs) ≡ tree_with (record made { content = with_text run made.content }) xs
 piece_more e made m run xs h = ap (λ (z : Tree). record z { content = with_pieces (with_text run z.content) xs }) h
 
 -- # Children
 
-pub child_ok : (tree : Tree) (inner : Reader Kind Tree) (text rest : List ℕ) (e : Tree) → inner text ≡ Ok (e, rest) → read_child tree inner text ≡ Ok (with_one tree (Inner e), rest)
-child_ok tree inner text rest e h = ap (λ (r : Result (Tree × List ℕ) (Stop Kind)). (r >>= λ x. let z : Markup × List ℕ = (Inner x.0, x.1) in Ok z) >>= λ x. let z : Tree × List ℕ = (with_one tree x.0, x.1) in Ok z) h
+pub child_ok : (tree : Tree) (inner : Reader FaultKind Tree) (text rest : List ℕ) (e : Tree) → inner text ≡ Ok (e, rest) → read_child tree inner text ≡ Ok (with_one tree (Inner e), rest)
+child_ok tree inner text rest e h = ap (λ (r : Result (Tree × List ℕ) (Stop FaultKind)). (r >>= λ x. let z : Markup × List ℕ = (Inner x.0, x.1) in Ok z) >>= λ x. let z : Tree × List ℕ = (with_one tree x.0, x.1) in Ok z) h
 
-pub child_stops : (tree : Tree) (inner : Reader Kind Tree) (text : List ℕ) (s : CodeStop) → Fails s (inner text) → Fails s (read_child tree inner text)
+pub child_stops : (tree : Tree) (inner : Reader FaultKind Tree) (text : List ℕ) (s : CodeStop) → Fails s (inner text) → Fails s (read_child tree inner text)
 child_stops tree inner text s h = valued_stops (with_one tree) (read_valued Inner inner) text s (valued_stops Inner inner text s h)
 
 -- # Markup that is an element
@@ -67,7 +67,7 @@ neither : (a b : Bool) → (a || b) ≡ false → (a ≡ false) × (b ≡ false)
 neither true b h = absurd cc
 neither false b h = (refl, h)
 
-pub child_onto : (tree : Tree) (inner : Reader Kind Tree) (text : List ℕ) → other_follows text ≡ false → read_onto tree inner text ≡ read_child tree inner text
+pub child_onto : (tree : Tree) (inner : Reader FaultKind Tree) (text : List ℕ) → other_follows text ≡ false → read_onto tree inner text ≡ read_child tree inner text
 child_onto tree inner text h =
     let one = neither (head_is (λ c. c == 38) text || starts bang text) (starts instruction_start text) h in
     let two = neither (head_is (λ c. c == 38) text) (starts bang text) one.0 in
@@ -77,41 +77,41 @@ child_onto tree inner text h =
 
 -- the names of a tag are judged in the scope inside it
 module _ (scope here : List (List Decl)) (decls : List Decl) (text left : List ℕ) (t : StartTag)
-    (read : read_tag text ≡ Ok (t, left)) (declared : decls ≡ decls_of t.said) (inner : here ≡ scope ++ decls ∷ []) where
-  abbrev judged : List (List Decl) → Result (StartTag × List ℕ) (Stop Kind)
+    (read : read_tag text ≡ Ok (t, left)) (declared : decls ≡ decls_of t.raw_attribute) (inner : here ≡ scope ++ decls ∷ []) where
+  abbrev judged : List (List Decl) → Result (StartTag × List ℕ) (Stop FaultKind)
   judged z = judgement text (t, left) (counted_back t.size (first_of_tag z t))
 
   pub judged_is : read_judged (tag_fault scope) read_tag text ≡ judged here
   judged_is =
-      let scopes : scope ++ decls_of t.said ∷ [] ≡ here = ap (λ (z : List Decl). scope ++ z ∷ []) (sym declared) ∙ sym inner in
-      ap (λ (r : Result (StartTag × List ℕ) (Stop Kind)). r >>= λ x. judgement text x (tag_fault scope x.0)) read ∙ ap judged scopes
+      let scopes : scope ++ decls_of t.raw_attribute ∷ [] ≡ here = ap (λ (z : List Decl). scope ++ z ∷ []) (sym declared) ∙ sym inner in
+      ap (λ (r : Result (StartTag × List ℕ) (Stop FaultKind)). r >>= λ x. judgement text x (tag_fault scope x.0)) read ∙ ap judged scopes
 
   pub misjudged : (s : CodeStop) → Fails s (judged here) → Fails s (read_judged (tag_fault scope) read_tag text)
   misjudged s h = subst (Fails s) (sym judged_is) h
 
 module _ (levels i depth : ℕ) (scope here : List (List Decl)) (decls : List Decl) (text left : List ℕ) (t : StartTag) (level : levels ≡ i + 1)
-    (tagged : read_judged (tag_fault scope) read_tag text ≡ Ok (t, left)) (declared : decls ≡ decls_of t.said) (inner : here ≡ scope ++ decls ∷ []) where
-  abbrev behind : Result (Content × List ℕ) (Stop Kind)
+    (tagged : read_judged (tag_fault scope) read_tag text ≡ Ok (t, left)) (declared : decls ≡ decls_of t.raw_attribute) (inner : here ≡ scope ++ decls ∷ []) where
+  abbrev behind : Result (Content × List ℕ) (Stop FaultKind)
   behind = read_behind_tag (read_element i here (depth + 1)) t.name t.is_empty left
 
-  step : (out : Result (Content × List ℕ) (Stop Kind)) → behind ≡ out → read_element levels scope depth text ≡ dressed_read t out
+  step : (out : Result (Content × List ℕ) (Stop FaultKind)) → behind ≡ out → read_element levels scope depth text ≡ dressed_read t out
   step out h =
       let up : levels ≡ suc i = omega arith in
-      let scopes : here ≡ scope ++ decls_of t.said ∷ [] = inner ∙ ap (λ (z : List Decl). scope ++ z ∷ []) declared in
-      let inside : read_behind_tag (read_element i (scope ++ decls_of t.said ∷ []) (depth + 1)) t.name t.is_empty left ≡ out = ap (λ (z : List (List Decl)). read_behind_tag (read_element i z (depth + 1)) t.name t.is_empty left) (sym scopes) ∙ h in
+      let scopes : here ≡ scope ++ decls_of t.raw_attribute ∷ [] = inner ∙ ap (λ (z : List Decl). scope ++ z ∷ []) declared in
+      let inside : read_behind_tag (read_element i (scope ++ decls_of t.raw_attribute ∷ []) (depth + 1)) t.name t.is_empty left ≡ out = ap (λ (z : List (List Decl)). read_behind_tag (read_element i z (depth + 1)) t.name t.is_empty left) (sym scopes) ∙ h in
       rw up (rw tagged (rw inside (by_out out)))
     where
-      by_out : (out : Result (Content × List ℕ) (Stop Kind)) → (out >>= λ y. let z : (StartTag × Content) × List ℕ = ((t, y.0), y.1) in Ok z) >>= (λ x. let z : Tree × List ℕ = (element_of x.0, x.1) in Ok z) ≡ dressed_read t out
+      by_out : (out : Result (Content × List ℕ) (Stop FaultKind)) → (out >>= λ y. let z : (StartTag × Content) × List ℕ = ((t, y.0), y.1) in Ok z) >>= (λ x. let z : Tree × List ℕ = (element_of x.0, x.1) in Ok z) ≡ dressed_read t out
       by_out (Ok y) = refl
       by_out (Err e) = refl
 
-  dressed_is : (k : Content) (e : Tree) → tree_of t.name [] (attrs_of t.said) k ≡ e → element_of (t, k) ≡ record e { decls = e.decls ++ decls }
-  dressed_is k e h = ap (λ (z : List Decl). tree_of t.name z (attrs_of t.said) k) (sym declared) ∙ ap (λ (z : Tree). record z { decls = z.decls ++ decls }) h
+  dressed_is : (k : Content) (e : Tree) → tree_of t.name [] (attrs_of t.raw_attribute) k ≡ e → element_of (t, k) ≡ record e { decls = e.decls ++ decls }
+  dressed_is k e h = ap (λ (z : List Decl). tree_of t.name z (attrs_of t.raw_attribute) k) (sym declared) ∙ ap (λ (z : Tree). record z { decls = z.decls ++ decls }) h
 
-  pub element_ok : (e0 e : Tree) (rest : List ℕ) → e0 ≡ tree_of t.name [] (attrs_of t.said) (last []) → read_filled_behind e0 (read_element i here (depth + 1)) t.name t.is_empty left ≡ Ok (e, rest) → read_element levels scope depth text ≡ Ok (record e { decls = e.decls ++ decls }, rest)
+  pub element_ok : (e0 e : Tree) (rest : List ℕ) → e0 ≡ tree_of t.name [] (attrs_of t.raw_attribute) (last []) → read_filled_behind e0 (read_element i here (depth + 1)) t.name t.is_empty left ≡ Ok (e, rest) → read_element levels scope depth text ≡ Ok (record e { decls = e.decls ++ decls }, rest)
   element_ok e0 e rest first h =
       let v = valued_ok (filled e0) behind e rest h in
-      let is_dressed : tree_of t.name [] (attrs_of t.said) v.value ≡ e = ap (λ (z : Tree). filled z v.value) (sym first) ∙ v.made in
+      let is_dressed : tree_of t.name [] (attrs_of t.raw_attribute) v.value ≡ e = ap (λ (z : Tree). filled z v.value) (sym first) ∙ v.made in
       step (Ok (v.value, rest)) v.read ∙ ap (λ (z : Tree). let w : Tree × List ℕ = (z, rest) in Ok w) (dressed_is v.value e is_dressed)
 
   pub element_err : (e0 : Tree) (s : CodeStop) → Fails s (read_filled_behind e0 (read_element i here (depth + 1)) t.name t.is_empty left) → Fails s (read_element levels scope depth text)
@@ -119,7 +119,7 @@ module _ (levels i depth : ℕ) (scope here : List (List Decl)) (decls : List De
   element_err e0 (stops.Syntax rest) h = step (Err (Syntax (chars rest.now))) (valued_err (filled e0) behind (Syntax (chars rest.now)) h)
   element_err e0 (stops.Faulty kind rest) h = step (Err (Faulty kind (chars rest.now))) (valued_err (filled e0) behind (Faulty kind (chars rest.now)) h)
 
-tag_by : (levels i depth : ℕ) (scope : List (List Decl)) (text : List ℕ) (s : Stop Kind) → levels ≡ i + 1 → read_judged (tag_fault scope) read_tag text ≡ Err s → read_element levels scope depth text ≡ Err s
+tag_by : (levels i depth : ℕ) (scope : List (List Decl)) (text : List ℕ) (s : Stop FaultKind) → levels ≡ i + 1 → read_judged (tag_fault scope) read_tag text ≡ Err s → read_element levels scope depth text ≡ Err s
 tag_by levels i depth scope text s level h = let up : levels ≡ suc i = omega arith in rw up (rw h refl)
 
 pub tag_err : (levels i depth : ℕ) (scope : List (List Decl)) (text : List ℕ) (s : CodeStop) → levels ≡ i + 1 → Fails s (read_judged (tag_fault scope) read_tag text) → Fails s (read_element levels scope depth text)
@@ -127,15 +127,15 @@ tag_err levels i depth scope text stops.Memory level h = tt
 tag_err levels i depth scope text (stops.Syntax rest) level h = tag_by levels i depth scope text (Syntax (chars rest.now)) level h
 tag_err levels i depth scope text (stops.Faulty kind rest) level h = tag_by levels i depth scope text (Faulty kind (chars rest.now)) level h
 
-untagged_by : (levels i depth : ℕ) (scope : List (List Decl)) (text : List ℕ) (s : Stop Kind) → levels ≡ i + 1 → read_tag text ≡ Err s → read_element levels scope depth text ≡ Err s
-untagged_by levels i depth scope text s level h = tag_by levels i depth scope text s level (ap (λ (r : Result (StartTag × List ℕ) (Stop Kind)). r >>= λ x. judgement text x (tag_fault scope x.0)) h)
+untagged_by : (levels i depth : ℕ) (scope : List (List Decl)) (text : List ℕ) (s : Stop FaultKind) → levels ≡ i + 1 → read_tag text ≡ Err s → read_element levels scope depth text ≡ Err s
+untagged_by levels i depth scope text s level h = tag_by levels i depth scope text s level (ap (λ (r : Result (StartTag × List ℕ) (Stop FaultKind)). r >>= λ x. judgement text x (tag_fault scope x.0)) h)
 
 pub untagged : (levels i depth : ℕ) (scope : List (List Decl)) (text : List ℕ) (s : CodeStop) → levels ≡ i + 1 → Fails s (read_tag text) → Fails s (read_element levels scope depth text)
 untagged levels i depth scope text stops.Memory level h = tt
 untagged levels i depth scope text (stops.Syntax rest) level h = untagged_by levels i depth scope text (Syntax (chars rest.now)) level h
 untagged levels i depth scope text (stops.Faulty kind rest) level h = untagged_by levels i depth scope text (Faulty kind (chars rest.now)) level h
 
--- where a level is left
+-- where there is a level left
 pub level_ok : (levels i depth : ℕ) (scope : List (List Decl)) (text rest : List ℕ) (e : Tree) → levels ≡ i + 1 → read_element (i + 1) scope depth text ≡ Ok (e, rest) → read_element levels scope depth text ≡ Ok (e, rest)
 level_ok levels i depth scope text rest e level h = ap (λ (n : ℕ). read_element n scope depth text) level ∙ h
 
@@ -150,16 +150,16 @@ onto_ok levels depth tree made text rest a b same h = ap (λ (z : List (List Dec
 pub onto_stops : (levels depth : ℕ) (tree : Tree) (text : List ℕ) (s : CodeStop) (a b : List (List Decl)) → a ≡ b → Fails s (read_onto tree (read_element levels a depth) text) → Fails s (read_onto tree (read_element levels b depth) text)
 onto_stops levels depth tree text s a b same h = subst (λ (z : List (List Decl)). Fails s (read_onto tree (read_element levels z depth) text)) same h
 
--- # The declarations around
+-- # The declarations around a place
 
-pub still : (b : Bindings) → AreKept b → AreBack b b
+pub still : (b : Bindings) → AreOpenNamespaces b → AreBack b b
 still b kept = record { same = refl; kept = kept }
 
 pub back_again : (a b c : Bindings) → AreBack a b → AreBack b c → AreBack a c
 back_again a b c h i = record { same = i.same ∙ h.same; kept = i.kept }
 
 -- an element was opened, and closed
-pub closed : (before opened behind after : Bindings) (decls out : List Decl) → lists opened ≡ lists before ++ decls ∷ [] → AreBack opened behind → lists behind ≡ lists after ++ out ∷ [] → AreKept after → (out ≡ decls) × AreBack before after
+pub closed : (before opened behind after : Bindings) (decls out : List Decl) → lists opened ≡ lists before ++ decls ∷ [] → AreBack opened behind → lists behind ≡ lists after ++ out ∷ [] → AreOpenNamespaces after → (out ≡ decls) × AreBack before after
 closed before opened behind after decls out inside back outside kept =
     let p = same_from_push (lists after) (lists before) out decls (sym outside ∙ back.same ∙ inside) in
     (p.1, record { same = p.0; kept = kept })

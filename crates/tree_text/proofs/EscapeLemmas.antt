@@ -1,4 +1,4 @@
--- A text that is printed with references, part by part.
+-- The print of a text with references, part by part.
 use Rattle.std.proofs.Common.{◌≡◌, ℕ, ◌+◌, ◌<◌, ◌≤◌, List, [], ◌∷◌, ◌++◌, length, take, drop, get_or, flat_map, chars, encode_utf8_all, IsUtf8, sym, ap, ◌∙◌, arith, add-one, take-append-drop}
 use lib.Utf8.{encode}
 use Rattle.std.proofs.Math.Seq.{drop-cons}
@@ -31,7 +31,7 @@ plain_more p bs i within so_far one =
     let more = take_more bs i 0 within in
     ap (flat_map (escape_in p)) more ∙ flat_map-append (escape_in p) (take i bs) (get_or bs i 0 ∷ []) ∙ ap (λ l. l ++ (escape_in p (get_or bs i 0) ++ [])) so_far ∙ ap (λ l. take i bs ++ (l ++ [])) one ∙ sym more
 
--- what stands behind the plain bytes of a text: a reference, and a text that is shorter
+-- what follows the plain bytes of a text: a reference, and a text that is shorter
 pub escaped_next : (p : Place) (bs reference : List ℕ) (i : ℕ) → IsUtf8 bs → i < length bs → get_or bs i 0 < 128 → flat_map (escape_in p) (take i bs) ≡ take i bs → reference ≡ escape_in p (get_or bs i 0)
     → chars (take i bs) ++ (reference ++ flat_map (escape_in p) (chars (drop (i + 1) bs))) ≡ flat_map (escape_in p) (chars bs)
 escaped_next p bs reference i u within low plain is =
@@ -46,7 +46,7 @@ escaped_next p bs reference i u within low plain is =
     sym (ap (flat_map f) whole ∙ flat_map-append f (chars (take i bs)) (c ∷ chars behind) ∙ ap (λ l. l ++ (f c ++ flat_map f (chars behind))) (plain_chars p (take i bs) front plain)
     ∙ ap (λ r. chars (take i bs) ++ (r ++ flat_map f (chars behind))) (sym is))
 
--- the print so far, with one more run of plain bytes and the reference behind it
+-- the print so far, with one more run of plain bytes and the reference after it
 pub escaped_more : (p : Place) (old out begun made rest bytes plain reference after : List ℕ) (i : ℕ) → IsUtf8 bytes → bytes ≡ rest → i < length bytes → get_or bytes i 0 < 128
     → flat_map (escape_in p) (take i bytes) ≡ take i bytes → chars reference ≡ escape_in p (get_or bytes i 0) → plain ≡ take i rest → after ≡ drop (i + 1) rest → begun ≡ out ++ chars plain → made ≡ begun ++ chars reference
     → out ++ flat_map (escape_in p) (chars rest) ≡ old → made ++ flat_map (escape_in p) (chars after) ≡ old

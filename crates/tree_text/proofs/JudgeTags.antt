@@ -1,35 +1,35 @@
--- The names of a tag are judged exactly: the reading function finds the first one that is wrong.
+-- The names of a tag are checked exactly: the reading function finds the first one that is wrong.
 use Rattle.std.proofs.Common.{◌≡◌, ℕ, zero, suc, ◌+◌, ◌-◌, ◌<◌, ◌≤◌, Bool, true, false, cond, List, [], ◌∷◌, ◌++◌, length, ◌⊎◌, inl, inr, ⊎_elim, refl, sym, ap, subst, ◌∙◌, append_assoc, arith}
 use Rattle.std.specs.Prelude.{Option, None, Some}
 use Rattle.std.proofs.lemmas.List.{length-append, append-nil}
 use Rattle.xml_tree.specs.Characters.{is_name_start, is_name_char, is_space}
 use Rattle.xml_tree.specs.declared.names.Name.{Name}
 use Rattle.xml_tree.specs.declared.names.Decl.{Decl}
-use Rattle.grammar_rules.specs.Rules.{Each, word, sequence, many, optional, keeping_first, keeping_second, name_rule as name_of}
-use Rattle.grammar_rules.proofs.Heads.{uses}
-use Rattle.grammar_rules.proofs.Marks.{Judges}
+use Rattle.xml_grammar.specs.Rules.{Each, word, sequence, many, optional, keeping_first, keeping_second, name_rule as name_of}
+use Rattle.xml_grammar.proofs.Heads.{uses}
+use Rattle.xml_grammar.proofs.Marks.{Judges}
 use Rattle.tree_text.specs.readers.Words.{colon}
-use Rattle.tree_text.specs.declared.kind.Kind.{Kind}
-use Rattle.tree_text.specs.declared.kind.Kind.TheVariants.{Encoded, Doctyped, Depth, Unbound, Repeated}
-use Rattle.tree_text.specs.declared.said.Said.{Said}
-use Rattle.tree_text.specs.Kinds.{is_fault, rank, faults}
+use Rattle.tree_text.specs.declared.fault_kind.FaultKind.{FaultKind}
+use Rattle.tree_text.specs.declared.fault_kind.FaultKind.TheVariants.{Encoded, Doctyped, Depth, Unbound, Repeated}
+use Rattle.tree_text.specs.declared.raw_attribute.RawAttribute.{RawAttribute}
+use Rattle.tree_text.specs.FaultKinds.{is_fault, rank, faults}
 use Rattle.tree_text.specs.Pieces.{StartTag, qname_of, written}
 use Rattle.tree_text.specs.Names.{is_misnamed, is_repeated, IsWrongSaid, widths, IsWrong, inside_tag as inside, opening_size as opening, is_unbound_in as is_unbound}
 use Rattle.tree_text.specs.readers.Judging.{wrong_said, or_later, first_wrong, first_of_tag, counted_back, tag_fault}
-use Rattle.tree_text.specs.Grammar.{name, qname, spaces, said, tag_end, tag}
+use Rattle.tree_text.specs.Grammar.{name, qname, spaces, raw_attribute, tag_end, start_tag}
 use Rattle.tree_text.proofs.NameLemmas.{prefixed_size}
 use Rattle.tree_text.proofs.ReadParts.{starts_attribute}
 
 -- # How long the parts of a tag are
 
--- a name, and a run that isn't empty, is what it stands for
-name_is : (first others : ℕ → Bool) (u l : List ℕ) → (name_of {Kind = Kind} first others).Spells u l → u ≡ l
+-- a name, and a run that isn't empty, is the text that it spells
+name_is : (first others : ℕ → Bool) (u l : List ℕ) → (name_of {Kind = FaultKind} first others).Spells u l → u ≡ l
 name_is first others u l m = m.1.joined ∙ ap (λ (z : List ℕ). z ++ m.1.back) m.1.front_is.1 ∙ ap (λ (z : List ℕ). m.0.0 ∷ z) (sym m.1.back_is.1) ∙ sym m.2
 
-name_some : (first others : ℕ → Bool) (u l : List ℕ) → (name_of {Kind = Kind} first others).Spells u l → 0 < length u
+name_some : (first others : ℕ → Bool) (u l : List ℕ) → (name_of {Kind = FaultKind} first others).Spells u l → 0 < length u
 name_some first others u l m = omega (arith, ap length (name_is first others u l m), ap length m.2)
 
-rest_size : (f v : List ℕ) (o : Option (List ℕ)) → 0 < length f → (optional (keeping_second (word {Kind = Kind} colon) name)).Spells v o → length (written (qname_of (f, o))) ≡ length f + length v
+rest_size : (f v : List ℕ) (o : Option (List ℕ)) → 0 < length f → (optional (keeping_second (word {Kind = FaultKind} colon) name)).Spells v o → length (written (qname_of (f, o))) ≡ length f + length v
 rest_size f v o h (inl m) =
     let e : length (written (qname_of (f, o))) ≡ length (written (qname_of (f, Some m.0))) = ap (λ (z : Option (List ℕ)). length (written (qname_of (f, z)))) m.2 in
     let p : length (written (qname_of (f, Some m.0))) ≡ length f + 1 + length m.0 = prefixed_size f m.0 h in
@@ -52,10 +52,10 @@ qname_size u n m =
     let j : length u ≡ length (m.1.front ++ m.1.back) = ap length m.1.joined in
     omega (arith, e, f, r, j, length-append m.1.front m.1.back)
 
-said_size : (u : List ℕ) (s : Said) → said.Spells u s → (length u ≡ s.gap + s.size) × (0 < s.size)
+said_size : (u : List ℕ) (s : RawAttribute) → raw_attribute.Spells u s → (length u ≡ s.gap + s.size) × (0 < s.size)
 said_size u s m =
-    let g : s.gap ≡ length m.0.0 = ap (λ (z : Said). z.gap) m.2 in
-    let z : s.size ≡ m.0.1.1 = ap (λ (z : Said). z.size) m.2 in
+    let g : s.gap ≡ length m.0.0 = ap (λ (z : RawAttribute). z.gap) m.2 in
+    let z : s.size ≡ m.0.1.1 = ap (λ (z : RawAttribute). z.size) m.2 in
     let f : length m.1.front ≡ length m.0.0 = ap length (name_is is_space is_space m.1.front m.0.0 m.1.front_is) in
     let b : m.0.1.1 ≡ length m.1.back = m.1.back_is.1 in
     let n : 0 < length m.1.back = uses (starts_attribute (faults 0) {P = λ c. is_name_start c ≡ true} (λ c t. t)) m.1.back m.0.1.0 m.1.back_is.0 in
@@ -63,11 +63,11 @@ said_size u s m =
     (omega (arith, g, z, f, b, j, length-append m.1.front m.1.back), omega (arith, z, b, n))
 
 -- none of these is empty
-abbrev pub AllSome : List Said → Type 0
+abbrev pub AllSome : List RawAttribute → Type 0
 AllSome [] = Unit {0}
 AllSome (s ∷ ss) = (0 < s.size) × AllSome ss
 
-each_size : (ss : List Said) (u : List ℕ) → Each said ss u → (length u ≡ widths ss) × AllSome ss
+each_size : (ss : List RawAttribute) (u : List ℕ) → Each raw_attribute ss u → (length u ≡ widths ss) × AllSome ss
 each_size [] u m = (ap length m, tt)
 each_size (s ∷ ss) u m =
     let a = said_size m.front s m.front_is in
@@ -79,12 +79,12 @@ end_size : (v : List ℕ) (b : Bool) → tag_end.Spells v b → 0 < length v
 end_size v b (inl m) = let w : length v ≡ 2 = ap length m.1 in omega (arith, w)
 end_size v b (inr m) = let w : length v ≡ 1 = ap length m.1 in omega (arith, w)
 
--- what stands between the `<` and the end of a tag
-record Fits (v : List ℕ) (x : Name × (List Said × Bool)) : Type 0 where
+-- the text between the `<` and the end of a tag
+record Fits (v : List ℕ) (x : Name × (List RawAttribute × Bool)) : Type 0 where
   room : length (written x.0) + widths x.1.0 + 1 ≤ length v
   some : AllSome x.1.0
 
-inside_fits : (v : List ℕ) (x : Name × (List Said × Bool)) → (sequence qname (λ _. sequence (keeping_first (many said) spaces) (λ _. tag_end))).Spells v x → Fits v x
+inside_fits : (v : List ℕ) (x : Name × (List RawAttribute × Bool)) → (sequence qname (λ _. sequence (keeping_first (many raw_attribute) spaces) (λ _. tag_end))).Spells v x → Fits v x
 inside_fits v x m =
     let s = m.back_is in
     let b = s.front_is in
@@ -100,13 +100,13 @@ inside_fits v x m =
       some = subst AllSome (sym b.2) e.1;
     }
 
--- a whole tag has its size, and its names stand in it
+-- a whole tag has its size, and contains its names
 pub record Sizes (u : List ℕ) (t : StartTag) : Type 0 where
   pub is_size : t.size ≡ length u
-  pub room : opening t + widths t.said + 1 ≤ length u
-  pub some : AllSome t.said
+  pub room : opening t + widths t.raw_attribute + 1 ≤ length u
+  pub some : AllSome t.raw_attribute
 
-pub tag_sizes : (u : List ℕ) (t : StartTag) → tag.Spells u t → Sizes u t
+pub tag_sizes : (u : List ℕ) (t : StartTag) → start_tag.Spells u t → Sizes u t
 tag_sizes u t m =
     let h = m.1.0 in
     let f : Fits h.1.back m.0.0 = subst (Fits h.1.back) (sym h.2) (inside_fits h.1.back h.0.1 h.1.back_is) in
@@ -118,29 +118,30 @@ tag_sizes u t m =
       some = f.some;
     })
 
--- # The first that is wrong
+-- # The first wrong name
 
--- One of these is wrong, behind the earlier ones; its name stands behind so many characters of the tag.
-record Wrong (here : List (List Decl)) (earlier : List Said) (at : ℕ) (later : List Said) (kind : Kind) (place : ℕ) : Type 0 where
-  front : List Said
-  said : Said
-  back : List Said
-  among : later ≡ front ++ said ∷ back
-  wrong : IsWrongSaid here (earlier ++ front) said kind
-  place_is : place ≡ at + widths front + said.gap
+-- One of these raw attributes is wrong, after the earlier ones; its name is this many characters
+-- into the tag.
+record Wrong (here : List (List Decl)) (earlier : List RawAttribute) (at : ℕ) (later : List RawAttribute) (kind : FaultKind) (place : ℕ) : Type 0 where
+  front : List RawAttribute
+  raw_attribute : RawAttribute
+  back : List RawAttribute
+  among : later ≡ front ++ raw_attribute ∷ back
+  wrong : IsWrongSaid here (earlier ++ front) raw_attribute kind
+  place_is : place ≡ at + widths front + raw_attribute.gap
 
--- what is answered of one of them
-abbrev JudgedSaid : List (List Decl) → List Said → Said → Option Kind → Type 0
-JudgedSaid here earlier s None = (k : Kind) → IsWrongSaid here earlier s k → ⊥
-JudgedSaid here earlier s (Some kind) = IsWrongSaid here earlier s kind × ((k : Kind) → IsWrongSaid here earlier s k → rank kind ≤ rank k)
+-- the result for one of them
+abbrev JudgedSaid : List (List Decl) → List RawAttribute → RawAttribute → Option FaultKind → Type 0
+JudgedSaid here earlier s None = (k : FaultKind) → IsWrongSaid here earlier s k → ⊥
+JudgedSaid here earlier s (Some kind) = IsWrongSaid here earlier s kind × ((k : FaultKind) → IsWrongSaid here earlier s k → rank kind ≤ rank k)
 
--- what is answered of them all
-abbrev Judged : (Kind → ℕ → Type 0) → Option (Kind × ℕ) → Type 0
-Judged W None = (k : Kind) (p : ℕ) → W k p → ⊥
-Judged W (Some x) = W x.0 x.1 × ((k : Kind) (p : ℕ) → W k p → (x.1 < p) ⊎ ((p ≡ x.1) × (rank x.0 ≤ rank k)))
+-- the result for all of them
+abbrev Judged : (FaultKind → ℕ → Type 0) → Option (FaultKind × ℕ) → Type 0
+Judged W None = (k : FaultKind) (p : ℕ) → W k p → ⊥
+Judged W (Some x) = W x.0 x.1 × ((k : FaultKind) (p : ℕ) → W k p → (x.1 < p) ⊎ ((p ≡ x.1) × (rank x.0 ≤ rank k)))
 
--- an unbound prefix comes before what else may be wrong with one of them
-unbound_least : (here : List (List Decl)) (earlier : List Said) (s : Said) (k : Kind) → IsWrongSaid here earlier s k → rank Unbound ≤ rank k
+-- an unbound prefix comes before anything else that is wrong with one of them
+unbound_least : (here : List (List Decl)) (earlier : List RawAttribute) (s : RawAttribute) (k : FaultKind) → IsWrongSaid here earlier s k → rank Unbound ≤ rank k
 unbound_least here earlier s Unbound m = omega arith
 unbound_least here earlier s Repeated m = omega arith
 unbound_least here earlier s Encoded m = absurd m
@@ -148,11 +149,11 @@ unbound_least here earlier s Doctyped m = absurd m
 unbound_least here earlier s (Depth d) m = absurd m
 
 module _ (here : List (List Decl)) where
-  by_tests : (earlier : List Said) (s : Said) (a b : Bool) → is_misnamed here s ≡ a → is_repeated here earlier s ≡ b → JudgedSaid here earlier s (cond a (Some Unbound) (cond b (Some Repeated) None))
+  by_tests : (earlier : List RawAttribute) (s : RawAttribute) (a b : Bool) → is_misnamed here s ≡ a → is_repeated here earlier s ≡ b → JudgedSaid here earlier s (cond a (Some Unbound) (cond b (Some Repeated) None))
   by_tests earlier s true b e f = (e, unbound_least here earlier s)
   by_tests earlier s false true e f = (f, least)
     where
-      least : (k : Kind) → IsWrongSaid here earlier s k → rank Repeated ≤ rank k
+      least : (k : FaultKind) → IsWrongSaid here earlier s k → rank Repeated ≤ rank k
       least Unbound m = absurd cc
       least Repeated m = omega arith
       least Encoded m = absurd m
@@ -160,68 +161,68 @@ module _ (here : List (List Decl)) where
       least (Depth d) m = absurd m
   by_tests earlier s false false e f = none
     where
-      none : (k : Kind) → IsWrongSaid here earlier s k → ⊥
+      none : (k : FaultKind) → IsWrongSaid here earlier s k → ⊥
       none Unbound m = absurd cc
       none Repeated m = absurd cc
       none Encoded m = m
       none Doctyped m = m
       none (Depth d) m = m
 
-  said_judged : (earlier : List Said) (s : Said) → JudgedSaid here earlier s (wrong_said here earlier s)
+  said_judged : (earlier : List RawAttribute) (s : RawAttribute) → JudgedSaid here earlier s (wrong_said here earlier s)
   said_judged earlier s = by_tests earlier s (is_misnamed here s) (is_repeated here earlier s) refl refl
 
-  module _ (earlier : List Said) (at : ℕ) (s : Said) (later : List Said) where
-    abbrev All : Kind → ℕ → Type 0
+  module _ (earlier : List RawAttribute) (at : ℕ) (s : RawAttribute) (later : List RawAttribute) where
+    abbrev All : FaultKind → ℕ → Type 0
     All = Wrong here earlier at (s ∷ later)
 
-    abbrev Later : Kind → ℕ → Type 0
+    abbrev Later : FaultKind → ℕ → Type 0
     Later = Wrong here (earlier ++ s ∷ []) (at + (s.gap + s.size)) later
 
     -- the first is wrong, or a later one
-    apart : (k : Kind) (p : ℕ) (front : List Said) (x : Said) (back : List Said) → s ∷ later ≡ front ++ x ∷ back → IsWrongSaid here (earlier ++ front) x k → p ≡ at + widths front + x.gap → (IsWrongSaid here earlier s k × (p ≡ at + s.gap)) ⊎ Later k p
+    apart : (k : FaultKind) (p : ℕ) (front : List RawAttribute) (x : RawAttribute) (back : List RawAttribute) → s ∷ later ≡ front ++ x ∷ back → IsWrongSaid here (earlier ++ front) x k → p ≡ at + widths front + x.gap → (IsWrongSaid here earlier s k × (p ≡ at + s.gap)) ⊎ Later k p
     apart k p [] x back j w e =
         let i : s ≡ x = cc in
-        let g : s.gap ≡ x.gap = ap (λ (z : Said). z.gap) i in
-        let v : IsWrongSaid here earlier x k = subst (λ (z : List Said). IsWrongSaid here z x k) (append-nil earlier) w in
-        inl (subst (λ (z : Said). IsWrongSaid here earlier z k) (sym i) v, omega (arith, e, g))
+        let g : s.gap ≡ x.gap = ap (λ (z : RawAttribute). z.gap) i in
+        let v : IsWrongSaid here earlier x k = subst (λ (z : List RawAttribute). IsWrongSaid here z x k) (append-nil earlier) w in
+        inl (subst (λ (z : RawAttribute). IsWrongSaid here earlier z k) (sym i) v, omega (arith, e, g))
     apart k p (y ∷ front) x back j w e =
         let i : s ≡ y = cc in
         let r : later ≡ front ++ x ∷ back = cc in
-        let g : s.gap ≡ y.gap = ap (λ (z : Said). z.gap) i in
-        let h : s.size ≡ y.size = ap (λ (z : Said). z.size) i in
-        let m : earlier ++ (y ∷ front) ≡ (earlier ++ s ∷ []) ++ front = ap (λ (z : Said). earlier ++ (z ∷ front)) (sym i) ∙ sym (append_assoc earlier (s ∷ []) front) in
-        inr (record { front = front; said = x; back = back; among = r; wrong = subst (λ (z : List Said). IsWrongSaid here z x k) m w; place_is = omega (arith, e, g, h) })
+        let g : s.gap ≡ y.gap = ap (λ (z : RawAttribute). z.gap) i in
+        let h : s.size ≡ y.size = ap (λ (z : RawAttribute). z.size) i in
+        let m : earlier ++ (y ∷ front) ≡ (earlier ++ s ∷ []) ++ front = ap (λ (z : RawAttribute). earlier ++ (z ∷ front)) (sym i) ∙ sym (append_assoc earlier (s ∷ []) front) in
+        inr (record { front = front; raw_attribute = x; back = back; among = r; wrong = subst (λ (z : List RawAttribute). IsWrongSaid here z x k) m w; place_is = omega (arith, e, g, h) })
 
-    apart_of : (k : Kind) (p : ℕ) → All k p → (IsWrongSaid here earlier s k × (p ≡ at + s.gap)) ⊎ Later k p
-    apart_of k p w = apart k p w.front w.said w.back w.among w.wrong w.place_is
+    apart_of : (k : FaultKind) (p : ℕ) → All k p → (IsWrongSaid here earlier s k × (p ≡ at + s.gap)) ⊎ Later k p
+    apart_of k p w = apart k p w.front w.raw_attribute w.back w.among w.wrong w.place_is
 
-    at_first : (k : Kind) → IsWrongSaid here earlier s k → All k (at + s.gap)
-    at_first k w = record { front = []; said = s; back = later; among = refl; wrong = subst (λ (z : List Said). IsWrongSaid here z s k) (sym (append-nil earlier)) w; place_is = omega arith }
+    at_first : (k : FaultKind) → IsWrongSaid here earlier s k → All k (at + s.gap)
+    at_first k w = record { front = []; raw_attribute = s; back = later; among = refl; wrong = subst (λ (z : List RawAttribute). IsWrongSaid here z s k) (sym (append-nil earlier)) w; place_is = omega arith }
 
-    at_later : (k : Kind) (p : ℕ) → Later k p → All k p
+    at_later : (k : FaultKind) (p : ℕ) → Later k p → All k p
     at_later k p w = record {
       front = s ∷ w.front;
-      said = w.said;
+      raw_attribute = w.raw_attribute;
       back = w.back;
-      among = ap (λ (z : List Said). s ∷ z) w.among;
-      wrong = subst (λ (z : List Said). IsWrongSaid here z w.said k) (append_assoc earlier (s ∷ []) w.front) w.wrong;
+      among = ap (λ (z : List RawAttribute). s ∷ z) w.among;
+      wrong = subst (λ (z : List RawAttribute). IsWrongSaid here z w.raw_attribute k) (append_assoc earlier (s ∷ []) w.front) w.wrong;
       place_is = omega (arith, w.place_is);
     }
 
-    together : (o : Option Kind) (r : Option (Kind × ℕ)) → 0 < s.size → JudgedSaid here earlier s o → Judged Later r → Judged All (or_later o (at + s.gap) r)
+    together : (o : Option FaultKind) (r : Option (FaultKind × ℕ)) → 0 < s.size → JudgedSaid here earlier s o → Judged Later r → Judged All (or_later o (at + s.gap) r)
     together None None some first rest = λ k p w. ⊎_elim (λ m. first k m.0) (λ m. rest k p m) (apart_of k p w)
     together None (Some x) some first rest = (at_later x.0 x.1 rest.0, λ k p w. ⊎_elim (λ m. absurd (first k m.0)) (λ m. rest.1 k p m) (apart_of k p w))
     together (Some kind) r some first rest = (at_first kind first.0, λ k p w. ⊎_elim (λ m. inr (m.1, first.1 k m.0)) (λ m. inl (omega (arith, m.place_is, some))) (apart_of k p w))
 
-  judged : (later earlier : List Said) (at : ℕ) → AllSome later → Judged (Wrong here earlier at later) (first_wrong here earlier at later)
-  judged [] earlier at some = λ k p w. absurd (let e : 0 ≡ length (w.front ++ w.said ∷ w.back) = ap length w.among in omega (arith, e, length-append w.front (w.said ∷ w.back)))
+  judged : (later earlier : List RawAttribute) (at : ℕ) → AllSome later → Judged (Wrong here earlier at later) (first_wrong here earlier at later)
+  judged [] earlier at some = λ k p w. absurd (let e : 0 ≡ length (w.front ++ w.raw_attribute ∷ w.back) = ap length w.among in omega (arith, e, length-append w.front (w.raw_attribute ∷ w.back)))
   judged (s ∷ later) earlier at some = together earlier at s later (wrong_said here earlier s) (first_wrong here (earlier ++ s ∷ []) (at + (s.gap + s.size)) later) some.0 (said_judged earlier s) (judged later (earlier ++ s ∷ []) (at + (s.gap + s.size)) some.1)
 
 -- # Tags
 
--- the element's own name, or one of the others
-abbrev WrongIn : List (List Decl) → StartTag → Kind → ℕ → Type 0
-WrongIn here t k p = ((is_unbound here t.name ≡ true) × (k ≡ Unbound) × (p ≡ 1)) ⊎ Wrong here [] (opening t) t.said k p
+-- the element's own name, or the name of a raw attribute
+abbrev WrongIn : List (List Decl) → StartTag → FaultKind → ℕ → Type 0
+WrongIn here t k p = ((is_unbound here t.name ≡ true) × (k ≡ Unbound) × (p ≡ 1)) ⊎ Wrong here [] (opening t) t.raw_attribute k p
 
 no_less : (p : ℕ) (Q : Type 0) → 1 ≤ p → Q → (1 < p) ⊎ ((p ≡ 1) × Q)
 no_less zero Q h q = absurd (omega (arith, h))
@@ -231,109 +232,109 @@ no_less (suc (suc p)) Q h q = inl (omega arith)
 name_first : (here : List (List Decl)) (t : StartTag) → is_unbound here t.name ≡ true → Judged (WrongIn here t) (Some (Unbound, 1))
 name_first here t e = (inl (e, refl, refl), first)
   where
-    first : (k : Kind) (p : ℕ) → WrongIn here t k p → (1 < p) ⊎ ((p ≡ 1) × (rank Unbound ≤ rank k))
+    first : (k : FaultKind) (p : ℕ) → WrongIn here t k p → (1 < p) ⊎ ((p ≡ 1) × (rank Unbound ≤ rank k))
     first k p (inl m) = inr (m.2, omega (arith, ap rank m.1))
-    first k p (inr m) = no_less p (rank Unbound ≤ rank k) (omega (arith, m.place_is)) (unbound_least here m.front m.said k m.wrong)
+    first k p (inr m) = no_less p (rank Unbound ≤ rank k) (omega (arith, m.place_is)) (unbound_least here m.front m.raw_attribute k m.wrong)
 
-name_right : (here : List (List Decl)) (t : StartTag) (o : Option (Kind × ℕ)) → is_unbound here t.name ≡ false → Judged (Wrong here [] (opening t) t.said) o → Judged (WrongIn here t) o
+name_right : (here : List (List Decl)) (t : StartTag) (o : Option (FaultKind × ℕ)) → is_unbound here t.name ≡ false → Judged (Wrong here [] (opening t) t.raw_attribute) o → Judged (WrongIn here t) o
 name_right here t None e h = none
   where
-    none : (k : Kind) (p : ℕ) → WrongIn here t k p → ⊥
+    none : (k : FaultKind) (p : ℕ) → WrongIn here t k p → ⊥
     none k p (inl m) = let u = m.0 in absurd cc
     none k p (inr m) = h k p m
 name_right here t (Some x) e h = (inr h.0, first)
   where
-    first : (k : Kind) (p : ℕ) → WrongIn here t k p → (x.1 < p) ⊎ ((p ≡ x.1) × (rank x.0 ≤ rank k))
+    first : (k : FaultKind) (p : ℕ) → WrongIn here t k p → (x.1 < p) ⊎ ((p ≡ x.1) × (rank x.0 ≤ rank k))
     first k p (inl m) = let u = m.0 in absurd cc
     first k p (inr m) = h.1 k p m
 
-name_by : (here : List (List Decl)) (t : StartTag) (b : Bool) (o : Option (Kind × ℕ)) → is_unbound here t.name ≡ b → Judged (Wrong here [] (opening t) t.said) o → Judged (WrongIn here t) (cond b (Some (Unbound, 1)) o)
+name_by : (here : List (List Decl)) (t : StartTag) (b : Bool) (o : Option (FaultKind × ℕ)) → is_unbound here t.name ≡ b → Judged (Wrong here [] (opening t) t.raw_attribute) o → Judged (WrongIn here t) (cond b (Some (Unbound, 1)) o)
 name_by here t true o e h = name_first here t e
 name_by here t false o e h = name_right here t o e h
 
-tag_judged : (here : List (List Decl)) (t : StartTag) → AllSome t.said → Judged (WrongIn here t) (first_of_tag here t)
-tag_judged here t some = name_by here t (is_unbound here t.name) (first_wrong here [] (opening t) t.said) refl (judged here t.said [] (opening t) some)
+tag_judged : (here : List (List Decl)) (t : StartTag) → AllSome t.raw_attribute → Judged (WrongIn here t) (first_of_tag here t)
+tag_judged here t some = name_by here t (is_unbound here t.name) (first_wrong here [] (opening t) t.raw_attribute) refl (judged here t.raw_attribute [] (opening t) some)
 
 -- # Counted from the end of the tag
 
-pub widths_parts : (front : List Said) (s : Said) (back : List Said) → widths (front ++ s ∷ back) ≡ widths front + (s.gap + s.size + widths back)
+pub widths_parts : (front : List RawAttribute) (s : RawAttribute) (back : List RawAttribute) → widths (front ++ s ∷ back) ≡ widths front + (s.gap + s.size + widths back)
 widths_parts [] s back = omega arith
 widths_parts (x ∷ front) s back = omega (arith, widths_parts front s back)
 
-counted_none : (n : ℕ) (o : Option (Kind × ℕ)) → counted_back n o ≡ None → o ≡ None
+counted_none : (n : ℕ) (o : Option (FaultKind × ℕ)) → counted_back n o ≡ None → o ≡ None
 counted_none n None e = refl
 counted_none n (Some y) e = absurd cc
 
 some_is : {A : Type 0} {a b : A} → let o : Option A = Some a in o ≡ Some b → a ≡ b
 some_is e = cc
 
-counted_some : (n : ℕ) (o : Option (Kind × ℕ)) (x : Kind × ℕ) → counted_back n o ≡ Some x → (y : Kind × ℕ) × (o ≡ Some y) × ((y.0, n - y.1) ≡ x)
+counted_some : (n : ℕ) (o : Option (FaultKind × ℕ)) (x : FaultKind × ℕ) → counted_back n o ≡ Some x → (y : FaultKind × ℕ) × (o ≡ Some y) × ((y.0, n - y.1) ≡ x)
 counted_some n None x e = absurd cc
 counted_some n (Some y) x e = (y, refl, some_is e)
 
 module _ (scope : List (List Decl)) where
-  -- from its front
-  from_front : (t : StartTag) (k : Kind) (b : ℕ) → IsWrong scope t k b → (p : ℕ) × WrongIn (inside scope t) t k p × (b + p ≡ t.size)
+  -- counted from its start
+  from_front : (t : StartTag) (k : FaultKind) (b : ℕ) → IsWrong scope t k b → (p : ℕ) × WrongIn (inside scope t) t k p × (b + p ≡ t.size)
   from_front t k b (inl w) = (1, inl (w.wrong, w.kind_is, refl), w.place)
-  from_front t k b (inr w) = (opening t + widths w.earlier + w.said.gap, inr (record { front = w.earlier; said = w.said; back = w.later; among = w.among; wrong = w.wrong; place_is = refl }), w.place)
+  from_front t k b (inr w) = (opening t + widths w.earlier + w.raw_attribute.gap, inr (record { front = w.earlier; raw_attribute = w.raw_attribute; back = w.later; among = w.among; wrong = w.wrong; place_is = refl }), w.place)
 
-  place_fits : (u : List ℕ) (t : StartTag) (k : Kind) (p : ℕ) → Sizes u t → WrongIn (inside scope t) t k p → p + 1 ≤ t.size
+  place_fits : (u : List ℕ) (t : StartTag) (k : FaultKind) (p : ℕ) → Sizes u t → WrongIn (inside scope t) t k p → p + 1 ≤ t.size
   place_fits u t k p z (inl m) = omega (arith, z.is_size, z.room, m.2)
   place_fits u t k p z (inr m) =
-      let w : widths t.said ≡ widths (m.front ++ m.said ∷ m.back) = ap widths m.among in
-      omega (arith, z.is_size, z.room, m.place_is, w, widths_parts m.front m.said m.back)
+      let w : widths t.raw_attribute ≡ widths (m.front ++ m.raw_attribute ∷ m.back) = ap widths m.among in
+      omega (arith, z.is_size, z.room, m.place_is, w, widths_parts m.front m.raw_attribute m.back)
 
-  from_end : (u : List ℕ) (t : StartTag) (k : Kind) (p : ℕ) → Sizes u t → WrongIn (inside scope t) t k p → IsWrong scope t k (t.size - p)
+  from_end : (u : List ℕ) (t : StartTag) (k : FaultKind) (p : ℕ) → Sizes u t → WrongIn (inside scope t) t k p → IsWrong scope t k (t.size - p)
   from_end u t k p z (inl m) =
       let f = place_fits u t k p z (inl m) in
       inl (record { wrong = m.0; kind_is = m.1; place = omega (arith, f, m.2) })
   from_end u t k p z (inr m) =
       let f = place_fits u t k p z (inr m) in
-      inr (record { earlier = m.front; said = m.said; later = m.back; among = m.among; wrong = m.wrong; place = omega (arith, f, m.place_is) })
+      inr (record { earlier = m.front; raw_attribute = m.raw_attribute; later = m.back; among = m.among; wrong = m.wrong; place = omega (arith, f, m.place_is) })
 
-said_fault : (limit : ℕ) (here : List (List Decl)) (earlier : List Said) (s : Said) (k : Kind) → IsWrongSaid here earlier s k → is_fault limit k ≡ true
+said_fault : (limit : ℕ) (here : List (List Decl)) (earlier : List RawAttribute) (s : RawAttribute) (k : FaultKind) → IsWrongSaid here earlier s k → is_fault limit k ≡ true
 said_fault limit here earlier s Unbound m = refl
 said_fault limit here earlier s Repeated m = refl
 said_fault limit here earlier s Encoded m = absurd m
 said_fault limit here earlier s Doctyped m = absurd m
 said_fault limit here earlier s (Depth d) m = absurd m
 
-pub is_wrong_fault : (limit : ℕ) (scope : List (List Decl)) (t : StartTag) (k : Kind) (b : ℕ) → IsWrong scope t k b → is_fault limit k ≡ true
+pub is_wrong_fault : (limit : ℕ) (scope : List (List Decl)) (t : StartTag) (k : FaultKind) (b : ℕ) → IsWrong scope t k b → is_fault limit k ≡ true
 is_wrong_fault limit scope t k b (inl w) = ap (is_fault limit) w.kind_is
-is_wrong_fault limit scope t k b (inr w) = said_fault limit (inside scope t) w.earlier w.said k w.wrong
+is_wrong_fault limit scope t k b (inr w) = said_fault limit (inside scope t) w.earlier w.raw_attribute k w.wrong
 
 module _ (limit : ℕ) (scope : List (List Decl)) where
-  judged_at : (u : List ℕ) (t : StartTag) → tag.Spells u t → (o : Option (Kind × ℕ)) → first_of_tag (inside scope t) t ≡ o → Judged (WrongIn (inside scope t) t) o
+  judged_at : (u : List ℕ) (t : StartTag) → start_tag.Spells u t → (o : Option (FaultKind × ℕ)) → first_of_tag (inside scope t) t ≡ o → Judged (WrongIn (inside scope t) t) o
   judged_at u t s o e = subst (Judged (WrongIn (inside scope t) t)) e (tag_judged (inside scope t) t (tag_sizes u t s).some)
 
-  tag_within : (u : List ℕ) (t : StartTag) (k : Kind) (b : ℕ) → tag.Spells u t → IsWrong scope t k b → (0 < b) × (b ≤ length u)
+  tag_within : (u : List ℕ) (t : StartTag) (k : FaultKind) (b : ℕ) → start_tag.Spells u t → IsWrong scope t k b → (0 < b) × (b ≤ length u)
   tag_within u t k b s m =
       let z = tag_sizes u t s in
       let f = from_front scope t k b m in
       let g = place_fits scope u t k f.0 z f.1 in
       (omega (arith, f.2, g), omega (arith, f.2, z.is_size))
 
-  tag_says : (u : List ℕ) (t : StartTag) → tag.Spells u t → (x : Kind × ℕ) → tag_fault scope t ≡ Some x → IsWrong scope t x.0 x.1
+  tag_says : (u : List ℕ) (t : StartTag) → start_tag.Spells u t → (x : FaultKind × ℕ) → tag_fault scope t ≡ Some x → IsWrong scope t x.0 x.1
   tag_says u t s x e =
       let c = counted_some t.size (first_of_tag (inside scope t) t) x e in
       let j = judged_at u t s (Some c.0) c.1 in
-      subst (λ (z : Kind × ℕ). IsWrong scope t z.0 z.1) c.2 (from_end scope u t c.0.0 c.0.1 (tag_sizes u t s) j.0)
+      subst (λ (z : FaultKind × ℕ). IsWrong scope t z.0 z.1) c.2 (from_end scope u t c.0.0 c.0.1 (tag_sizes u t s) j.0)
 
-  tag_first : (u : List ℕ) (t : StartTag) → tag.Spells u t → (x : Kind × ℕ) → tag_fault scope t ≡ Some x → (k : Kind) (b : ℕ) → IsWrong scope t k b → (b < x.1) ⊎ ((b ≡ x.1) × (rank x.0 ≤ rank k))
+  tag_first : (u : List ℕ) (t : StartTag) → start_tag.Spells u t → (x : FaultKind × ℕ) → tag_fault scope t ≡ Some x → (k : FaultKind) (b : ℕ) → IsWrong scope t k b → (b < x.1) ⊎ ((b ≡ x.1) × (rank x.0 ≤ rank k))
   tag_first u t s x e k b m =
       let c = counted_some t.size (first_of_tag (inside scope t) t) x e in
       let j = judged_at u t s (Some c.0) c.1 in
       let f = from_front scope t k b m in
       let g = place_fits scope u t c.0.0 c.0.1 (tag_sizes u t s) j.0 in
-      let i : t.size - c.0.1 ≡ x.1 = ap (λ (z : Kind × ℕ). z.1) c.2 in
-      let r : rank c.0.0 ≡ rank x.0 = ap (λ (z : Kind × ℕ). rank z.0) c.2 in
+      let i : t.size - c.0.1 ≡ x.1 = ap (λ (z : FaultKind × ℕ). z.1) c.2 in
+      let r : rank c.0.0 ≡ rank x.0 = ap (λ (z : FaultKind × ℕ). rank z.0) c.2 in
       ⊎_elim
       (λ l. inl (omega (arith, l, f.2, g, i)))
       (λ l. inr (omega (arith, l.0, f.2, g, i), omega (arith, l.1, r)))
       (j.1 k f.0 f.1)
 
-  -- The names of a tag are judged as the grammar says.
-  pub tag_judges : Judges (faults limit) (IsWrong scope) tag (tag_fault scope)
+  -- The names of a tag are checked as the grammar says.
+  pub tag_judges : Judges (faults limit) (IsWrong scope) start_tag (tag_fault scope)
   tag_judges = record {
     within = tag_within;
     silent = λ u t s none k b m. let f = from_front scope t k b m in absurd (judged_at u t s None (counted_none t.size (first_of_tag (inside scope t) t) none) k f.0 f.1);

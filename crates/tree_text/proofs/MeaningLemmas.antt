@@ -1,4 +1,4 @@
--- The set of what the names of a tag say tells whether one of them is said again.
+-- The set of the meanings of the names in a tag shows whether one of them is repeated.
 use Rattle.std.proofs.Common.{◌≡◌, ℕ, Bool, true, false, cond, List, [], ◌∷◌, ◌++◌, Option, None, Some, encode_utf8_all, refl, sym, ap, ap₂, ◌∙◌}
 use Rattle.std.specs.Prelude.{◌&&◌, ◌||◌, not}
 use Rattle.std.specs.List.{list_any}
@@ -11,14 +11,14 @@ use Rattle.std.specs.Cmp.Lexicographic.{slice_cmp, texts_ties}
 use Rattle.std.proofs.lemmas.List.Folds.{list_any-append}
 use Rattle.xml_tree.specs.Expanded.{attr_name}
 use Rattle.xml_tree.proofs.ByteOrder.{order-encodes}
-use Rattle.tree_text.specs.contracts.meanings.MeaningOrd.TheImpl.{cmp-value}
+use Rattle.tree_text.specs.contracts.attribute_meanings.MeaningOrd.TheImpl.{cmp-value}
 use Rattle.tree_text.specs.declared.bindings.Bindings.{Bindings}
-use Rattle.tree_text.specs.declared.meanings.Meaning.{Meaning}
-use Rattle.tree_text.specs.declared.meanings.Meaning.TheVariants.{Declared, Named}
-use Rattle.tree_text.specs.declared.said.Said.{Said}
-use Rattle.tree_text.specs.readers.Bindings.{AreKept, lists, number}
+use Rattle.tree_text.specs.declared.attribute_meanings.Meaning.{Meaning}
+use Rattle.tree_text.specs.declared.attribute_meanings.Meaning.TheVariants.{Declared, Named}
+use Rattle.tree_text.specs.declared.raw_attribute.RawAttribute.{RawAttribute}
+use Rattle.tree_text.specs.readers.Bindings.{AreOpenNamespaces, lists, number}
 use Rattle.tree_text.specs.readers.Meanings.{Means, Holds, says, attr_number, same_number}
-use Rattle.tree_text.specs.Names.{says_again, is_repeated, said_decl as decl_of, is_declaring as declares}
+use Rattle.tree_text.specs.Names.{says_again, is_repeated, raw_attribute_decl as decl_of, is_declaring as declares}
 use Rattle.tree_text.proofs.NamespaceLemmas.{number_of, attrs_same}
 
 and_swap : (a b : Bool) → a && b ≡ b && a
@@ -39,13 +39,13 @@ numbers_tie None (Some m) = refl
 numbers_tie (Some n) None = refl
 numbers_tie (Some n) (Some m) = unsigned_tied n m
 
--- texts are equal exactly where their bytes are
+-- texts are equal exactly when their bytes are
 bytes_eq-encodes : (a b : List ℕ) → bytes_eq (encode_utf8_all a) (encode_utf8_all b) ≡ bytes_eq a b
 bytes_eq-encodes a b = texts_ties (encode_utf8_all a) (encode_utf8_all b) ∙ ap is_eq (order-encodes a b) ∙ sym (texts_ties a b)
 
 module _ (here : Bindings) where
-  -- another meaning compares as equal exactly where the same is said
-  ties : (s : Said) (m q : Meaning) → Means here s m → is_eq (cmp-value.it m q) ≡ says here q s
+  -- another meaning compares as equal exactly when the two are the same
+  ties : (s : RawAttribute) (m q : Meaning) → Means here s m → is_eq (cmp-value.it m q) ≡ says here q s
   ties s (Declared p) (Declared q) h = rw (h.0) (sym (texts_ties p.now q.now) ∙ ap (λ t. bytes_eq t q.now) h.1)
   ties s (Declared p) (Named l u) h = rw (h.0) refl
   ties s (Named l u) (Declared q) h = rw (h.0) refl
@@ -57,7 +57,7 @@ module _ (here : Bindings) where
       ∙ ap₂ (λ (a b : Bool). a && b) locals numbers
       ∙ and_swap (bytes_eq s.name.local k.now) (same_number (attr_number here s.name) v))
 
-  pub one_more : (es : List Said) (seen seen' : BTreeSet Meaning) (s : Said) (m : Meaning) → Holds here es seen → Means here s m
+  pub one_more : (es : List RawAttribute) (seen seen' : BTreeSet Meaning) (s : RawAttribute) (m : Meaning) → Holds here es seen → Means here s m
       → Updates cmp-value.it seen seen' m true → Holds here (es ++ s ∷ []) seen'
   one_more es seen seen' s m holds h up q =
       up.0 q
@@ -65,9 +65,9 @@ module _ (here : Bindings) where
       ∙ or_last (says here q s) (list_any (says here q) es)
       ∙ sym (list_any-append (says here q) es (s ∷ []))
 
-module _ (here : Bindings) (kept : AreKept here) where
-  -- one says what is meant exactly where it says the same
-  same_is : (e s : Said) (m : Meaning) → Means here s m → says here m e ≡ says_again (lists here) s e
+module _ (here : Bindings) (kept : AreOpenNamespaces here) where
+  -- a raw attribute has a meaning exactly when it means the same
+  same_is : (e s : RawAttribute) (m : Meaning) → Means here s m → says here m e ≡ says_again (lists here) s e
   same_is e s (Declared p) h =
       rw (h.0)
       (ap (λ t. declares e.name && bytes_eq (encode_utf8_all (decl_of e).prefix) t) h.1
@@ -76,11 +76,11 @@ module _ (here : Bindings) (kept : AreKept here) where
       let numbers = ap (same_number (attr_number here e.name)) (number_of (number here.namespaces) u (attr_name (lists here) s.name).uri h.2) ∙ attrs_same here kept e.name s.name in
       rw (h.0) (ap₂ (λ (a b : Bool). not (declares e.name) && (a && b)) numbers (ap (bytes_eq e.name.local) h.1))
 
-  any_is : (es : List Said) (s : Said) (m : Meaning) → Means here s m → list_any (says here m) es ≡ is_repeated (lists here) es s
+  any_is : (es : List RawAttribute) (s : RawAttribute) (m : Meaning) → Means here s m → list_any (says here m) es ≡ is_repeated (lists here) es s
   any_is [] s m h = refl
   any_is (e ∷ es) s m h = ap₂ (λ (a b : Bool). a || b) (same_is e s m h) (any_is es s m h)
 
-  -- a set that holds what these say finds exactly what is said again
-  pub found_is : (es : List Said) (seen : BTreeSet Meaning) (s : Said) (m : Meaning) → Holds here es seen → Means here s m
+  -- a set of the meanings of these finds exactly the repeated ones
+  pub found_is : (es : List RawAttribute) (seen : BTreeSet Meaning) (s : RawAttribute) (m : Meaning) → Holds here es seen → Means here s m
       → contains cmp-value.it seen m ≡ is_repeated (lists here) es s
   found_is es seen s m holds h = holds m ∙ any_is es s m h

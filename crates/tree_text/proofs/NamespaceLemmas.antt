@@ -1,4 +1,5 @@
--- Two names that have numbers for their namespaces have one number exactly where they have one namespace.
+-- Two names that have numbers for their namespaces have the same number exactly when they have
+-- the same namespace.
 use Rattle.std.proofs.Common.{◌≡◌, ℕ, Bool, true, false, List, [], ◌∷◌, map, Option, None, Some, refl, ap, ◌∙◌}
 use Rattle.std.specs.Prelude.{option_map, option_and_then, if◌then◌else◌}
 use Rattle.std.specs.Cmp.{both_ways}
@@ -10,7 +11,7 @@ use Rattle.xml_tree.specs.Expanded.{attr_name, same_uri}
 use Rattle.xml_tree.specs.Scopes.{bound, declared, joined, some_text, xml_prefix, xml_uri}
 use Rattle.xml_tree.specs.declared.names.Decl.{Decl}
 use Rattle.xml_tree.specs.declared.names.Name.{Name}
-use Rattle.tree_text.specs.readers.Bindings.{AreKept, lists, number, stack, uris}
+use Rattle.tree_text.specs.readers.Bindings.{AreOpenNamespaces, lists, number, stack, uris}
 use Rattle.tree_text.specs.readers.Meanings.{attr_number, same_number}
 use Rattle.tree_text.specs.declared.bindings.Bindings.{Bindings}
 
@@ -43,7 +44,7 @@ module _ (num : List ℕ → Option ℕ) where
   either_has true a b h k = h
   either_has false a b h k = k
 
-  -- a number that is told beside the namespace is that of the namespace
+  -- a number that is given with the namespace is the number of the namespace
   pub number_of : (n : Option ℕ) (o : Option (List ℕ)) → option_map Some n ≡ option_map num o → n ≡ option_and_then num o
   number_of None None e = refl
   number_of None (Some u) e = absurd (cc)
@@ -64,7 +65,7 @@ module _ (num : List ℕ → Option ℕ) where
       (λ e. (bytes_decides u v).1 (apart u v k.0 (h.1 ∙ ap Some (eqb-true h.0 k.0 e)) k.1))
       (λ e. eq-eqb h.0 k.0 (one_number u v h.0 k.0 h.1 k.1 ((bytes_decides u v).0 e))))
 
-module _ (here : Bindings) (kept : AreKept here) where
+module _ (here : Bindings) (kept : AreOpenNamespaces here) where
   bound_has : (p : List ℕ) → HasNumber (number here.namespaces) (bound (lists here) p)
   bound_has p =
       let num = number here.namespaces in
@@ -74,7 +75,7 @@ module _ (here : Bindings) (kept : AreKept here) where
   attr_has : (n : Name) → HasNumber (number here.namespaces) (attr_name (lists here) n).uri
   attr_has n = either_has (number here.namespaces) (bytes_eq n.prefix []) None (bound (lists here) n.prefix) tt (bound_has n.prefix)
 
-  -- two attributes have one number exactly where they have one namespace
+  -- two attributes have the same number exactly when they have the same namespace
   pub attrs_same : (m n : Name) → same_number (attr_number here m) (attr_number here n) ≡ same_uri (attr_name (lists here) m).uri (attr_name (lists here) n).uri
   attrs_same m n =
       numbers_same (number here.namespaces) kept.numbers.apart (attr_name (lists here) m).uri (attr_name (lists here) n).uri (attr_has m) (attr_has n)

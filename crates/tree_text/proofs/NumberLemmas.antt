@@ -1,4 +1,4 @@
--- Numbers for namespaces: one number more, and what is kept of one declaration more.
+-- Numbers for namespaces: one more number, and what is stored for one more declaration.
 use Rattle.std.proofs.Common.{◌≡◌, ℕ, ◌+◌, ◌<◌, Bool, true, false, cond, List, [], ◌∷◌, ◌++◌, map, Option, Some, None, bytes_eq, refl, sym, ap, ap₂, subst, ◌∙◌, arith}
 use Rattle.std.proofs.lemmas.List.{map-append}
 use Rattle.std.proofs.lemmas.Map.Text.{is_eq-slice_cmp}
@@ -49,7 +49,7 @@ module _ (f g : List ℕ → Option ℕ) (k : List ℕ) (n : ℕ) (new : f k ≡
         by false a true b = absurd (not_new u m (sym (adds_there u a) ∙ here) (sym (adds_here v b) ∙ there))
         by false a false b = were u v m (sym (adds_there u a) ∙ here) (sym (adds_there v b) ∙ there)
 
--- the same, of a map into which the text was put with its number
+-- a map into which such a text was inserted with its number
 module _ (m m' : BTreeMap (List ℕ) ℕ) (k : List ℕ) (n : ℕ) (new : at_text m k ≡ None) (up : Updates (slice_cmp nat_cmp) m m' k (Some n)) where
   found_after : (q : List ℕ) → at_text m' q ≡ cond (bytes_eq k q) (Some n) (at_text m q)
   found_after q = up.0 q ∙ ap (λ b. cond b (Some n) (at_text m q)) (is_eq-slice_cmp k q)
@@ -82,7 +82,7 @@ AreNumbers-empty m empty = record {
 pub numbers_at-empty : (m : BTreeMap (List ℕ) (Vec ℕ)) → m.entries ≡ [] → (p : List ℕ) → numbers_at m p ≡ []
 numbers_at-empty m empty p = rw (nothing_at m empty p) refl
 
--- ---- one declaration more
+-- ---- one more declaration
 -- texts that have numbers keep them
 kept_numbers : (f g : List ℕ → Option ℕ) → ((u : List ℕ) (n : ℕ) → f u ≡ Some n → g u ≡ Some n) → (us : List (List ℕ)) (ns : List ℕ) → map f us ≡ map Some ns → map g us ≡ map Some ns
 kept_numbers f g grown [] [] is = refl
@@ -97,7 +97,7 @@ map_one : (g : List ℕ → Option ℕ) (b : Bool) (u : List ℕ) (n : ℕ) → 
 map_one g true u n is = ap (λ (x : Option ℕ). x ∷ []) is
 map_one g false u n is = refl
 
--- s' has one declaration more than s, whose URI has the number n
+-- s' has one more declaration than s, whose URI has the number n
 module _ (s s' : Namespaces) (ds : List Decl) (d : Decl) (n : ℕ) (are : AreOf s ds) (found : number s' d.uri ≡ Some n)
     (grown : (u : List ℕ) (x : ℕ) → number s u ≡ Some x → number s' u ≡ Some x)
     (pushed : (p : List ℕ) → stack s' p ≡ stack s p ++ (if bytes_eq d.prefix p then n ∷ [] else [])) where

@@ -2,18 +2,18 @@
 use Rattle.std.proofs.Common.{◌≡◌, ℕ, suc, ◌+◌, List, Result, Err, inl, inr, refl, sym, ap, ◌∙◌, arith}
 use Rattle.std.specs.Prelude.{◌==◌, if◌then◌else◌}
 use Rattle.std.specs.Str.{chars}
-use Rattle.grammar_rules.specs.Reading.{Faulty}
-use Rattle.grammar_rules.proofs.Whole.{told_alike}
+use Rattle.xml_grammar.specs.Reading.{Faulty}
+use Rattle.xml_grammar.proofs.Whole.{told_alike}
 use Rattle.xml_tree.specs.Tree.{Tree}
 use Rattle.xml_tree.specs.declared.names.Decl.{Decl}
 use Rattle.tree_text.specs.declared.fault.TextFault.{TextFault}
 use Rattle.tree_text.specs.declared.fault.TextFault.TheVariants as texts
 use Rattle.tree_text.specs.declared.fault.ValueFault.{ValueFault}
-use Rattle.tree_text.specs.declared.kind.Kind.{Kind}
-use Rattle.tree_text.specs.declared.kind.Kind.TheVariants.{Encoded, Doctyped, Depth, Unbound, Repeated}
-use Rattle.tree_text.specs.Kinds.{faults, rank}
+use Rattle.tree_text.specs.declared.fault_kind.FaultKind.{FaultKind}
+use Rattle.tree_text.specs.declared.fault_kind.FaultKind.TheVariants.{Encoded, Doctyped, Depth, Unbound, Repeated}
+use Rattle.tree_text.specs.FaultKinds.{faults, rank}
 use Rattle.tree_text.specs.Grammar.{document, spelling}
-use Rattle.tree_text.specs.Faults.{byte_at, stop_fault, TextAnswer, spelling_of, body_told, BodyAnswer, text_told as told}
+use Rattle.tree_text.specs.Faults.{byte_at, stop_fault, TextAnswer, spelling_of, body_result, BodyAnswer, text_result as told}
 
 -- the fault of a rank
 by_rank : List ℕ → List ℕ → ℕ → TextFault
@@ -24,7 +24,7 @@ by_rank bytes left n =
     else if n == 3 then texts.NotUtf8
     else texts.Doctype (byte_at bytes left)
 
-ranked : (bytes left : List ℕ) (kind : Kind) → stop_fault bytes (Faulty kind left) ≡ by_rank bytes left (rank kind)
+ranked : (bytes left : List ℕ) (kind : FaultKind) → stop_fault bytes (Faulty kind left) ≡ by_rank bytes left (rank kind)
 unfolding by_rank
 ranked bytes left Encoded = refl
 ranked bytes left Doctyped = refl
@@ -32,8 +32,8 @@ ranked bytes left (Depth depth) = refl
 ranked bytes left Unbound = refl
 ranked bytes left Repeated = refl
 
--- kinds of one rank are one fault
-alike : (bytes : List ℕ) (kind other : Kind) (left : List ℕ) → rank kind ≡ rank other → told bytes (Err (Faulty kind left)) ≡ told bytes (Err (Faulty other left))
+-- kinds of the same rank are the same fault
+alike : (bytes : List ℕ) (kind other : FaultKind) (left : List ℕ) → rank kind ≡ rank other → told bytes (Err (Faulty kind left)) ≡ told bytes (Err (Faulty other left))
 alike bytes kind other left same = ap (λ (z : TextFault). let r : Result Tree TextFault = Err z in r) (ranked bytes left kind ∙ ap (by_rank bytes left) same ∙ sym (ranked bytes left other))
 
 pub one_text : (limit : ℕ) (scope : List (List Decl)) (bytes : List ℕ) (a b : Result Tree TextFault) → TextAnswer limit scope bytes a → TextAnswer limit scope bytes b → a ≡ b
@@ -49,7 +49,7 @@ one_text limit scope bytes a b (inr x) (inr y) = x.1 ∙ sym y.1
 pub one_body : (bytes : List ℕ) (a b : Result (List ℕ) ValueFault) → BodyAnswer bytes a → BodyAnswer bytes b → a ≡ b
 one_body bytes a b (inl x) (inl y) =
     x.1.is_told
-    ∙ told_alike (faults 0) spelling (spelling_of (chars bytes)) (body_told (chars bytes) bytes) (λ kind other left k o same. refl) x.1.stated y.1.stated x.1.by_grammar y.1.by_grammar
+    ∙ told_alike (faults 0) spelling (spelling_of (chars bytes)) (body_result (chars bytes) bytes) (λ kind other left k o same. refl) x.1.stated y.1.stated x.1.by_grammar y.1.by_grammar
     ∙ sym y.1.is_told
 one_body bytes a b (inl x) (inr y) = absurd (y.0 x.0)
 one_body bytes a b (inr x) (inl y) = absurd (x.0 y.0)

@@ -1,14 +1,14 @@
--- Plain characters in front of what ends their run are the run, and are read as they stand.
+-- Plain characters before the end of their run are the run, and are read as themselves.
 use Rattle.std.proofs.Common.{◌≡◌, ℕ, ◌≤◌, ◌≢◌, Bool, true, false, List, [], ◌∷◌, ◌++◌, ◌&&◌, ◌||◌, Result, Ok, refl, sym, ap, subst, ◌∙◌, arith}
 use Rattle.std.specs.List.{list_all}
 use Rattle.std.specs.Prelude.{nat_eq, nat_le, not}
 use Rattle.std.proofs.lemmas.Bool.{and_parts, eqb-true, le-leb, ne_eqb}
-use Rattle.grammar_rules.specs.Reading.{Stop, ◌>>=◌, front_of, after_front}
-use Rattle.grammar_rules.specs.readers.Functions.{front_without, after_without}
+use Rattle.xml_grammar.specs.Reading.{Stop, ◌>>=◌, front_of, after_front}
+use Rattle.xml_grammar.specs.readers.Functions.{front_without, after_without}
 use Rattle.std.specs.Int.{is_in_range as within}
 use Rattle.xml_tree.specs.Tree.{Content, Tree}
 use Rattle.xml_tree.proofs.Places.{with_text-nil}
-use Rattle.tree_text.specs.declared.kind.Kind.{Kind}
+use Rattle.tree_text.specs.declared.fault_kind.FaultKind.{FaultKind}
 use Rattle.tree_text.specs.Grammar.{is_quote, is_raw, is_raw_in}
 use Rattle.tree_text.specs.readers.Members.{with_chars, read_chars_onto, read_blanked}
 use Rattle.tree_text.specs.Pieces.{line_ends, raw}
@@ -18,7 +18,7 @@ use Rattle.tree_text.specs.readers.Words.{section_end}
 use Rattle.tree_text.proofs.PlainRuns.{plain_lines, smooth_raw}
 use Rattle.tree_text.proofs.RawLetters.{bounds}
 
--- what stands raw for itself
+-- characters that are raw and read as themselves
 record IsPrinted (c : ℕ) : Type 0 where
   stands : is_raw c ≡ true
   smooth : nat_le 32 c ≡ true
@@ -34,7 +34,7 @@ printed c low high amp less = record {
   no_return = ne_eqb c 13 (λ e. omega (arith, e, low));
 }
 
--- what does so in content wherever it is
+-- characters that are so in content, whatever surrounds them
 record IsInner (c : ℕ) : Type 0 where
   stands : is_raw c ≡ true
   no_bracket : nat_eq 93 c ≡ false
@@ -76,7 +76,7 @@ inner_by c false false false false false false i j k l m n h = absurd cc
 plain_inner : (c : ℕ) → is_plain_in_content c ≡ true → IsInner c
 plain_inner c h = inner_by c (within 94 126 c) (nat_eq c 32) (nat_eq c 10) (within 61 92 c) (within 33 37 c) (within 39 59 c) refl refl refl refl refl refl h
 
--- what does so in a value, whatever its quotes are
+-- characters that are so in a value, whatever its quotes are
 record IsUnquoted (c : ℕ) : Type 0 where
   printed : IsPrinted c
   no_quote : nat_eq c 34 ≡ false
@@ -133,14 +133,14 @@ all_by p q each (c ∷ cs) h =
     let both = and_parts (p c) (list_all p cs) h in
     rw (each c both.0) (all_by p q each cs both.1)
 
--- they are read as they stand
+-- they are read as themselves
 content_lines : (cs : List ℕ) → list_all is_plain_in_content cs ≡ true → line_ends cs ≡ cs
 content_lines cs h = plain_lines cs (all_by is_plain_in_content is_no_return (λ c i. ap not (plain_inner c i).no_return) cs h)
 
 value_raw : (cs : List ℕ) → list_all is_plain_in_value cs ≡ true → raw cs ≡ cs
 value_raw cs h = smooth_raw cs (all_by is_plain_in_value is_smooth (λ c i. (plain_unquoted c i).printed.smooth) cs h)
 
--- a run of characters that pass, in front of what doesn't
+-- a run of characters that pass, before one that doesn't
 module _ (p q : ℕ → Bool) (each : (c : ℕ) → q c ≡ true → p c ≡ true) (rest : List ℕ) (none : front_of p rest ≡ []) (all : after_front p rest ≡ rest) where
   pub front_is : (front : List ℕ) → list_all q front ≡ true → front_of p (front ++ rest) ≡ front
   front_is [] h = none
@@ -154,7 +154,7 @@ module _ (p q : ℕ → Bool) (each : (c : ℕ) → q c ≡ true → p c ≡ tru
       let both = and_parts (q c) (list_all q front) h in
       rw (each c both.0) (rest_is front both.1)
 
--- the same where no `]]>` may stand, and none of them is a `]`
+-- a run where `]]>` isn't allowed, and none of the characters is a `]`
 module _ (p q : ℕ → Bool) (each : (c : ℕ) → q c ≡ true → p c ≡ true) (other : (c : ℕ) → q c ≡ true → nat_eq 93 c ≡ false) (rest : List ℕ)
     (none : front_without p section_end rest ≡ []) (all : after_without p section_end rest ≡ rest) where
   front_without_is : (front : List ℕ) → list_all q front ≡ true → front_without p section_end (front ++ rest) ≡ front
@@ -169,7 +169,7 @@ module _ (p q : ℕ → Bool) (each : (c : ℕ) → q c ≡ true → p c ≡ tru
       let both = and_parts (q c) (list_all q front) h in
       rw (other c both.0) (rw (each c both.0) (rest_without_is front both.1))
 
-answer : (f : List ℕ → List ℕ) (x y u v w : List ℕ) → x ≡ u → y ≡ v → f u ≡ w → let a : Result (List ℕ × List ℕ) (Stop Kind) = Ok (f x, y) in a ≡ Ok (w, v)
+answer : (f : List ℕ → List ℕ) (x y u v w : List ℕ) → x ≡ u → y ≡ v → f u ≡ w → let a : Result (List ℕ × List ℕ) (Stop FaultKind) = Ok (f x, y) in a ≡ Ok (w, v)
 answer f x y u v w h i j = rw h (rw (i, j) refl)
 
 -- # Content
@@ -193,9 +193,9 @@ plain_chars text front rest whole h e =
     (rest_without_is is_raw is_plain_in_content stands other rest none.0 none.1 front h)
     (content_lines front h)
 
--- characters that are read are added to content
+-- characters that are read are appended to content
 pub chars_onto : (tree : Tree) (text cs rest : List ℕ) → read_chars text ≡ Ok (cs, rest) → read_chars_onto tree text ≡ Ok (with_chars tree cs, rest)
-chars_onto tree text cs rest h = ap (λ (r : Result (List ℕ × List ℕ) (Stop Kind)). r >>= λ x. let z : Tree × List ℕ = (with_chars tree x.0, x.1) in Ok z) h
+chars_onto tree text cs rest h = ap (λ (r : Result (List ℕ × List ℕ) (Stop FaultKind)). r >>= λ x. let z : Tree × List ℕ = (with_chars tree x.0, x.1) in Ok z) h
 
 pub nothing_onto : (tree : Tree) (text : List ℕ) → ends_run 60 text ≡ true → read_chars_onto tree text ≡ Ok (tree, text)
 nothing_onto tree text e =

@@ -1,4 +1,4 @@
--- Prints put together from left to right.
+-- Prints composed from left to right.
 use Rattle.std.proofs.Common.{◌≡◌, ℕ, ◌+◌, ◌<◌, ◌≤◌, Bool, true, false, List, [], ◌∷◌, ◌++◌, length, drop, get_or, refl, sym, ap, ◌∙◌, append_assoc}
 use Rattle.std.proofs.lemmas.List.{append-nil, drop_all}
 use Rattle.xml_tree.specs.Nodes.{content_of, AreNormal}

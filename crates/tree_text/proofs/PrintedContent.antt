@@ -1,23 +1,23 @@
--- Printed content is read as what was printed: texts, comments and elements, one behind the other.
+-- Printed content is read as what was printed: texts, comments and elements, one after the other.
 use Rattle.std.proofs.Common.{◌≡◌, ℕ, ◌<◌, Bool, true, false, cond, List, [], ◌∷◌, ◌++◌, length, Result, Ok, IsTrue, refl, sym, ap, subst, ◌∙◌, append_assoc, eqb-true, eq-eqb, length-append, arith}
 use Rattle.std.specs.Prelude.{◌&&◌, ◌==◌, not, nat_eq}
 use Rattle.std.specs.List.{list_all, AllByRecursion}
-use Rattle.grammar_rules.specs.Reading.{Stop, Reader, ◌>>=◌, head_is, starts, read_valued}
-use Rattle.grammar_rules.specs.readers.Functions.{read_up_to}
+use Rattle.xml_grammar.specs.Reading.{Stop, Reader, ◌>>=◌, head_is, starts, read_valued}
+use Rattle.xml_grammar.specs.readers.Functions.{read_up_to}
 use Rattle.xml_tree.specs.Characters.{is_char, is_name_start}
 use Rattle.xml_tree.specs.Comments.{is_kept_char, hyphens_apart, is_comment}
 use Rattle.xml_tree.specs.Edits.{with_text_before, with_text, with_elem, with_comment}
 use Rattle.xml_tree.specs.Print.{print_comment, print_text, text_escape}
-use Rattle.xml_tree.specs.Tree.{Content, last, more, note, more_of, Tree}
+use Rattle.xml_tree.specs.Tree.{Content, last, more, comment_node, more_of, Tree}
 use Rattle.tree_text.specs.readers.Words.{comment_start, dashes, section_end, greater}
-use Rattle.tree_text.specs.declared.kind.Kind.{Kind}
+use Rattle.tree_text.specs.declared.fault_kind.FaultKind.{FaultKind}
 use Rattle.tree_text.specs.Grammar.{is_raw}
 use Rattle.tree_text.specs.Pieces.{Markup, Reference, Section, Comment, Instruction, Inner, line_ends, with_markup, with_pieces}
 use Rattle.tree_text.specs.readers.Texts.{read_reference, read_section, read_comment, read_instruction, read_chars, read_markup, markup_follows, read_content}
 use Rattle.tree_text.proofs.ReadFronts.{Reads, reads_valued, reads_before, reads_behind, reads_left, reads_right, reads_word, AreBetween, between_none, between_more, reads_between}
 use Rattle.tree_text.proofs.PrintedValues.{both, not_true, longer, Stands, as_it_is, as_reference, plain_text, text_stands}
 
--- the same with the sides exchanged
+-- the equation with its sides swapped
 flipped : (a b : ℕ) → nat_eq a b ≡ false → nat_eq b a ≡ false
 flipped a b h = by (nat_eq b a) refl
   where
@@ -25,7 +25,7 @@ flipped a b h = by (nat_eq b a) refl
     by true e = absurd (let s : a ≡ b = sym (eqb-true b a e) in let t : nat_eq a b ≡ true = eq-eqb a b s in cc)
     by false e = e
 
--- the first character of a name is none that begins no name
+-- the first character of a name isn't one that can't begin a name
 pub no_mark : (m d : ℕ) → is_name_start m ≡ false → is_name_start d ≡ true → nat_eq m d ≡ false
 no_mark m d f t = by (nat_eq m d) refl
   where
@@ -33,22 +33,22 @@ no_mark m d f t = by (nat_eq m d) refl
     by true e = absurd (let s : is_name_start m ≡ true = ap is_name_start (eqb-true m d e) ∙ t in cc)
     by false e = e
 
--- ---- content put together from left to right, with a text before it
+-- ---- content composed from left to right, with a text before it
 
 text-before : (s t : List ℕ) (k : Content) → with_text s (with_text_before t k) ≡ with_text_before t (with_text s k)
 text-before s t (last u) = ap last (append_assoc t u s)
 text-before s t (more u n ds ats c rest) = refl
-text-before s t (note u x rest) = refl
+text-before s t (comment_node u x rest) = refl
 
 elem-before : (e : Tree) (t : List ℕ) (k : Content) → with_elem e (with_text_before t k) ≡ with_text_before t (with_elem e k)
 elem-before e t (last u) = refl
 elem-before e t (more u n ds ats c rest) = refl
-elem-before e t (note u x rest) = refl
+elem-before e t (comment_node u x rest) = refl
 
 comment-before : (s t : List ℕ) (k : Content) → with_comment s (with_text_before t k) ≡ with_text_before t (with_comment s k)
 comment-before s t (last u) = refl
 comment-before s t (more u n ds ats c rest) = refl
-comment-before s t (note u x rest) = refl
+comment-before s t (comment_node u x rest) = refl
 
 markup-before : (m : Markup) (t : List ℕ) (k : Content) → with_markup m (with_text_before t k) ≡ with_text_before t (with_markup m k)
 markup-before (Reference c) t k = text-before (c ∷ []) t k
@@ -71,23 +71,23 @@ pieces-more ((Comment s, cs) ∷ ps) e k = pieces-more ps e (with_text cs (with_
 pieces-more ((Instruction, cs) ∷ ps) e k = pieces-more ps e (with_text cs k)
 pieces-more ((Inner t, cs) ∷ ps) e k = pieces-more ps e (with_text cs (with_markup (Inner t) k))
 
-pieces-note : (ps : List (Markup × List ℕ)) (x : List ℕ) (k : Content) → with_pieces (note [] x k) ps ≡ note [] x (with_pieces k ps)
-pieces-note [] x k = refl
-pieces-note ((Reference c, cs) ∷ ps) x k = pieces-note ps x (with_text cs (with_markup (Reference c) k))
-pieces-note ((Section s, cs) ∷ ps) x k = pieces-note ps x (with_text cs (with_markup (Section s) k))
-pieces-note ((Comment s, cs) ∷ ps) x k = pieces-note ps x (with_text cs (with_markup (Comment s) k))
-pieces-note ((Instruction, cs) ∷ ps) x k = pieces-note ps x (with_text cs k)
-pieces-note ((Inner t, cs) ∷ ps) x k = pieces-note ps x (with_text cs (with_markup (Inner t) k))
+pieces-comment_node : (ps : List (Markup × List ℕ)) (x : List ℕ) (k : Content) → with_pieces (comment_node [] x k) ps ≡ comment_node [] x (with_pieces k ps)
+pieces-comment_node [] x k = refl
+pieces-comment_node ((Reference c, cs) ∷ ps) x k = pieces-comment_node ps x (with_text cs (with_markup (Reference c) k))
+pieces-comment_node ((Section s, cs) ∷ ps) x k = pieces-comment_node ps x (with_text cs (with_markup (Section s) k))
+pieces-comment_node ((Comment s, cs) ∷ ps) x k = pieces-comment_node ps x (with_text cs (with_markup (Comment s) k))
+pieces-comment_node ((Instruction, cs) ∷ ps) x k = pieces-comment_node ps x (with_text cs k)
+pieces-comment_node ((Inner t, cs) ∷ ps) x k = pieces-comment_node ps x (with_text cs (with_markup (Inner t) k))
 
 before-none : (k : Content) → with_text_before [] k ≡ k
 before-none (last u) = refl
 before-none (more u n ds ats c rest) = refl
-before-none (note u x rest) = refl
+before-none (comment_node u x rest) = refl
 
 before-cons : (c : ℕ) (t : List ℕ) (k : Content) → with_text_before (c ∷ []) (with_text_before t k) ≡ with_text_before (c ∷ t) k
 before-cons c t (last u) = refl
 before-cons c t (more u n ds ats k rest) = refl
-before-cons c t (note u x rest) = refl
+before-cons c t (comment_node u x rest) = refl
 
 -- ---- comments
 
@@ -119,7 +119,7 @@ apart_rest : (c : ℕ) (cs : List ℕ) → hyphens_apart (c ∷ cs) ≡ true →
 apart_rest c [] h = refl
 apart_rest c (d ∷ ds) h = (both (not (c == 45 && d == 45)) (hyphens_apart (d ∷ ds)) h).1
 
-inside_read : (x next : List ℕ) → list_all is_kept_char x ≡ true → hyphens_apart x ≡ true → read_up_to {Kind = Kind} is_char dashes (x ++ 45 ∷ 45 ∷ 62 ∷ next) ≡ Ok (x, 62 ∷ next)
+inside_read : (x next : List ℕ) → list_all is_kept_char x ≡ true → hyphens_apart x ≡ true → read_up_to {Kind = FaultKind} is_char dashes (x ++ 45 ∷ 45 ∷ 62 ∷ next) ≡ Ok (x, 62 ∷ next)
 inside_read [] next h k = refl
 inside_read (c ∷ cs) next h k =
     let a = both (is_kept_char c) (list_all is_kept_char cs) h in
@@ -148,10 +148,11 @@ more_chars c text cs rest p s h =
     let a = both (is_raw c) (not (c == 13) && not (c == 62)) p in
     let b = both (not (c == 13)) (not (c == 62)) a.1 in
     let no_end : starts section_end (c ∷ text) ≡ false = cond_false (nat_eq 93 c) (starts (93 ∷ 62 ∷ []) text) (λ _. s) in
-    record { read = rw no_end (rw a.0 (rw (not_true (c == 13) b.0) (ap (λ (r : Result (List ℕ × List ℕ) (Stop Kind)). r >>= λ z. let w : List ℕ × List ℕ = (c ∷ z.0, z.1) in Ok w) h.read))) }
+    record { read = rw no_end (rw a.0 (rw (not_true (c == 13) b.0) (ap (λ (r : Result (List ℕ × List ℕ) (Stop FaultKind)). r >>= λ z. let w : List ℕ × List ℕ = (c ∷ z.0, z.1) in Ok w) h.read))) }
 
-module _ (inner : Reader Kind Tree) where
-  -- A text is read as this content, up to a tail. It begins neither with `>` nor with `]>`, so it completes no `]]>`.
+module _ (inner : Reader FaultKind Tree) where
+  -- A text is read as this content, up to a tail. It begins neither with `>` nor with `]>`, so it
+  -- completes no `]]>`.
   pub record IsContent (text : List ℕ) (k : Content) (tail : List ℕ) : Type 0 where
     pub first : List ℕ
     pub pieces : List (Markup × List ℕ)
@@ -211,18 +212,18 @@ module _ (inner : Reader Kind Tree) where
       content_char c w next k tail (as_it_is e p) h = subst (λ (z : List ℕ). IsContent (z ++ next) (with_text_before (c ∷ []) k) tail) (sym e) (content_raw c next k tail p h)
       content_char c w next k tail (as_reference after e r) h = content_reference (w ++ next) after c next k tail (ap (λ (z : List ℕ). z ++ next) e) (r next) h
 
-  pub content_note : (x next : List ℕ) (k : Content) (tail : List ℕ) → is_comment x ≡ true → IsContent next k tail → IsContent (print_comment x ++ next) (note [] x k) tail
+  pub content_note : (x next : List ℕ) (k : Content) (tail : List ℕ) → is_comment x ≡ true → IsContent next k tail → IsContent (print_comment x ++ next) (comment_node [] x k) tail
   content_note x next k tail h i =
       let text : print_comment x ++ next ≡ comment_start ++ (x ++ 45 ∷ 45 ∷ 62 ∷ next) = ap (λ (z : List ℕ). comment_start ++ z) (append_assoc x (45 ∷ 45 ∷ 62 ∷ []) next) in
       let r = reads_comment x next h in
       let comment = reads_right (head_is (λ d. d == 38)) (read_valued Reference read_reference) refl (reads_right (starts (60 ∷ 33 ∷ 91 ∷ [])) (read_valued Section read_section) refl
       (reads_left (starts (60 ∷ 33 ∷ [])) _ refl (reads_valued Comment r))) in
       let n = length-append x (45 ∷ 45 ∷ 62 ∷ next) in
-      subst (λ (z : List ℕ). IsContent z (note [] x k) tail) (sym text)
-      (content_markup (comment_start ++ (x ++ 45 ∷ 45 ∷ 62 ∷ next)) 33 (45 ∷ 45 ∷ (x ++ 45 ∷ 45 ∷ 62 ∷ next)) (Comment x) next k tail refl refl comment (omega (arith, n)) i (note [] x k)
-      (λ first pieces s. pieces-note pieces x (last first) ∙ ap (λ (z : Content). note [] x z) s))
+      subst (λ (z : List ℕ). IsContent z (comment_node [] x k) tail) (sym text)
+      (content_markup (comment_start ++ (x ++ 45 ∷ 45 ∷ 62 ∷ next)) 33 (45 ∷ 45 ∷ (x ++ 45 ∷ 45 ∷ 62 ∷ next)) (Comment x) next k tail refl refl comment (omega (arith, n)) i (comment_node [] x k)
+      (λ first pieces s. pieces-comment_node pieces x (last first) ∙ ap (λ (z : Content). comment_node [] x z) s))
 
-  -- an element behind its `<` and the first character of its name
+  -- an element after its `<` and the first character of its name
   pub content_elem : (text : List ℕ) (d : ℕ) (y : List ℕ) (e : Tree) (next : List ℕ) (k : Content) (tail : List ℕ) → text ≡ 60 ∷ d ∷ y → is_name_start d ≡ true → Reads inner text e next → length next < length text
       → IsContent next k tail → IsContent text (more_of [] e k) tail
   content_elem text d y e next k tail at start r lt h =

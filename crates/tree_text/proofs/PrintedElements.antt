@@ -1,18 +1,18 @@
 -- Printed elements are read as what was printed.
 use Rattle.std.proofs.Common.{◌≡◌, ℕ, zero, suc, ◌+◌, ◌<◌, ◌≤◌, Bool, true, false, cond, List, [], ◌∷◌, ◌++◌, length, None, refl, sym, ap, subst, ◌∙◌, append_assoc, append-nil, flat_map, length-append, arith}
-use Rattle.grammar_rules.specs.Reading.{Reader}
+use Rattle.xml_grammar.specs.Reading.{Reader}
 use Rattle.xml_tree.specs.Characters.{is_name_start, is_space}
 use Rattle.xml_tree.specs.Edits.{with_text_before}
 use Rattle.xml_tree.specs.Print.{opening, ending, closing, is_empty, print, print_attr, print_content, print_decl, print_name, print_text, print_comment}
 use Rattle.xml_tree.specs.Proper.{IsTag, ProperIn}
 use Rattle.xml_tree.specs.inner.Proper.{Proper}
 use Rattle.xml_tree.specs.Scopes.{bound, xmlns_prefix}
-use Rattle.xml_tree.specs.Tree.{Content, last, more, note, Tree, tree_of, height, content_height}
+use Rattle.xml_tree.specs.Tree.{Content, last, more, comment_node, Tree, tree_of, height, content_height}
 use Rattle.xml_tree.specs.declared.names.Name.{Name}
 use Rattle.xml_tree.specs.declared.names.Decl.{Decl}
 use Rattle.xml_tree.specs.declared.names.Attr.{Attr}
 use Rattle.tree_text.specs.readers.Words.{end_start, greater}
-use Rattle.tree_text.specs.declared.kind.Kind.{Kind}
+use Rattle.tree_text.specs.declared.fault_kind.FaultKind.{FaultKind}
 use Rattle.tree_text.specs.Names.{decls_of, attrs_of, element_of, inside_tag as inside}
 use Rattle.tree_text.specs.Pieces.{StartTag, written, written_by}
 use Rattle.tree_text.specs.readers.Texts.{read_end_tag, read_behind_tag, read_element}
@@ -39,14 +39,14 @@ no_content : (k : Content) → is_empty k ≡ true → k ≡ last []
 no_content (last []) h = refl
 no_content (last (c ∷ cs)) h = absurd cc
 no_content (more t n ds ats k rest) h = absurd cc
-no_content (note t x rest) h = absurd cc
+no_content (comment_node t x rest) h = absurd cc
 
-module _ (levels depth : ℕ) (scope : List (List Decl)) (n : Name) (ds : List Decl) (ats : List Attr) (k : Content) (unbound : bound (scope ++ ds ∷ []) xmlns_prefix ≡ None) (tag : IsTag (scope ++ ds ∷ []) n ds ats)
+module _ (levels depth : ℕ) (scope : List (List Decl)) (n : Name) (ds : List Decl) (ats : List Attr) (k : Content) (unbound : bound (scope ++ ds ∷ []) xmlns_prefix ≡ None) (start_tag : IsTag (scope ++ ds ∷ []) n ds ats)
     (inside_read : (rest : List ℕ) → IsContent (read_element levels (scope ++ ds ∷ []) (depth + 1)) (print_content k ++ 60 ∷ 47 ∷ rest) k (60 ∷ 47 ∷ rest)) where
-  abbrev inner : List Decl → Reader Kind Tree
+  abbrev inner : List Decl → Reader FaultKind Tree
   inner decls = read_element levels (scope ++ decls ∷ []) (depth + 1)
 
-  -- what stands behind the tag
+  -- what follows the tag
   abbrev behind : Bool → List ℕ → List ℕ
   behind empty rest = cond empty rest ((print_content k ++ closing n) ++ rest)
 
@@ -60,11 +60,11 @@ module _ (levels depth : ℕ) (scope : List (List Decl)) (n : Name) (ds : List D
 
   by_empty : (empty : Bool) (rest : List ℕ) → is_empty k ≡ empty → Reads (read_element (suc levels) scope depth) (opening n ds ats ++ (tag_mark empty ++ behind empty rest)) (tree_of n ds ats k) rest
   by_empty empty rest e =
-      let t = tag_read scope n ds ats empty (behind empty rest) unbound tag in
-      let said = (tag_from n ds ats empty t.size).said in
+      let t = tag_read scope n ds ats empty (behind empty rest) unbound start_tag in
+      let raw_attribute = (tag_from n ds ats empty t.size).raw_attribute in
       let after = subst (λ (z : List Decl). Reads (read_behind_tag (inner z) n empty) (behind empty rest) k rest) (sym t.decls) (behind_read empty rest e) in
       let whole = reads_valued element_of (reads_sequence (λ (x : StartTag). read_behind_tag (read_element levels (inside scope x) (depth + 1)) x.name x.is_empty) t.read after) in
-      let same : tree_of n (decls_of said) (attrs_of said) k ≡ tree_of n ds ats k = ap (λ (z : List Decl). tree_of n z (attrs_of said) k) t.decls ∙ ap (λ (z : List Attr). tree_of n ds z k) t.attrs in
+      let same : tree_of n (decls_of raw_attribute) (attrs_of raw_attribute) k ≡ tree_of n ds ats k = ap (λ (z : List Decl). tree_of n z (attrs_of raw_attribute) k) t.decls ∙ ap (λ (z : List Attr). tree_of n ds z k) t.attrs in
       subst (λ (z : Tree). Reads (read_element (suc levels) scope depth) (opening n ds ats ++ (tag_mark empty ++ behind empty rest)) z rest) same whole
 
   ending_is : (empty : Bool) (rest : List ℕ) → (opening n ds ats ++ ending n empty (print_content k)) ++ rest ≡ opening n ds ats ++ (tag_mark empty ++ behind empty rest)
@@ -106,16 +106,16 @@ content_read (more t n ds ats k others) scope (suc levels) depth rest u h le =
   where
     filled : (n : Name) (ds : List Decl) (ats : List Attr) (rest : List ℕ) → 0 < length (opening n ds ats ++ rest)
     filled n ds ats rest = omega arith
-content_read (note t x others) scope levels depth rest u h le =
+content_read (comment_node t x others) scope levels depth rest u h le =
     let inner = read_element levels scope depth in
     let tail = 60 ∷ 47 ∷ rest in
     let after = print_content others ++ tail in
-    let all = content_text inner t (print_comment x ++ after) (note [] x others) tail h.0 (content_note inner x after others tail h.1 (content_read others scope levels depth rest u h.2 le)) in
-    let whole : print_content (note t x others) ++ tail ≡ print_text t ++ (print_comment x ++ after) = append_assoc (print_text t) (print_comment x ++ print_content others) tail ∙ ap (λ (z : List ℕ). print_text t ++ z) (append_assoc (print_comment x) (print_content others) tail) in
-    let joined : with_text_before t (note [] x others) ≡ note t x others = ap (λ (z : List ℕ). note z x others) (append-nil t) in
-    subst (λ (z : List ℕ). IsContent inner z (note t x others) tail) (sym whole) (subst (λ (z : Content). IsContent inner (print_text t ++ (print_comment x ++ after)) z tail) joined all)
+    let all = content_text inner t (print_comment x ++ after) (comment_node [] x others) tail h.0 (content_note inner x after others tail h.1 (content_read others scope levels depth rest u h.2 le)) in
+    let whole : print_content (comment_node t x others) ++ tail ≡ print_text t ++ (print_comment x ++ after) = append_assoc (print_text t) (print_comment x ++ print_content others) tail ∙ ap (λ (z : List ℕ). print_text t ++ z) (append_assoc (print_comment x) (print_content others) tail) in
+    let joined : with_text_before t (comment_node [] x others) ≡ comment_node t x others = ap (λ (z : List ℕ). comment_node z x others) (append-nil t) in
+    subst (λ (z : List ℕ). IsContent inner z (comment_node t x others) tail) (sym whole) (subst (λ (z : Content). IsContent inner (print_text t ++ (print_comment x ++ after)) z tail) joined all)
 
--- a proper element within the levels, whatever follows it
+-- a proper element within the level limit, whatever follows it
 pub print_read : (e : Tree) (scope : List (List Decl)) (levels depth : ℕ) (rest : List ℕ) → bound scope xmlns_prefix ≡ None → ProperIn scope e → height e ≤ levels → Reads (read_element levels scope depth) (print e ++ rest) e rest
 print_read e scope zero depth rest u h le = absurd (omega (arith, le))
 print_read e scope (suc levels) depth rest u h le =

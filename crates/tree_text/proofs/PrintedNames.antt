@@ -2,9 +2,9 @@
 use Rattle.std.proofs.Common.{◌≡◌, ℕ, Bool, true, false, List, [], ◌∷◌, ◌++◌, map, length, refl, sym, ap, subst, ◌∙◌, append_assoc, flat_map, eqb-true}
 use Rattle.std.specs.Prelude.{◌==◌, None, Some}
 use Rattle.std.specs.List.{list_all}
-use Rattle.grammar_rules.specs.Rules.{AllPass}
-use Rattle.grammar_rules.specs.Reading.{head_is, read_run, read_valued, read_word}
-use Rattle.grammar_rules.specs.readers.Functions.{read_empty, read_behind, read_quoted}
+use Rattle.xml_grammar.specs.Rules.{AllPass}
+use Rattle.xml_grammar.specs.Reading.{head_is, read_run, read_valued, read_word}
+use Rattle.xml_grammar.specs.readers.Functions.{read_empty, read_behind, read_quoted}
 use Rattle.xml_tree.specs.Characters.{is_char, is_space, is_name_start, is_name_char, is_name}
 use Rattle.xml_tree.specs.Print.{declaring, print_attr, print_decl, print_name, value_escape, quoted_text as quoted}
 use Rattle.xml_tree.specs.Proper.{is_prefix}
@@ -13,10 +13,10 @@ use Rattle.xml_tree.specs.declared.names.Name.{Name}
 use Rattle.xml_tree.specs.declared.names.Decl.{Decl}
 use Rattle.xml_tree.specs.declared.names.Attr.{Attr}
 use Rattle.tree_text.specs.readers.Words.{colon}
-use Rattle.tree_text.specs.declared.said.Said.{Said}
+use Rattle.tree_text.specs.declared.raw_attribute.RawAttribute.{RawAttribute}
 use Rattle.tree_text.specs.Grammar.{is_quote}
 use Rattle.tree_text.specs.Pieces.{qname_of}
-use Rattle.tree_text.specs.readers.Made.{said_of}
+use Rattle.tree_text.specs.readers.TagValues.{said_of}
 use Rattle.tree_text.specs.readers.Texts.{colon_follows, read_name, read_qname, read_equals, read_value, read_attribute, read_said, said_follows}
 use Rattle.tree_text.proofs.ReadFronts.{Reads, reads_sequence, reads_valued, reads_behind, reads_left, reads_right, reads_sized, reads_word, reads_one, reads_none, reads_name_of, reads_quoted, AllRead}
 use Rattle.tree_text.proofs.PrintedValues.{both, longer, reads_value}
@@ -27,7 +27,7 @@ pub all_pass : (p : ℕ → Bool) (cs : List ℕ) → list_all p cs ≡ true →
 all_pass p [] h = tt
 all_pass p (c ∷ cs) h = let k = both (p c) (list_all p cs) h in (k.0, all_pass p cs k.1)
 
--- nothing that goes on with a name stands here
+-- no character that would continue a name is here
 abbrev pub EndsName : List ℕ → Type 0
 EndsName rest = (head_is is_name_char rest ≡ false) × (colon_follows rest ≡ false)
 
@@ -65,8 +65,8 @@ printed_head n rest w = head_by n.prefix n.local rest w.prefix w.local
 
 -- ---- attributes
 
--- what an attribute is in its tag
-abbrev pub said_from : Attr → Said
+-- the raw attribute of an attribute in its tag
+abbrev pub said_from : Attr → RawAttribute
 said_from a = record { name = a.name; value = a.value; gap = 1; size = length (print_name a.name ++ 61 ∷ quoted a.value) }
 
 -- a name and a value that can be printed and read
@@ -96,7 +96,7 @@ reads_attribute a rest p =
     let text : (print_name a.name ++ 61 ∷ quoted a.value) ++ rest ≡ print_name a.name ++ 61 ∷ (34 ∷ (flat_map value_escape a.value ++ 34 ∷ rest)) = append_assoc (print_name a.name) (61 ∷ quoted a.value) rest ∙ ap (λ (z : List ℕ). print_name a.name ++ z) quotes in
     subst (λ (z : List ℕ). Reads read_attribute z (a.name, a.value) rest) (sym text) all
 
--- what stands behind a space in a tag
+-- what follows a space in a tag
 abbrev words : Attr → List ℕ
 words a = print_name a.name ++ 61 ∷ quoted a.value
 
@@ -132,7 +132,7 @@ reads_attrs (a ∷ ats) tail h e =
 
 -- ---- declarations
 
--- the name that declares a prefix, and the attribute that a declaration is in its tag
+-- the name that declares a prefix, and the raw attribute of a declaration in its tag
 abbrev pub declared_name : List ℕ → Name
 declared_name [] = record { prefix = []; local = xmlns_prefix }
 declared_name (c ∷ cs) = record { prefix = xmlns_prefix; local = c ∷ cs }

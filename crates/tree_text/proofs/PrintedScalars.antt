@@ -1,4 +1,4 @@
--- What is printed of a proper tree consists of scalar values, so it can be written as UTF-8.
+-- The print of a proper tree consists of scalar values, so it can be written as UTF-8.
 use Rattle.std.proofs.Common.{◌≡◌, ℕ, Bool, true, false, List, [], ◌∷◌, ◌++◌, map, refl, ap, ◌∙◌, flat_map, arith}
 use Rattle.std.specs.Prelude.{◌&&◌, ◌==◌, not}
 use Rattle.std.specs.List.{list_all, AllByRecursion}
@@ -9,7 +9,7 @@ use Rattle.xml_tree.specs.Comments.{is_kept_char, hyphens_apart, is_comment}
 use Rattle.xml_tree.specs.Print.{opening, ending, closing, is_empty, print, print_attr, print_comment, print_content, print_decl, print_name, print_text, text_escape, value_escape, quoted_text as quoted, header, document_print}
 use Rattle.xml_tree.specs.Proper.{is_prefix, IsTag, ProperIn}
 use Rattle.xml_tree.specs.inner.Proper.{Proper}
-use Rattle.xml_tree.specs.Tree.{Content, last, more, note, Tree}
+use Rattle.xml_tree.specs.Tree.{Content, last, more, comment_node, Tree}
 use Rattle.xml_tree.specs.declared.names.Name.{Name}
 use Rattle.xml_tree.specs.declared.names.Decl.{Decl}
 use Rattle.xml_tree.specs.declared.names.Attr.{Attr}
@@ -139,7 +139,7 @@ content_scalars scope (last t) h = letters t h
 content_scalars scope (more t n ds ats k rest) h =
     scalars-append (print_text t) _ (letters t h.0) (scalars-append (opening n ds ats ++ ending n (is_empty k) (print_content k)) (print_content rest)
     (elem_scalars (scope ++ ds ∷ []) n ds ats (is_empty k) (print_content k) h.1 (content_scalars (scope ++ ds ∷ []) k h.2)) (content_scalars scope rest h.3))
-content_scalars scope (note t x rest) h = scalars-append (print_text t) _ (letters t h.0) (scalars-append (print_comment x) (print_content rest) (comment_scalars x h.1) (content_scalars scope rest h.2))
+content_scalars scope (comment_node t x rest) h = scalars-append (print_text t) _ (letters t h.0) (scalars-append (print_comment x) (print_content rest) (comment_scalars x h.1) (content_scalars scope rest h.2))
 
 pub print_scalars : (scope : List (List Decl)) (e : Tree) → ProperIn scope e → scalars (print e) ≡ true
 print_scalars scope e h = elem_scalars (scope ++ e.decls ∷ []) e.name e.decls e.attrs (is_empty e.content) (print_content e.content) h.0 (content_scalars (scope ++ e.decls ∷ []) e.content h.1)

@@ -1,4 +1,5 @@
--- The printed tag of a proper element is read as what was printed, and nothing is wrong with its names.
+-- The printed tag of a proper element is read as what was printed, and nothing is wrong with its
+-- names.
 use Rattle.std.proofs.Common.{◌≡◌, ℕ, ◌+◌, ◌-◌, Bool, true, false, cond, List, [], ◌∷◌, ◌++◌, map, length, IsTrue, refl, sym, ap, subst, ◌∙◌, append_assoc, flat_map}
 use Rattle.std.specs.Prelude.{◌&&◌, ◌||◌, ◌≢◌, not, Option, None, IsSome, is_some}
 use Rattle.std.specs.List.{list_all, AllByRecursion, IsDistinct}
@@ -7,7 +8,7 @@ use Rattle.std.specs.Str.{bytes_eq}
 use Rattle.std.proofs.lemmas.Slice.Eq.{bytes_eq-Decides}
 use Rattle.std.proofs.lemmas.Map.Keys.{IsDistinct-head, IsDistinct-tail}
 use Rattle.xml_tree.specs.Characters.{is_char, is_space}
-use Rattle.xml_tree.specs.Expanded.{Expanded, attr_name, same_expanded}
+use Rattle.xml_tree.specs.Expanded.{ExpandedName, attr_name, same_expanded}
 use Rattle.xml_tree.specs.Print.{opening, print_attr, print_name}
 use Rattle.xml_tree.specs.Proper.{is_declaration, is_prefix, may_stand, IsAttribute, IsNamed, IsTag}
 use Rattle.xml_tree.specs.Scopes.{bound, declared, joined, some_text, xmlns_prefix}
@@ -15,22 +16,22 @@ use Rattle.xml_tree.specs.declared.names.Name.{Name}
 use Rattle.xml_tree.specs.declared.names.Decl.{Decl}
 use Rattle.xml_tree.specs.declared.names.Attr.{Attr}
 use Rattle.xml_tree.proofs.ScopesAlike.{bound-inner}
-use Rattle.grammar_rules.specs.Reading.{Reader}
-use Rattle.grammar_rules.specs.readers.Functions.{read_judged}
+use Rattle.xml_grammar.specs.Reading.{Reader}
+use Rattle.xml_grammar.specs.readers.Functions.{read_judged}
 use Rattle.tree_text.specs.readers.Words.{less}
-use Rattle.tree_text.specs.declared.kind.Kind.{Kind}
-use Rattle.tree_text.specs.declared.said.Said.{Said}
-use Rattle.tree_text.specs.Names.{decls_of, attrs_of, is_misnamed, says_again, is_repeated, said_decl as decl_of, is_declaring as declares, is_unbound_in as is_unbound}
+use Rattle.tree_text.specs.declared.fault_kind.FaultKind.{FaultKind}
+use Rattle.tree_text.specs.declared.raw_attribute.RawAttribute.{RawAttribute}
+use Rattle.tree_text.specs.Names.{decls_of, attrs_of, is_misnamed, says_again, is_repeated, raw_attribute_decl as decl_of, is_declaring as declares, is_unbound_in as is_unbound}
 use Rattle.tree_text.specs.readers.Judging.{wrong_said, first_wrong, first_of_tag, counted_back, tag_fault}
 use Rattle.tree_text.specs.Names as names
 use Rattle.tree_text.specs.Pieces.{StartTag}
-use Rattle.tree_text.specs.readers.Made.{tag_of}
+use Rattle.tree_text.specs.readers.TagValues.{start_tag_of}
 use Rattle.tree_text.specs.readers.Texts.{read_spaces, read_said, said_follows, read_tag_end, read_tag}
 use Rattle.tree_text.proofs.ReadFronts.{Reads, reads_sequence, reads_valued, reads_before, reads_behind, reads_judged, sized_by, reads_word, reads_none, reads_many}
 use Rattle.tree_text.proofs.PrintedValues.{not_true}
 use Rattle.tree_text.proofs.PrintedNames.{EndsName, reads_qname, said_from, ArePrinted, reads_attrs, declared_name, attr_for, as_attrs, decl_printed}
 
--- ---- what a proper tag says of its names
+-- ---- what a proper tag implies for its names
 
 three_true : (a b c : Bool) → a && b && c ≡ true → (a ≡ true) × (b ≡ true) × (c ≡ true)
 three_true true true true h = (refl, refl, refl)
@@ -97,7 +98,7 @@ declares_for : (p : List ℕ) → declares (declared_name p) ≡ true
 declares_for [] = refl
 declares_for (c ∷ cs) = refl
 
-abbrev said_all : List Decl → List Attr → List Said
+abbrev said_all : List Decl → List Attr → List RawAttribute
 said_all ds ats = map said_from (map attr_for ds ++ ats)
 
 decl_back : (d : Decl) → decl_of (said_from (attr_for d)) ≡ d
@@ -125,23 +126,23 @@ attrs_back (d ∷ ds) ats h = rw (declares_for d.prefix) (attrs_back ds ats h)
 -- ---- nothing is wrong with the names
 
 module _ (here : List (List Decl)) where
-  -- no name says again what one before it says
-  abbrev Apart : List Said → Type 0
+  -- no name repeats the meaning of an earlier one
+  abbrev Apart : List RawAttribute → Type 0
   Apart [] = Unit {0}
-  Apart (e ∷ ss) = AllByRecursion (λ (s : Said). says_again here s e ≡ false) ss × Apart ss
+  Apart (e ∷ ss) = AllByRecursion (λ (s : RawAttribute). says_again here s e ≡ false) ss × Apart ss
 
-  abbrev WellNamed : List Said → Type 0
-  WellNamed ss = AllByRecursion (λ (s : Said). is_misnamed here s ≡ false) ss
+  abbrev WellNamed : List RawAttribute → Type 0
+  WellNamed ss = AllByRecursion (λ (s : RawAttribute). is_misnamed here s ≡ false) ss
 
-  at_place : (P : Said → Type 0) (front : List Said) (s : Said) (back : List Said) → AllByRecursion P (front ++ s ∷ back) → P s
+  at_place : (P : RawAttribute → Type 0) (front : List RawAttribute) (s : RawAttribute) (back : List RawAttribute) → AllByRecursion P (front ++ s ∷ back) → P s
   at_place P [] s back h = h.0
   at_place P (e ∷ front) s back h = at_place P front s back h.1
 
-  none_before : (front : List Said) (s : Said) (back : List Said) → Apart (front ++ s ∷ back) → is_repeated here front s ≡ false
+  none_before : (front : List RawAttribute) (s : RawAttribute) (back : List RawAttribute) → Apart (front ++ s ∷ back) → is_repeated here front s ≡ false
   none_before [] s back h = refl
-  none_before (e ∷ front) s back h = rw (at_place (λ (z : Said). says_again here z e ≡ false) front s back h.0) (none_before front s back h.1)
+  none_before (e ∷ front) s back h = rw (at_place (λ (z : RawAttribute). says_again here z e ≡ false) front s back h.0) (none_before front s back h.1)
 
-  none_wrong : (front ss : List Said) (at : ℕ) → Apart (front ++ ss) → WellNamed ss → first_wrong here front at ss ≡ None
+  none_wrong : (front ss : List RawAttribute) (at : ℕ) → Apart (front ++ ss) → WellNamed ss → first_wrong here front at ss ≡ None
   none_wrong front [] at h w = refl
   none_wrong front (s ∷ ss) at h w =
       let r = none_before front s ss h in
@@ -161,8 +162,8 @@ module _ (here : List (List Decl)) where
   attrs_apart : (e a : Attr) → declares e.name ≡ false → declares a.name ≡ false → same_expanded (attr_name here e.name) (attr_name here a.name) ≡ false → says_again here (said_from a) (said_from e) ≡ false
   attrs_apart e a m n h = rw n (rw m h)
 
-  apart_from_attr : (e : Attr) (ats : List Attr) → declares e.name ≡ false → Others ats → AllByRecursion (λ (x : Expanded). same_expanded (attr_name here e.name) x ≡ false) (map (λ (a : Attr). attr_name here a.name) ats)
-      → AllByRecursion (λ (s : Said). says_again here s (said_from e) ≡ false) (map said_from ats)
+  apart_from_attr : (e : Attr) (ats : List Attr) → declares e.name ≡ false → Others ats → AllByRecursion (λ (x : ExpandedName). same_expanded (attr_name here e.name) x ≡ false) (map (λ (a : Attr). attr_name here a.name) ats)
+      → AllByRecursion (λ (s : RawAttribute). says_again here s (said_from e) ≡ false) (map said_from ats)
   apart_from_attr e [] m n h = tt
   apart_from_attr e (a ∷ ats) m n h = (attrs_apart e a m n.0 h.0, apart_from_attr e ats m n.1 h.1)
 
@@ -173,12 +174,12 @@ module _ (here : List (List Decl)) where
       let xs = map (λ (z : Attr). attr_name here z.name) ats in
       (apart_from_attr a ats n.0 n.1 (IsDistinct-head same_expanded x xs h), apart_attrs ats n.1 (IsDistinct-tail same_expanded x xs h))
 
-  attrs_from_decl : (e : Decl) (ats : List Attr) → Others ats → AllByRecursion (λ (s : Said). says_again here s (said_from (attr_for e)) ≡ false) (map said_from ats)
+  attrs_from_decl : (e : Decl) (ats : List Attr) → Others ats → AllByRecursion (λ (s : RawAttribute). says_again here s (said_from (attr_for e)) ≡ false) (map said_from ats)
   attrs_from_decl e [] n = tt
   attrs_from_decl e (a ∷ ats) n = (attr_apart e a n.0, attrs_from_decl e ats n.1)
 
   apart_from_decl : (e : Decl) (ds : List Decl) (ats : List Attr) → Others ats → AllByRecursion (λ (p : List ℕ). bytes_eq e.prefix p ≡ false) (map (λ (d : Decl). d.prefix) ds)
-      → AllByRecursion (λ (s : Said). says_again here s (said_from (attr_for e)) ≡ false) (said_all ds ats)
+      → AllByRecursion (λ (s : RawAttribute). says_again here s (said_from (attr_for e)) ≡ false) (said_all ds ats)
   apart_from_decl e [] ats n h = attrs_from_decl e ats n
   apart_from_decl e (d ∷ ds) ats n h = (decl_apart e d h.0, apart_from_decl e ds ats n h.1)
 
@@ -208,9 +209,9 @@ module _ (here : List (List Decl)) where
 
 -- ---- the tag as it is read
 
--- the tag of these, of so many characters
+-- the tag of these raw attributes, with this many characters
 abbrev pub tag_from : Name → List Decl → List Attr → Bool → ℕ → StartTag
-tag_from n ds ats empty size = record { name = n; said = said_all ds ats; is_empty = empty; size = size }
+tag_from n ds ats empty size = record { name = n; raw_attribute = said_all ds ats; is_empty = empty; size = size }
 
 -- `/>` or `>`
 abbrev pub tag_mark : Bool → List ℕ
@@ -256,7 +257,7 @@ no_space : (empty : Bool) (rest : List ℕ) → Reads read_spaces (tag_mark empt
 no_space true rest = reads_none is_space (47 ∷ 62 ∷ rest) refl
 no_space false rest = reads_none is_space (62 ∷ rest) refl
 
-abbrev pub read_judged_tag : List (List Decl) → Reader Kind StartTag
+abbrev pub read_judged_tag : List (List Decl) → Reader FaultKind StartTag
 read_judged_tag scope = read_judged (tag_fault scope) read_tag
 
 abbrev tag_text : Name → List Decl → List Attr → Bool → List ℕ → List ℕ
@@ -272,10 +273,10 @@ module _ (scope : List (List Decl)) (n : Name) (ds : List Decl) (ats : List Attr
       let all = map attr_for ds ++ ats in
       let mark = tag_mark empty ++ rest in
       let printed = printed_all (scope ++ ds ∷ []) ds ats h.declarations h.attributes in
-      let said = reads_many said_follows read_said (map said_from all) (flat_map print_attr all ++ mark) mark (reads_attrs all mark printed (mark_follows empty rest)) in
-      let behind_name = reads_sequence (λ _. read_tag_end) (reads_before said (no_space empty rest)) (reads_mark empty rest) in
+      let raw_attribute = reads_many said_follows read_said (map said_from all) (flat_map print_attr all ++ mark) mark (reads_attrs all mark printed (mark_follows empty rest)) in
+      let behind_name = reads_sequence (λ _. read_tag_end) (reads_before raw_attribute (no_space empty rest)) (reads_mark empty rest) in
       let name = reads_qname n (flat_map print_attr all ++ mark) (record { prefix = h.named.prefix; local = h.named.local }) (ends_name all mark (mark_ends empty rest)) in
-      reads_valued tag_of (sized_by _ refl (reads_behind (reads_word less (print_name n ++ (flat_map print_attr all ++ mark))) (reads_sequence _ name behind_name)))
+      reads_valued start_tag_of (sized_by _ refl (reads_behind (reads_word less (print_name n ++ (flat_map print_attr all ++ mark))) (reads_sequence _ name behind_name)))
 
   text_is : tag_text n ds ats empty rest ≡ 60 ∷ (print_name n ++ (flat_map print_attr (map attr_for ds ++ ats) ++ (tag_mark empty ++ rest)))
   text_is = ap (λ (z : List ℕ). 60 ∷ ((print_name n ++ z) ++ (tag_mark empty ++ rest))) (as_attrs ds ats) ∙ ap (λ (z : List ℕ). 60 ∷ z) (append_assoc (print_name n) (flat_map print_attr (map attr_for ds ++ ats)) (tag_mark empty ++ rest))

@@ -1,13 +1,14 @@
--- Printed documents, elements and bodies are read as what was printed, and so the grammar says that they spell it.
+-- Printed documents, elements and bodies are read as what was printed, so by the grammar they
+-- spell it.
 use Rattle.std.proofs.Common.{◌≡◌, ℕ, ◌+◌, ◌<◌, ◌≤◌, Bool, true, false, List, [], ◌∷◌, ◌++◌, inl, inr, Result, Ok, Err, Option, None, encode_utf8_all, refl, sym, ap, subst, ◌∙◌, append-nil, arith}
 use Rattle.std.specs.Prelude.{◌==◌, unwrap_or}
 use Rattle.std.specs.List.{list_all}
 use Rattle.std.specs.Str.{chars, is_utf8}
 use Rattle.std.proofs.lemmas.Str.{chars-encodes, is_utf8-from_IsUtf8}
 use lib.Utf8.{scalars}
-use Rattle.grammar_rules.specs.Reading.{Stop, Syntax, Faulty, Reader}
-use Rattle.grammar_rules.specs.readers.Functions.{read_whole}
-use Rattle.grammar_rules.specs.Answers.{Answers, IsSpelled}
+use Rattle.xml_grammar.specs.Reading.{Stop, Syntax, Faulty, Reader}
+use Rattle.xml_grammar.specs.readers.Functions.{read_whole}
+use Rattle.xml_grammar.specs.Answers.{Answers, IsSpelled}
 use Rattle.xml_tree.specs.Characters.{is_char, is_space, is_name_start}
 use Rattle.xml_tree.specs.Print.{print, ending, is_empty, print_content, header, document_print}
 use Rattle.xml_tree.specs.Proper.{ProperIn}
@@ -16,10 +17,10 @@ use Rattle.xml_tree.specs.Tree.{Tree, height}
 use Rattle.xml_tree.specs.declared.names.Decl.{Decl}
 use Rattle.tree_text.specs.declared.fault.TextFault.{TextFault}
 use Rattle.tree_text.specs.declared.fault.ValueFault.{ValueFault}
-use Rattle.tree_text.specs.declared.kind.Kind.{Kind}
-use Rattle.tree_text.specs.Faults.{body_told, in_quotes, spelling_of, TextAnswer, BodyAnswer, text_told as told}
+use Rattle.tree_text.specs.declared.fault_kind.FaultKind.{FaultKind}
+use Rattle.tree_text.specs.Faults.{body_result, in_quotes, spelling_of, TextAnswer, BodyAnswer, text_result as told}
 use Rattle.tree_text.specs.Grammar.{document, spelling}
-use Rattle.tree_text.specs.Kinds.{faults}
+use Rattle.tree_text.specs.FaultKinds.{faults}
 use Rattle.tree_text.specs.Printing.{body_escape, body_print}
 use Rattle.tree_text.specs.readers.Texts.{read_mark_if, read_declaration_if, read_spaces, read_dropped, misc_follows, read_prolog_misc, read_prolog, read_epilog, read_element, read_text, read_spelling}
 use Rattle.tree_text.specs.readers.Whole.{text_read, body_read}
@@ -30,7 +31,7 @@ use Rattle.tree_text.proofs.PrintedContent.{no_mark}
 use Rattle.tree_text.proofs.PrintedElements.{element_head, print_read}
 use Rattle.tree_text.proofs.PrintedScalars.{print_scalars, document_scalars, body_print_scalars}
 
--- ---- what stands before the root element, whose first characters these are
+-- ---- what comes before the root element, which begins with these characters
 
 module _ (d : ℕ) (y : List ℕ) (start : is_name_start d ≡ true) where
   no_misc : misc_follows (60 ∷ d ∷ y) ≡ false
@@ -57,7 +58,7 @@ declaration_read rest = record { read = refl }
 
 -- ---- elements and documents, as characters
 
-whole : {A : Type 0} {p : Reader Kind A} {text : List ℕ} {a : A} → Reads p text a [] → read_whole p text ≡ Ok a
+whole : {A : Type 0} {p : Reader FaultKind A} {text : List ℕ} {a : A} → Reads p text a [] → read_whole p text ≡ Ok a
 whole h = rw h.read refl
 
 module _ (limit : ℕ) (scope : List (List Decl)) (e : Tree) (unbound : bound scope xmlns_prefix ≡ None) (proper : ProperIn scope e) (fits : height e ≤ limit) where
@@ -99,7 +100,7 @@ module _ (limit : ℕ) (scope : List (List Decl)) (text : List ℕ) (e : Tree) (
       let utf8 : is_utf8 (encode_utf8_all text) ≡ true = is_utf8-from_IsUtf8 (encode_utf8_all text) (text, (valid, refl)) in
       rw utf8 (ap (told (encode_utf8_all text)) (ap (read_whole (read_text limit scope)) decoded ∙ whole read))
 
-  stated_spelled : (n : ℕ) (stated : Result Tree (Stop Kind)) → limit + 1 < n → ((m : ℕ) → limit + 1 < m → Answers (faults limit) (document m scope) (chars (encode_utf8_all text)) stated)
+  stated_spelled : (n : ℕ) (stated : Result Tree (Stop FaultKind)) → limit + 1 < n → ((m : ℕ) → limit + 1 < m → Answers (faults limit) (document m scope) (chars (encode_utf8_all text)) stated)
       → (let answer : Result Tree TextFault = Ok e in answer ≡ told (encode_utf8_all text) stated) → IsSpelled (faults limit) (document n scope) text e
   stated_spelled n (Ok t) larger h s =
       let same : e ≡ t = cc in
@@ -113,7 +114,7 @@ module _ (limit : ℕ) (scope : List (List Decl)) (text : List ℕ) (e : Tree) (
   bytes_spelled : (n : ℕ) → limit + 1 < n → IsSpelled (faults limit) (document n scope) text e
   bytes_spelled n larger = answer_spelled n larger (subst (TextAnswer limit scope (encode_utf8_all text)) bytes_read (text_answer limit scope (encode_utf8_all text)))
 
--- what a text that is read is told by
+-- the result for a text that is read
 pub record IsRead (limit : ℕ) (scope : List (List Decl)) (text : List ℕ) (e : Tree) : Type 0 where
   pub read : text_read limit scope (encode_utf8_all text) ≡ Ok e
   pub spelled : (n : ℕ) → limit + 1 < n → IsSpelled (faults limit) (document n scope) text e
@@ -160,10 +161,10 @@ body_is_read value h =
     let utf8 : is_utf8 (encode_utf8_all text) ≡ true = is_utf8-from_IsUtf8 (encode_utf8_all text) (text, (valid, refl)) in
     let decoded : chars (encode_utf8_all text) ≡ text = chars-encodes text valid in
     let part : spelling_of (chars (encode_utf8_all text)) ≡ text = ap spelling_of decoded ∙ ap (λ (z : Option (List ℕ)). unwrap_or z text) (no_quotes value) in
-    rw utf8 (ap (body_told (chars (encode_utf8_all text)) (encode_utf8_all text)) (ap (read_whole read_spelling) part ∙ body_whole value h))
+    rw utf8 (ap (body_result (chars (encode_utf8_all text)) (encode_utf8_all text)) (ap (read_whole read_spelling) part ∙ body_whole value h))
 
-body_by : (value : List ℕ) (stated : Result (List ℕ) (Stop Kind)) → Answers (faults 0) spelling (spelling_of (chars (encode_utf8_all (body_print value)))) stated
-    → (let answer : Result (List ℕ) ValueFault = Ok value in answer ≡ body_told (chars (encode_utf8_all (body_print value))) (encode_utf8_all (body_print value)) stated) → scalars (body_print value) ≡ true → IsSpelled (faults 0) spelling (body_print value) value
+body_by : (value : List ℕ) (stated : Result (List ℕ) (Stop FaultKind)) → Answers (faults 0) spelling (spelling_of (chars (encode_utf8_all (body_print value)))) stated
+    → (let answer : Result (List ℕ) ValueFault = Ok value in answer ≡ body_result (chars (encode_utf8_all (body_print value))) (encode_utf8_all (body_print value)) stated) → scalars (body_print value) ≡ true → IsSpelled (faults 0) spelling (body_print value) value
 body_by value (Ok v) h s valid =
     let same : value ≡ v = cc in
     let text = body_print value in
@@ -172,7 +173,7 @@ body_by value (Ok v) h s valid =
     subst (λ (z : List ℕ). IsSpelled (faults 0) spelling z value) part (subst (λ (z : List ℕ). IsSpelled (faults 0) spelling (spelling_of (chars (encode_utf8_all text))) z) (sym same) h)
 body_by value (Err stop) h s valid = absurd (no_value stop s)
   where
-    no_value : (stop : Stop Kind) → (let answer : Result (List ℕ) ValueFault = Ok value in answer ≡ body_told (chars (encode_utf8_all (body_print value))) (encode_utf8_all (body_print value)) (Err stop)) → ⊥
+    no_value : (stop : Stop FaultKind) → (let answer : Result (List ℕ) ValueFault = Ok value in answer ≡ body_result (chars (encode_utf8_all (body_print value))) (encode_utf8_all (body_print value)) (Err stop)) → ⊥
     no_value (Syntax left) s = absurd cc
     no_value (Faulty kind left) s = absurd cc
 

@@ -2,10 +2,10 @@
 use Rattle.std.proofs.Common.{◌≡◌, ℕ, ◌<◌, Bool, true, false, List, [], ◌∷◌, ◌++◌, length, refl, sym, ap, subst, ◌∙◌, append_assoc, flat_map, eqb-true, length-append, arith}
 use Rattle.std.specs.Prelude.{◌&&◌, ◌||◌, ◌==◌, not}
 use Rattle.std.specs.List.{list_all}
-use Rattle.grammar_rules.specs.Reading.{Reader, head_is, read_run}
+use Rattle.xml_grammar.specs.Reading.{Reader, head_is, read_run}
 use Rattle.xml_tree.specs.Characters.{is_char}
 use Rattle.xml_tree.specs.Print.{text_escape, value_escape}
-use Rattle.tree_text.specs.declared.kind.Kind.{Kind}
+use Rattle.tree_text.specs.declared.fault_kind.FaultKind.{FaultKind}
 use Rattle.tree_text.specs.Printing.{body_escape}
 use Rattle.tree_text.specs.Grammar.{is_raw, is_raw_in}
 use Rattle.tree_text.specs.readers.Texts.{read_reference, reference_follows, read_value, read_whole_reference, read_spelling}
@@ -21,12 +21,12 @@ pub not_true : (b : Bool) → not b ≡ true → b ≡ false
 not_true true h = absurd cc
 not_true false h = refl
 
--- ---- what stands for a character in a print: itself, where it may stand raw, or a reference
+-- ---- the print of a character: itself, where it is allowed raw, or a reference
 pub data Stands (plain : ℕ → Bool) (c : ℕ) (w : List ℕ) : Type 0 where
   as_it_is : w ≡ c ∷ [] → plain c ≡ true → Stands plain c w
   as_reference : (after : List ℕ) → w ≡ 38 ∷ after → ((rest : List ℕ) → Reads read_reference (w ++ rest) c rest) → Stands plain c w
 
--- raw in a text, and neither read as another character nor part of what may not stand in a text
+-- raw in a text, and neither read as another character nor part of what a text can't contain
 abbrev pub plain_text : ℕ → Bool
 plain_text c = is_raw c && (not (c == 13) && not (c == 62))
 
@@ -77,7 +77,7 @@ body_stands c char = by (c == 38) refl (c == 60) refl (c == 34) refl (c == 39) r
 pub longer : (text after next : List ℕ) (c : ℕ) → text ≡ (c ∷ after) ++ next → length next < length text
 longer text after next c e = let n = ap length e in let m = length-append after next in omega (arith, n, m)
 
-module _ (stands : ℕ → Bool) (reference : Reader Kind ℕ) where
+module _ (stands : ℕ → Bool) (reference : Reader FaultKind ℕ) where
   -- a text is read as this value, up to a tail
   pub record IsValue (text value tail : List ℕ) : Type 0 where
     pub first : List ℕ
@@ -124,7 +124,7 @@ reads_value value rest h =
     let v = printed_value (is_raw_in 34) read_reference refl (λ text rest c k. k) value_escape value_stands value (34 ∷ rest) h (value_none (is_raw_in 34) read_reference (34 ∷ rest) refl refl) in
     subst (λ (z : List ℕ). Reads (read_value 34) (flat_map value_escape value ++ 34 ∷ rest) z (34 ∷ rest)) v.spelled (reads_valued value_of (reads_between v.between))
 
--- the whole of a body
+-- a whole body
 pub reads_spelling : (value : List ℕ) → list_all is_char value ≡ true → Reads read_spelling (flat_map body_escape value ++ []) value []
 reads_spelling value h =
     let v = printed_value is_raw read_whole_reference refl (λ text rest c k. reads_atomic k) body_escape body_stands value [] h (value_none is_raw read_whole_reference [] refl refl) in

@@ -3,24 +3,24 @@ use Rattle.std.proofs.Common.{◌≡◌, ℕ, true, List, [], ◌∷◌, Result,
 use Rattle.std.specs.Prelude.{IfOk, IsTrue}
 use Rattle.std.specs.Str.{chars}
 use Rattle.xml_tree.specs.Characters.{is_char, all_chars}
-use Rattle.grammar_rules.specs.Rules.{AllPass, Each, run, sequence, atomic}
-use Rattle.grammar_rules.specs.Reading.{Stop, Syntax, Faulty}
-use Rattle.grammar_rules.specs.Answers.{Answers}
-use Rattle.grammar_rules.proofs.Fronts.{pass_append}
-use Rattle.tree_text.specs.declared.kind.Kind.{Kind}
+use Rattle.xml_grammar.specs.Rules.{AllPass, Each, run, sequence, atomic}
+use Rattle.xml_grammar.specs.Reading.{Stop, Syntax, Faulty}
+use Rattle.xml_grammar.specs.Answers.{Answers}
+use Rattle.xml_grammar.proofs.Fronts.{pass_append}
+use Rattle.tree_text.specs.declared.fault_kind.FaultKind.{FaultKind}
 use Rattle.tree_text.specs.declared.fault.ValueFault.{ValueFault}
 use Rattle.xml_tree.specs.declared.read_error.ReadError.{ReadError}
-use Rattle.tree_text.specs.Kinds.{faults}
+use Rattle.tree_text.specs.FaultKinds.{faults}
 use Rattle.tree_text.specs.Pieces.{line_ends, raw, more_value}
 use Rattle.tree_text.specs.Grammar.{is_raw, reference, spelling}
-use Rattle.tree_text.specs.Faults.{spelling_of, body_told, BodyAnswer}
+use Rattle.tree_text.specs.Faults.{spelling_of, body_result, BodyAnswer}
 use Rattle.xml_tree.specs.Memory.{Answered}
 use Rattle.tree_text.proofs.ProperTags.{weaker, pass_all, raw_char, lines_chars, blanks_chars, reference_char}
 
 raw_chars : (cs : List ℕ) → AllPass is_raw cs → AllPass is_char (raw cs)
 raw_chars cs h = blanks_chars (line_ends cs) (lines_chars cs (weaker is_raw is_char raw_char cs h))
 
-more_chars : (xs : List (ℕ × List ℕ)) (v : List ℕ) → Each (sequence (atomic reference) (λ _. run {Kind = Kind} is_raw)) xs v → AllPass is_char (more_value xs)
+more_chars : (xs : List (ℕ × List ℕ)) (v : List ℕ) → Each (sequence (atomic reference) (λ _. run {Kind = FaultKind} is_raw)) xs v → AllPass is_char (more_value xs)
 more_chars [] v m = tt
 more_chars ((c, cs) ∷ xs) v m =
     let k = m.front_is in
@@ -29,7 +29,7 @@ more_chars ((c, cs) ∷ xs) v m =
 spelling_chars : (u cs : List ℕ) → spelling.Spells u cs → AllPass is_char cs
 spelling_chars u cs m = subst (AllPass is_char) (sym m.2) (pass_append is_char (raw m.0.0) (more_value m.0.1) (raw_chars m.0.0 (subst (AllPass is_raw) (sym m.1.front_is.1) m.1.front_is.0)) (more_chars m.0.1 m.1.back m.1.back_is))
 
-stated_chars : (bytes value : List ℕ) (stated : Result (List ℕ) (Stop Kind)) → Answers (faults 0) spelling (spelling_of (chars bytes)) stated → (let answer : Result (List ℕ) ValueFault = Ok value in answer ≡ body_told (chars bytes) bytes stated) → all_chars value ≡ true
+stated_chars : (bytes value : List ℕ) (stated : Result (List ℕ) (Stop FaultKind)) → Answers (faults 0) spelling (spelling_of (chars bytes)) stated → (let answer : Result (List ℕ) ValueFault = Ok value in answer ≡ body_result (chars bytes) bytes stated) → all_chars value ≡ true
 stated_chars bytes value (Ok v) h e = let i : value ≡ v = cc in ap all_chars i ∙ pass_all is_char v (spelling_chars (spelling_of (chars bytes)) v h.spelled)
 stated_chars bytes value (Err (Syntax left)) h e = absurd cc
 stated_chars bytes value (Err (Faulty kind left)) h e = absurd cc

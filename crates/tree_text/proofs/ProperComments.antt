@@ -1,24 +1,24 @@
--- The inside of a comment, as it is spelled, may stand in a tree.
+-- The inside of a comment, as spelled, may occur in a tree.
 use Rattle.std.proofs.Common.{◌≡◌, ℕ, true, List, [], Result, Ok, Err, refl, sym, ap, ◌∙◌}
 use Rattle.std.proofs.lemmas.List.{append-nil}
 use Rattle.xml_tree.specs.Characters.{is_char}
 use Rattle.xml_tree.specs.Comments.{is_comment}
-use Rattle.grammar_rules.specs.Rules.{up_to}
-use Rattle.grammar_rules.specs.Reading.{Stop, Syntax, Faulty}
-use Rattle.grammar_rules.specs.readers.Functions.{read_up_to}
-use Rattle.grammar_rules.proofs.Exact.{Outcome, Exact}
-use Rattle.grammar_rules.proofs.Closed.{anything}
-use Rattle.grammar_rules.proofs.UpTo.{exact_up_to}
+use Rattle.xml_grammar.specs.Rules.{up_to}
+use Rattle.xml_grammar.specs.Reading.{Stop, Syntax, Faulty}
+use Rattle.xml_grammar.specs.readers.Functions.{read_up_to}
+use Rattle.xml_grammar.proofs.Exact.{Outcome, Exact}
+use Rattle.xml_grammar.proofs.Closed.{anything}
+use Rattle.xml_grammar.proofs.UpTo.{exact_up_to}
 use Rattle.tree_text.specs.readers.Words.{dashes}
-use Rattle.tree_text.specs.declared.kind.Kind.{Kind}
-use Rattle.tree_text.specs.Kinds.{faults}
+use Rattle.tree_text.specs.declared.fault_kind.FaultKind.{FaultKind}
+use Rattle.tree_text.specs.FaultKinds.{faults}
 use Rattle.tree_text.specs.Pieces.{line_ends}
 use Rattle.tree_text.specs.Grammar.{comment}
 use Rattle.tree_text.proofs.CommentLemmas.{read_is_comment}
 use Rattle.tree_text.proofs.ReadTexts.{some_dashes, dashes_chars}
 
 -- what is spelled up to the hyphens is read
-by_reading : (text cs : List ℕ) → (up_to {Kind = Kind} is_char dashes).Spells text cs → (out : Result (List ℕ × List ℕ) (Stop Kind)) → read_up_to {Kind = Kind} is_char dashes text ≡ out
+by_reading : (text cs : List ℕ) → (up_to {Kind = FaultKind} is_char dashes).Spells text cs → (out : Result (List ℕ × List ℕ) (Stop FaultKind)) → read_up_to {Kind = FaultKind} is_char dashes text ≡ out
     → Outcome (faults 0) (up_to is_char dashes) (λ _. anything) text out → is_comment (line_ends cs) ≡ true
 by_reading text cs m (Ok x) e h = let o = h.unique text [] cs (sym (append-nil text)) m tt in ap (λ (z : List ℕ). is_comment (line_ends z)) o.1 ∙ read_is_comment text x e
 by_reading text cs m (Err (Syntax left)) e h = absurd (h.none text [] cs (sym (append-nil text)) m tt)

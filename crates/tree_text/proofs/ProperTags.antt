@@ -9,16 +9,16 @@ use Rattle.xml_tree.specs.Expanded.{attr_name, same_expanded}
 use Rattle.xml_tree.specs.Proper.{is_prefix, may_stand, is_declaration, IsNamed, IsAttribute, IsTag}
 use Rattle.xml_tree.specs.declared.names.Name.{Name}
 use Rattle.xml_tree.specs.declared.names.Decl.{Decl}
-use Rattle.grammar_rules.specs.Digits.{decimal_digits, hexadecimal}
-use Rattle.grammar_rules.specs.Rules.{AllPass, Each, word, run, number, sequence, either, optional, keeping_second}
-use Rattle.grammar_rules.proofs.Fronts.{pass_append}
+use Rattle.xml_grammar.specs.Digits.{decimal_digits, hexadecimal}
+use Rattle.xml_grammar.specs.Rules.{AllPass, Each, word, run, number, sequence, either, optional, keeping_second}
+use Rattle.xml_grammar.proofs.Fronts.{pass_append}
 use Rattle.tree_text.specs.readers.Words.{colon, small_x}
-use Rattle.tree_text.specs.declared.kind.Kind.{Kind}
-use Rattle.tree_text.specs.declared.kind.Kind.TheVariants.{Unbound, Repeated}
-use Rattle.tree_text.specs.declared.said.Said.{Said}
+use Rattle.tree_text.specs.declared.fault_kind.FaultKind.{FaultKind}
+use Rattle.tree_text.specs.declared.fault_kind.FaultKind.TheVariants.{Unbound, Repeated}
+use Rattle.tree_text.specs.declared.raw_attribute.RawAttribute.{RawAttribute}
 use Rattle.tree_text.specs.Pieces.{StartTag, qname_of, line_ends, blanks, raw, more_value}
-use Rattle.tree_text.specs.Names.{said_attr, decls_of, attrs_of, is_misnamed, says_again, is_repeated, widths, IsWrong, inside_tag as inside, opening_size as opening, said_decl as decl_of, is_declaring as declares, is_unbound_in as is_unbound}
-use Rattle.tree_text.specs.Grammar.{last_char, name, qname, reference, char_ref, entity, is_raw, is_raw_in, value, said, tag}
+use Rattle.tree_text.specs.Names.{said_attr, decls_of, attrs_of, is_misnamed, says_again, is_repeated, widths, IsWrong, inside_tag as inside, opening_size as opening, raw_attribute_decl as decl_of, is_declaring as declares, is_unbound_in as is_unbound}
+use Rattle.tree_text.specs.Grammar.{last_char, name, qname, reference, char_ref, entity, is_raw, is_raw_in, value, raw_attribute, start_tag}
 use Rattle.tree_text.proofs.JudgeTags.{widths_parts, tag_sizes}
 
 pub join : (a b : Bool) → a ≡ true → b ≡ true → a && b ≡ true
@@ -47,7 +47,7 @@ record IsQName (n : Name) : Type 0 where
   prefix : is_prefix n.prefix ≡ true
   local : is_name n.local ≡ true
 
-qname_by_rest : (f v : List ℕ) (o : Option (List ℕ)) → is_name f ≡ true → (optional (keeping_second (word {Kind = Kind} colon) name)).Spells v o → IsQName (qname_of (f, o))
+qname_by_rest : (f v : List ℕ) (o : Option (List ℕ)) → is_name f ≡ true → (optional (keeping_second (word {Kind = FaultKind} colon) name)).Spells v o → IsQName (qname_of (f, o))
 qname_by_rest f v o h (inl r) = subst (λ (z : Option (List ℕ)). IsQName (qname_of (f, z))) (sym r.2) (record {
   prefix = or_right (bytes_eq f []) (is_name f) h;
   local = ap is_name r.1.2 ∙ name_proper r.1.1.back r.1.0.1 r.1.1.back_is;
@@ -90,7 +90,7 @@ blanks_chars (c ∷ cs) h = (blank_by (c == 9 || c == 10) c h.0, blanks_chars cs
 raw_chars : (q : ℕ) (cs : List ℕ) → AllPass (is_raw_in q) cs → AllPass is_char (raw cs)
 raw_chars q cs h = blanks_chars (line_ends cs) (lines_chars cs (weaker (is_raw_in q) is_char (λ c k. raw_char c (two_true (is_raw c) _ k)) cs h))
 
-number_char : (v : List ℕ) (c : ℕ) → (either (keeping_second (word {Kind = Kind} small_x) (number hexadecimal last_char is_char)) (number decimal_digits last_char is_char)).Spells v c → is_char c ≡ true
+number_char : (v : List ℕ) (c : ℕ) → (either (keeping_second (word {Kind = FaultKind} small_x) (number hexadecimal last_char is_char)) (number decimal_digits last_char is_char)).Spells v c → is_char c ≡ true
 number_char v c (inl m) = ap is_char m.2 ∙ m.1.back_is.3
 number_char v c (inr m) = m.3
 
@@ -108,7 +108,7 @@ named_char v c (inr m) = entity_char v c m
 pub reference_char : (u : List ℕ) (c : ℕ) → reference.Spells u c → is_char c ≡ true
 reference_char u c m = let k = m.1.back_is in ap is_char (m.2 ∙ k.2) ∙ named_char k.1.front k.0.0 k.1.front_is
 
-more_chars : (q : ℕ) (xs : List (ℕ × List ℕ)) (v : List ℕ) → Each (sequence reference (λ _. run {Kind = Kind} (is_raw_in q))) xs v → AllPass is_char (more_value xs)
+more_chars : (q : ℕ) (xs : List (ℕ × List ℕ)) (v : List ℕ) → Each (sequence reference (λ _. run {Kind = FaultKind} (is_raw_in q))) xs v → AllPass is_char (more_value xs)
 more_chars q [] v m = tt
 more_chars q ((c, cs) ∷ xs) v m =
     let k = m.front_is in
@@ -117,13 +117,13 @@ more_chars q ((c, cs) ∷ xs) v m =
 value_chars : (q : ℕ) (u cs : List ℕ) → (value q).Spells u cs → AllPass is_char cs
 value_chars q u cs m = subst (AllPass is_char) (sym m.2) (pass_append is_char (raw m.0.0) (more_value m.0.1) (raw_chars q m.0.0 (subst (AllPass (is_raw_in q)) (sym m.1.front_is.1) m.1.front_is.0)) (more_chars q m.0.1 m.1.back m.1.back_is))
 
--- # What stands in a tag
+-- # The raw attributes of a tag
 
-record IsSaid (s : Said) : Type 0 where
+record IsSaid (s : RawAttribute) : Type 0 where
   named : IsQName s.name
   chars : AllPass is_char s.value
 
-said_proper : (u : List ℕ) (s : Said) → said.Spells u s → IsSaid s
+said_proper : (u : List ℕ) (s : RawAttribute) → raw_attribute.Spells u s → IsSaid s
 said_proper u s m =
     let a = m.1.back_is.0 in
     let b = a.back_is in
@@ -134,16 +134,16 @@ said_proper u s m =
       chars = subst (AllPass is_char) (sym (b.2 ∙ q.2 ∙ k.2)) (value_chars q.0.0 k.1.front k.0.0 k.1.front_is);
     })
 
-abbrev AllSaid : List Said → Type 0
+abbrev AllSaid : List RawAttribute → Type 0
 AllSaid [] = Unit {0}
 AllSaid (s ∷ ss) = IsSaid s × AllSaid ss
 
-each_proper : (ss : List Said) (u : List ℕ) → Each said ss u → AllSaid ss
+each_proper : (ss : List RawAttribute) (u : List ℕ) → Each raw_attribute ss u → AllSaid ss
 each_proper [] u m = tt
 each_proper (s ∷ ss) u m = (said_proper m.front s m.front_is, each_proper ss m.back m.back_is)
 
--- nothing is wrong with these, behind the earlier ones
-abbrev AllRight : List (List Decl) → List Said → List Said → Type 0
+-- nothing is wrong with these, after the earlier ones
+abbrev AllRight : List (List Decl) → List RawAttribute → List RawAttribute → Type 0
 AllRight here earlier [] = Unit {0}
 AllRight here earlier (s ∷ ss) = (is_misnamed here s ≡ false) × (is_repeated here earlier s ≡ false) × AllRight here (earlier ++ s ∷ []) ss
 
@@ -163,7 +163,7 @@ prefix_by : (b : Bool) (l : List ℕ) → is_name l ≡ true → is_prefix (cond
 prefix_by true l h = refl
 prefix_by false l h = or_right (bytes_eq l []) (is_name l) h
 
-decl_proper : (s : Said) → IsSaid s → may_stand (decl_of s) ≡ true → IsTrue (is_declaration (decl_of s))
+decl_proper : (s : RawAttribute) → IsSaid s → may_stand (decl_of s) ≡ true → IsTrue (is_declaration (decl_of s))
 decl_proper s i h =
     let p : is_prefix (decl_of s).prefix ≡ true = prefix_by (bytes_eq s.name.prefix []) s.name.local i.named.local in
     let c : list_all is_char s.value ≡ true = pass_all is_char s.value i.chars in
@@ -181,24 +181,24 @@ other_name n d e f =
     absurd cc
 
 module _ (here : List (List Decl)) where
-  attr_proper : (s : Said) → IsSaid s → declares s.name ≡ false → is_unbound here s.name ≡ false → IsAttribute here (said_attr s)
+  attr_proper : (s : RawAttribute) → IsSaid s → declares s.name ≡ false → is_unbound here s.name ≡ false → IsAttribute here (said_attr s)
   attr_proper s i d h = record { named = named_in here s.name i.named h; other = other_name s.name d; value = pass_all is_char s.value i.chars }
 
-  misnamed_decl : (s : Said) → declares s.name ≡ true → is_misnamed here s ≡ false → may_stand (decl_of s) ≡ true
+  misnamed_decl : (s : RawAttribute) → declares s.name ≡ true → is_misnamed here s ≡ false → may_stand (decl_of s) ≡ true
   misnamed_decl s d h = not_false (may_stand (decl_of s)) (by (declares s.name) d h)
     where
       by : (b : Bool) → b ≡ true → cond b (not (may_stand (decl_of s))) (is_unbound here s.name) ≡ false → not (may_stand (decl_of s)) ≡ false
       by true e k = k
       by false e k = absurd cc
 
-  misnamed_attr : (s : Said) → declares s.name ≡ false → is_misnamed here s ≡ false → is_unbound here s.name ≡ false
+  misnamed_attr : (s : RawAttribute) → declares s.name ≡ false → is_misnamed here s ≡ false → is_unbound here s.name ≡ false
   misnamed_attr s d h = by (declares s.name) d h
     where
       by : (b : Bool) → b ≡ false → cond b (not (may_stand (decl_of s))) (is_unbound here s.name) ≡ false → is_unbound here s.name ≡ false
       by true e k = absurd cc
       by false e k = k
 
-  decls_proper : (ss earlier : List Said) → AllSaid ss → AllRight here earlier ss → AllByRecursion (λ d. IsTrue (is_declaration d)) (decls_of ss)
+  decls_proper : (ss earlier : List RawAttribute) → AllSaid ss → AllRight here earlier ss → AllByRecursion (λ d. IsTrue (is_declaration d)) (decls_of ss)
   decls_proper [] earlier i h = tt
   decls_proper (s ∷ ss) earlier i h = by (declares s.name) refl (decls_proper ss (earlier ++ s ∷ []) i.1 h.2)
     where
@@ -206,7 +206,7 @@ module _ (here : List (List Decl)) where
       by true e r = (decl_proper s i.0 (misnamed_decl s e h.0), r)
       by false e r = r
 
-  attrs_proper : (ss earlier : List Said) → AllSaid ss → AllRight here earlier ss → AllByRecursion (IsAttribute here) (attrs_of ss)
+  attrs_proper : (ss earlier : List RawAttribute) → AllSaid ss → AllRight here earlier ss → AllByRecursion (IsAttribute here) (attrs_of ss)
   attrs_proper [] earlier i h = tt
   attrs_proper (s ∷ ss) earlier i h = by (declares s.name) refl (attrs_proper ss (earlier ++ s ∷ []) i.1 h.2)
     where
@@ -214,8 +214,8 @@ module _ (here : List (List Decl)) where
       by true e r = r
       by false e r = (attr_proper s i.0 e (misnamed_attr s e h.0), r)
 
-  -- no later one says again what this one says
-  any_false : (test : Said → Bool) (pre : List Said) (e : Said) (post : List Said) → list_any test (pre ++ e ∷ post) ≡ false → test e ≡ false
+  -- no later raw attribute repeats the meaning of this one
+  any_false : (test : RawAttribute → Bool) (pre : List RawAttribute) (e : RawAttribute) (post : List RawAttribute) → list_any test (pre ++ e ∷ post) ≡ false → test e ≡ false
   any_false test [] e post h = or_left (test e) (list_any test post) h
     where
       or_left : (a b : Bool) → a || b ≡ false → a ≡ false
@@ -227,11 +227,11 @@ module _ (here : List (List Decl)) where
       or_later true b h = absurd cc
       or_later false b h = h
 
-  unsaid : (ss pre : List Said) (e : Said) (post : List Said) → AllRight here (pre ++ e ∷ post) ss → AllByRecursion (λ s. says_again here s e ≡ false) ss
+  unsaid : (ss pre : List RawAttribute) (e : RawAttribute) (post : List RawAttribute) → AllRight here (pre ++ e ∷ post) ss → AllByRecursion (λ s. says_again here s e ≡ false) ss
   unsaid [] pre e post h = tt
-  unsaid (s ∷ ss) pre e post h = (any_false (says_again here s) pre e post h.1, unsaid ss pre e (post ++ s ∷ []) (subst (λ (z : List Said). AllRight here z ss) (append_assoc pre (e ∷ post) (s ∷ [])) h.2))
+  unsaid (s ∷ ss) pre e post h = (any_false (says_again here s) pre e post h.1, unsaid ss pre e (post ++ s ∷ []) (subst (λ (z : List RawAttribute). AllRight here z ss) (append_assoc pre (e ∷ post) (s ∷ [])) h.2))
 
-  decls_apart : (e : Said) (ss : List Said) → declares e.name ≡ true → AllByRecursion (λ s. says_again here s e ≡ false) ss → AllByRecursion (λ y. bytes_eq (decl_of e).prefix y ≡ false) (map (λ d. d.prefix) (decls_of ss))
+  decls_apart : (e : RawAttribute) (ss : List RawAttribute) → declares e.name ≡ true → AllByRecursion (λ s. says_again here s e ≡ false) ss → AllByRecursion (λ y. bytes_eq (decl_of e).prefix y ≡ false) (map (λ d. d.prefix) (decls_of ss))
   decls_apart e [] d h = tt
   decls_apart e (s ∷ ss) d h = by (declares s.name) h.0 (decls_apart e ss d h.1)
     where
@@ -244,7 +244,7 @@ module _ (here : List (List Decl)) where
       by true g r = (meets (declares e.name) (bytes_eq (decl_of e).prefix (decl_of s).prefix) true d g, r)
       by false g r = r
 
-  attrs_apart : (e : Said) (ss : List Said) → declares e.name ≡ false → AllByRecursion (λ s. says_again here s e ≡ false) ss → AllByRecursion (λ y. same_expanded (attr_name here e.name) y ≡ false) (map (λ a. attr_name here a.name) (attrs_of ss))
+  attrs_apart : (e : RawAttribute) (ss : List RawAttribute) → declares e.name ≡ false → AllByRecursion (λ s. says_again here s e ≡ false) ss → AllByRecursion (λ y. same_expanded (attr_name here e.name) y ≡ false) (map (λ a. attr_name here a.name) (attrs_of ss))
   attrs_apart e [] d h = tt
   attrs_apart e (s ∷ ss) d h = by (declares s.name) h.0 (attrs_apart e ss d h.1)
     where
@@ -257,7 +257,7 @@ module _ (here : List (List Decl)) where
       by true g r = r
       by false g r = (meets (declares e.name) (same_expanded (attr_name here e.name) (attr_name here s.name)) d g, r)
 
-  decls_distinct : (ss earlier : List Said) → AllRight here earlier ss → IsDistinct bytes_eq (map (λ d. d.prefix) (decls_of ss))
+  decls_distinct : (ss earlier : List RawAttribute) → AllRight here earlier ss → IsDistinct bytes_eq (map (λ d. d.prefix) (decls_of ss))
   unfolding IsDistinct
   decls_distinct [] earlier h = tt
   decls_distinct (s ∷ ss) earlier h = by (declares s.name) refl (decls_distinct ss (earlier ++ s ∷ []) h.2)
@@ -266,7 +266,7 @@ module _ (here : List (List Decl)) where
       by true e r = (decls_apart s ss e (unsaid ss earlier s [] h.2), r)
       by false e r = r
 
-  attrs_distinct : (ss earlier : List Said) → AllRight here earlier ss → IsDistinct same_expanded (map (λ a. attr_name here a.name) (attrs_of ss))
+  attrs_distinct : (ss earlier : List RawAttribute) → AllRight here earlier ss → IsDistinct same_expanded (map (λ a. attr_name here a.name) (attrs_of ss))
   unfolding IsDistinct
   attrs_distinct [] earlier h = tt
   attrs_distinct (s ∷ ss) earlier h = by (declares s.name) refl (attrs_distinct ss (earlier ++ s ∷ []) h.2)
@@ -281,51 +281,51 @@ no_true : (b : Bool) → (b ≡ true → ⊥) → b ≡ false
 no_true true f = absurd (f refl)
 no_true false f = refl
 
--- the name and what stands behind it
-record IsSpelledWell (x : Name × (List Said × Bool)) : Type 0 where
+-- the name and what follows it
+record IsSpelledWell (x : Name × (List RawAttribute × Bool)) : Type 0 where
   named : IsQName x.0
-  said : AllSaid x.1.0
+  raw_attribute : AllSaid x.1.0
 
-tag_parts : (u : List ℕ) (t : StartTag) → tag.Spells u t → IsQName t.name × AllSaid t.said
+tag_parts : (u : List ℕ) (t : StartTag) → start_tag.Spells u t → IsQName t.name × AllSaid t.raw_attribute
 tag_parts u t m =
     let h = m.1.0 in
     let s = h.1.back_is in
     let b = s.back_is.front_is in
-    let inside : IsSpelledWell h.0.1 = record { named = qname_proper s.front h.0.1.0 s.front_is; said = subst AllSaid (sym b.2) (each_proper b.0.0 b.1.front b.1.front_is) } in
+    let inside : IsSpelledWell h.0.1 = record { named = qname_proper s.front h.0.1.0 s.front_is; raw_attribute = subst AllSaid (sym b.2) (each_proper b.0.0 b.1.front b.1.front_is) } in
     let whole : IsSpelledWell m.0.0 = subst IsSpelledWell (sym h.2) inside in
-    subst (λ (z : StartTag). IsQName z.name × AllSaid z.said) (sym m.2) (whole.named, whole.said)
+    subst (λ (z : StartTag). IsQName z.name × AllSaid z.raw_attribute) (sym m.2) (whole.named, whole.raw_attribute)
 
--- nothing is said of a tag
+-- a tag without marks
 abbrev Silent : List (List Decl) → StartTag → Type 0
-Silent scope t = (k : Kind) (b : ℕ) → IsWrong scope t k b → ⊥
+Silent scope t = (k : FaultKind) (b : ℕ) → IsWrong scope t k b → ⊥
 
-module _ (scope : List (List Decl)) (t : StartTag) (fits : opening t + widths t.said ≤ t.size) (silent : Silent scope t) where
-  right_from : (ss earlier : List Said) → t.said ≡ earlier ++ ss → AllRight (inside scope t) earlier ss
+module _ (scope : List (List Decl)) (t : StartTag) (fits : opening t + widths t.raw_attribute ≤ t.size) (silent : Silent scope t) where
+  right_from : (ss earlier : List RawAttribute) → t.raw_attribute ≡ earlier ++ ss → AllRight (inside scope t) earlier ss
   right_from [] earlier j = tt
   right_from (s ∷ ss) earlier j =
-      let w : widths t.said ≡ widths (earlier ++ s ∷ ss) = ap widths j in
+      let w : widths t.raw_attribute ≡ widths (earlier ++ s ∷ ss) = ap widths j in
       let p : t.size - (opening t + widths earlier + s.gap) + (opening t + widths earlier + s.gap) ≡ t.size = omega (arith, w, widths_parts earlier s ss, fits) in (
-        no_true (is_misnamed (inside scope t) s) (λ e. silent Unbound (t.size - (opening t + widths earlier + s.gap)) (inr (record { earlier = earlier; said = s; later = ss; among = j; wrong = e; place = p }))),
-        no_true (is_repeated (inside scope t) earlier s) (λ e. silent Repeated (t.size - (opening t + widths earlier + s.gap)) (inr (record { earlier = earlier; said = s; later = ss; among = j; wrong = e; place = p }))),
+        no_true (is_misnamed (inside scope t) s) (λ e. silent Unbound (t.size - (opening t + widths earlier + s.gap)) (inr (record { earlier = earlier; raw_attribute = s; later = ss; among = j; wrong = e; place = p }))),
+        no_true (is_repeated (inside scope t) earlier s) (λ e. silent Repeated (t.size - (opening t + widths earlier + s.gap)) (inr (record { earlier = earlier; raw_attribute = s; later = ss; among = j; wrong = e; place = p }))),
         right_from ss (earlier ++ s ∷ []) (j ∙ sym (append_assoc earlier (s ∷ []) ss)),
       )
 
   name_right : is_unbound (inside scope t) t.name ≡ false
   name_right = no_true (is_unbound (inside scope t) t.name) (λ e. silent Unbound (t.size - 1) (inl (record { wrong = e; kind_is = refl; place = omega (arith, fits) })))
 
-  tag_by : IsQName t.name → AllSaid t.said → IsTag (inside scope t) t.name (decls_of t.said) (attrs_of t.said)
+  tag_by : IsQName t.name → AllSaid t.raw_attribute → IsTag (inside scope t) t.name (decls_of t.raw_attribute) (attrs_of t.raw_attribute)
   tag_by named all =
-      let right = right_from t.said [] refl in
+      let right = right_from t.raw_attribute [] refl in
       record {
         named = named_in (inside scope t) t.name named name_right;
-        declarations = decls_proper (inside scope t) t.said [] all right;
-        attributes = attrs_proper (inside scope t) t.said [] all right;
-        prefixes = decls_distinct (inside scope t) t.said [] right;
-        names = attrs_distinct (inside scope t) t.said [] right;
+        declarations = decls_proper (inside scope t) t.raw_attribute [] all right;
+        attributes = attrs_proper (inside scope t) t.raw_attribute [] all right;
+        prefixes = decls_distinct (inside scope t) t.raw_attribute [] right;
+        names = attrs_distinct (inside scope t) t.raw_attribute [] right;
       }
 
--- A tag of which nothing is said is proper.
-pub tag_proper : (scope : List (List Decl)) (u : List ℕ) (t : StartTag) → tag.Spells u t → Silent scope t → IsTag (inside scope t) t.name (decls_of t.said) (attrs_of t.said)
+-- A tag without marks is proper.
+pub tag_proper : (scope : List (List Decl)) (u : List ℕ) (t : StartTag) → start_tag.Spells u t → Silent scope t → IsTag (inside scope t) t.name (decls_of t.raw_attribute) (attrs_of t.raw_attribute)
 tag_proper scope u t m silent =
     let z = tag_sizes u t m in
     let p = tag_parts u t m in

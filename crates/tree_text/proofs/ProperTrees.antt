@@ -1,40 +1,40 @@
--- What is spelled without a fault is a proper tree within the depth.
+-- A tree that is spelled without a fault is proper and within the depth limit.
 use Rattle.std.proofs.Common.{◌≡◌, ℕ, zero, suc, ◌+◌, ◌-◌, ◌<◌, ◌≤◌, Bool, true, false, List, [], ◌∷◌, ◌++◌, length, take, drop, inl, inr, refl, sym, ap, subst, ◌∙◌, append_assoc, arith}
 use Rattle.std.specs.Prelude.{nat_lt}
 use Rattle.std.proofs.lemmas.Bool.Decides.{nat_tests}
 use Rattle.std.proofs.lemmas.List.{append-nil, take-append-drop, length-drop}
 use Rattle.xml_tree.specs.Characters.{is_char}
 use Rattle.xml_tree.specs.Comments.{is_comment}
-use Rattle.xml_tree.specs.Tree.{Content, last, more, note, Tree, height, content_height}
+use Rattle.xml_tree.specs.Tree.{Content, last, more, comment_node, Tree, height, content_height}
 use Rattle.xml_tree.specs.Edits.{with_text, with_elem, with_comment}
 use Rattle.xml_tree.specs.Proper.{Letters, IsProperPart, ProperIn}
 use Rattle.xml_tree.specs.inner.Proper.{Proper}
 use Rattle.xml_tree.specs.declared.names.Name.{Name}
 use Rattle.xml_tree.specs.declared.names.Decl.{Decl}
 use Rattle.xml_tree.proofs.EverywhereLaws.{Letters-append}
-use Rattle.grammar_rules.specs.Rules.{Mark, Rule, Split, AllPass, Each, word, sequence, many, judged, optional, keeping_first, keeping_second}
-use Rattle.grammar_rules.specs.Answers.{IsCalm, IsSpelled}
-use Rattle.grammar_rules.proofs.Laws.{Lawful}
+use Rattle.xml_grammar.specs.Rules.{Mark, Rule, Split, AllPass, Each, word, sequence, many, judged, optional, keeping_first, keeping_second}
+use Rattle.xml_grammar.specs.Answers.{IsCalm, IsSpelled}
+use Rattle.xml_grammar.proofs.Laws.{Lawful}
 use Rattle.tree_text.specs.readers.Words.{byte_order_mark}
-use Rattle.tree_text.specs.declared.kind.Kind.{Kind}
-use Rattle.tree_text.specs.declared.kind.Kind.TheVariants.{Depth}
+use Rattle.tree_text.specs.declared.fault_kind.FaultKind.{FaultKind}
+use Rattle.tree_text.specs.declared.fault_kind.FaultKind.TheVariants.{Depth}
 use Rattle.tree_text.specs.Pieces.{Markup, Reference, Section, Comment, Instruction, Inner, with_markup, with_pieces}
-use Rattle.tree_text.specs.Kinds.{is_fault, faults}
+use Rattle.tree_text.specs.FaultKinds.{is_fault, faults}
 use Rattle.tree_text.specs.Names.{IsWrong, inside_tag as inside}
-use Rattle.tree_text.specs.Grammar.{is_raw, chars, section, markup, content, tag, end_tag, behind_tag, element, dropped, IsForeign, xml_declaration, prolog, epilog, document}
+use Rattle.tree_text.specs.Grammar.{is_raw, chars, section, markup, content, start_tag, end_tag, behind_tag, element, dropped, IsForeign, xml_declaration, prolog, epilog, document}
 use Rattle.tree_text.proofs.JudgeTags.{is_wrong_fault}
 use Rattle.tree_text.proofs.ReadParts.{led_tag}
 use Rattle.tree_text.proofs.ReadDocuments.{lawful_document}
 use Rattle.tree_text.proofs.ProperTags.{weaker, raw_char, lines_chars, reference_char, tag_proper}
 use Rattle.tree_text.proofs.ProperComments.{comment_proper}
 
--- # No fault is said
+-- # No marked faults
 
 module _ (limit : ℕ) where
-  abbrev Calm : {A : Type 0} → Rule Kind A → List ℕ → Type 0
-  Calm r u = (k : Kind) (b : ℕ) (v w : List ℕ) → u ≡ v ++ w → r.Meets (Mark k b) v → is_fault limit k ≡ true → ⊥
+  abbrev Calm : {A : Type 0} → Rule FaultKind A → List ℕ → Type 0
+  Calm r u = (k : FaultKind) (b : ℕ) (v w : List ℕ) → u ≡ v ++ w → r.Meets (Mark k b) v → is_fault limit k ≡ true → ⊥
 
-  calm_of : {A : Type 0} (r : Rule Kind A) (u : List ℕ) → Lawful r → IsCalm (faults limit) r u → Calm r u
+  calm_of : {A : Type 0} (r : Rule FaultKind A) (u : List ℕ) → Lawful r → IsCalm (faults limit) r u → Calm r u
   calm_of {A} r u lawful calm k b v w j m f =
       let le : b ≤ length v = lawful.within k b v m in
       let parts : v ≡ take (length v - b) v ++ drop (length v - b) v = sym (take-append-drop (length v - b) v) in
@@ -48,16 +48,16 @@ module _ (limit : ℕ) where
         met = subst (λ (z : List ℕ). r.Meets (Mark k (length (drop (length v - b) v))) z) parts (subst (λ (z : ℕ). r.Meets (Mark k z) v) n m);
       })
 
-  calm_first : {A B : Type 0} (r : Rule Kind A) (s : A → Rule Kind B) (u : List ℕ) (P Q : List ℕ → Type 0) → (m : Split u P Q) → Calm (sequence r s) u → Calm r m.front
+  calm_first : {A B : Type 0} (r : Rule FaultKind A) (s : A → Rule FaultKind B) (u : List ℕ) (P Q : List ℕ → Type 0) → (m : Split u P Q) → Calm (sequence r s) u → Calm r m.front
   calm_first {A} {B} r s u P Q m calm = λ k b v w j e f. calm k b v (w ++ m.back) (m.joined ∙ ap (λ (z : List ℕ). z ++ m.back) j ∙ append_assoc v w m.back) (inl e) f
 
-  calm_second : {A B : Type 0} (r : Rule Kind A) (s : A → Rule Kind B) (a : A) (u : List ℕ) (Q : List ℕ → Type 0) → (m : Split u (λ x. r.Spells x a) Q) → Calm (sequence r s) u → Calm (s a) m.back
+  calm_second : {A B : Type 0} (r : Rule FaultKind A) (s : A → Rule FaultKind B) (a : A) (u : List ℕ) (Q : List ℕ → Type 0) → (m : Split u (λ x. r.Spells x a) Q) → Calm (sequence r s) u → Calm (s a) m.back
   calm_second {A} {B} r s a u Q m calm = λ k b v w j e f. calm k b (m.front ++ v) w (m.joined ∙ ap (λ (z : List ℕ). m.front ++ z) j ∙ sym (append_assoc m.front v w)) (inr (a, record { front = m.front; back = v; joined = refl; front_is = m.front_is; back_is = e })) f
 
-  calm_head : {A : Type 0} (r : Rule Kind A) (u : List ℕ) (P Q : List ℕ → Type 0) → (m : Split u P Q) → Calm (many r) u → Calm r m.front
+  calm_head : {A : Type 0} (r : Rule FaultKind A) (u : List ℕ) (P Q : List ℕ → Type 0) → (m : Split u P Q) → Calm (many r) u → Calm r m.front
   calm_head {A} r u P Q m calm = λ k b v w j e f. calm k b v (w ++ m.back) (m.joined ∙ ap (λ (z : List ℕ). z ++ m.back) j ∙ append_assoc v w m.back) ([], record { front = []; back = v; joined = refl; front_is = refl; back_is = e }) f
 
-  calm_tail : {A : Type 0} (r : Rule Kind A) (x : A) (u : List ℕ) (Q : List ℕ → Type 0) → (m : Split u (λ z. r.Spells z x) Q) → Calm (many r) u → Calm (many r) m.back
+  calm_tail : {A : Type 0} (r : Rule FaultKind A) (x : A) (u : List ℕ) (Q : List ℕ → Type 0) → (m : Split u (λ z. r.Spells z x) Q) → Calm (many r) u → Calm (many r) m.back
   calm_tail {A} r x u Q m calm = λ k b v w j e f. calm k b (m.front ++ v) w (m.joined ∙ ap (λ (z : List ℕ). m.front ++ z) j ∙ sym (append_assoc m.front v w))
       (x ∷ e.0, record { front = m.front ++ e.1.front; back = e.1.back; joined = ap (λ (z : List ℕ). m.front ++ z) e.1.joined ∙ sym (append_assoc m.front e.1.front e.1.back); front_is = record { front = m.front; back = e.1.front; joined = refl; front_is = m.front_is; back_is = e.1.front_is }; back_is = e.1.back_is }) f
 
@@ -95,17 +95,17 @@ module _ (c : List (List Decl)) (room : ℕ) where
   fits_text : (s : List ℕ) (k : Content) → Letters IsProperPart c s → Fits k → Fits (with_text s k)
   fits_text s (last t) h f = (Letters-append IsProperPart c t s f.0 h, f.1)
   fits_text s (more t n ds ats k rest) h f = let r = fits_text s rest h (f.0.3, omega (arith, f.1)) in ((f.0.0, f.0.1, f.0.2, r.0), omega (arith, f.1, r.1))
-  fits_text s (note t x rest) h f = let r = fits_text s rest h (f.0.2, f.1) in ((f.0.0, f.0.1, r.0), r.1)
+  fits_text s (comment_node t x rest) h f = let r = fits_text s rest h (f.0.2, f.1) in ((f.0.0, f.0.1, r.0), r.1)
 
   fits_elem : (e : Tree) (k : Content) → ProperIn c e → height e ≤ room → Fits k → Fits (with_elem e k)
   fits_elem e (last t) h l f = ((f.0, h.0, h.1, tt), omega (arith, l))
   fits_elem e (more t n ds ats k rest) h l f = let r = fits_elem e rest h l (f.0.3, omega (arith, f.1)) in ((f.0.0, f.0.1, f.0.2, r.0), omega (arith, f.1, r.1))
-  fits_elem e (note t x rest) h l f = let r = fits_elem e rest h l (f.0.2, f.1) in ((f.0.0, f.0.1, r.0), r.1)
+  fits_elem e (comment_node t x rest) h l f = let r = fits_elem e rest h l (f.0.2, f.1) in ((f.0.0, f.0.1, r.0), r.1)
 
   fits_comment : (s : List ℕ) (k : Content) → is_comment s ≡ true → Fits k → Fits (with_comment s k)
   fits_comment s (last t) h f = ((f.0, h, tt), omega arith)
   fits_comment s (more t n ds ats k rest) h f = let r = fits_comment s rest h (f.0.3, omega (arith, f.1)) in ((f.0.0, f.0.1, f.0.2, r.0), omega (arith, f.1, r.1))
-  fits_comment s (note t x rest) h f = let r = fits_comment s rest h (f.0.2, f.1) in ((f.0.0, f.0.1, r.0), r.1)
+  fits_comment s (comment_node t x rest) h f = let r = fits_comment s rest h (f.0.2, f.1) in ((f.0.0, f.0.1, r.0), r.1)
 
   fits_markup : (m : Markup) (k : Content) → MayStand m → Fits k → Fits (with_markup m k)
   fits_markup (Reference x) k h f = fits_text (x ∷ []) k (h, tt) f
@@ -122,7 +122,7 @@ module _ (c : List (List Decl)) (room : ℕ) where
   fits_pieces [] k h f = f
   fits_pieces ((m, cs) ∷ xs) k h f = fits_pieces xs (with_text cs (with_markup m k)) h.2 (fits_text cs (with_markup m k) h.1 (fits_markup m k h.0 f))
 
-  module _ (limit : ℕ) (inner : Rule Kind Tree) (proper : (u : List ℕ) (t : Tree) → inner.Spells u t → Calm limit inner u → ProperIn c t × (height t ≤ room)) where
+  module _ (limit : ℕ) (inner : Rule FaultKind Tree) (proper : (u : List ℕ) (t : Tree) → inner.Spells u t → Calm limit inner u → ProperIn c t × (height t ≤ room)) where
     markup_stands : (u : List ℕ) (m : Markup) → (markup inner).Spells u m → Calm limit (markup inner) u → MayStand m
     markup_stands u m (inl h) calm = subst MayStand (sym h.2) (reference_char u h.0 h.1)
     markup_stands u m (inr (inl h)) calm = subst MayStand (sym h.2) (section_letters c u h.0 h.1)
@@ -133,7 +133,7 @@ module _ (c : List (List Decl)) (room : ℕ) where
     pieces_stand : (xs : List (Markup × List ℕ)) (u : List ℕ) → Each (sequence (markup inner) (λ _. chars)) xs u → Calm limit (many (sequence (markup inner) (λ _. chars))) u → AllMayStand xs
     pieces_stand [] u m calm = tt
     pieces_stand (x ∷ xs) u m calm =
-        let r : Rule Kind (Markup × List ℕ) = sequence (markup inner) (λ _. chars) in
+        let r : Rule FaultKind (Markup × List ℕ) = sequence (markup inner) (λ _. chars) in
         let h = m.front_is in
         let first : Calm limit (sequence (markup inner) (λ _. chars)) m.front = calm_head limit (sequence (markup inner) (λ _. chars)) u _ _ m calm in (
           markup_stands h.front x.0 h.front_is (calm_first limit (markup inner) (λ _. chars) m.front _ _ h first),
@@ -164,12 +164,12 @@ module _ (limit : ℕ) where
   element_proper zero scope depth u t m calm = absurd m
   element_proper (suc n) scope depth u t m calm =
       let x = m.0.0 in
-      let inner : Rule Kind Tree = element n (inside scope x) (depth + 1) in
-      let unmarked : Calm limit (sequence (judged (IsWrong scope) tag) (λ t. behind_tag (element n (inside scope t) (depth + 1)) t.name t.is_empty)) u = λ k b v w j e f. calm k b v w j (inr e) f in
+      let inner : Rule FaultKind Tree = element n (inside scope x) (depth + 1) in
+      let unmarked : Calm limit (sequence (judged (IsWrong scope) start_tag) (λ t. behind_tag (element n (inside scope t) (depth + 1)) t.name t.is_empty)) u = λ k b v w j e f. calm k b v w j (inr e) f in
       let past = (led_tag (faults limit)).spells m.1.front x m.1.front_is in
       let shallow : depth ≤ limit = within_limit limit depth (λ f. calm (Depth depth) 2 (60 ∷ past.next ∷ []) (past.rest ++ m.1.back) (m.1.joined ∙ ap (λ (z : List ℕ). z ++ m.1.back) past.joined) (inl (refl, refl, (past.next, refl, past.is))) f) in
-      let first = calm_first limit (judged (IsWrong scope) tag) (λ t. behind_tag (element n (inside scope t) (depth + 1)) t.name t.is_empty) u _ _ m.1 unmarked in
-      let second = calm_second limit (judged (IsWrong scope) tag) (λ t. behind_tag (element n (inside scope t) (depth + 1)) t.name t.is_empty) x u _ m.1 unmarked in
+      let first = calm_first limit (judged (IsWrong scope) start_tag) (λ t. behind_tag (element n (inside scope t) (depth + 1)) t.name t.is_empty) u _ _ m.1 unmarked in
+      let second = calm_second limit (judged (IsWrong scope) start_tag) (λ t. behind_tag (element n (inside scope t) (depth + 1)) t.name t.is_empty) x u _ m.1 unmarked in
       let tagged = tag_proper scope m.1.front x m.1.front_is (λ k b s. first k b m.1.front [] (sym (append-nil m.1.front)) (inl (x, m.1.front_is, s)) (is_wrong_fault limit scope x k b s)) in
       let fits = behind_fits (inside scope x) (limit - depth) limit (element n (inside scope x) (depth + 1))
       (λ v e s d. let r = element_proper n (inside scope x) (depth + 1) v e s d in (r.0, omega (arith, r.1))) x.name x.is_empty m.1.back m.0.1 m.1.back_is second in
@@ -177,7 +177,7 @@ module _ (limit : ℕ) where
 
 -- # Documents
 
--- What a text spells without a fault is proper in its scope, and within the depth.
+-- A tree that a text spells without a fault is proper in its scope, and within the depth limit.
 pub document_proper : (limit n : ℕ) (scope : List (List Decl)) (u : List ℕ) (t : Tree) → limit + 1 < suc n → IsSpelled (faults limit) (document (suc n) scope) u t → ProperIn scope t × (height t ≤ limit)
 document_proper limit n scope u t larger h =
     let calm = calm_of limit (document (suc n) scope) u (lawful_document limit n scope larger) h.calm in

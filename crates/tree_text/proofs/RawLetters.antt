@@ -1,9 +1,9 @@
--- Frequent characters stand raw in text.
+-- Frequent characters are raw in text.
 use Rattle.std.proofs.Common.{◌≡◌, ℕ, ◌≤◌, ◌≢◌, Bool, true, false, ◌||◌, List, [], ◌∷◌, refl, sym, ap, ◌∙◌, arith}
 use Rattle.std.specs.Prelude.{nat_eq, nat_le, not}
 use Rattle.std.proofs.lemmas.Bool.{and_parts, eqb-true, leb-true, le-leb, ne_eqb, or_left, true≢false}
 use Rattle.std.specs.Int.{is_in_range as within}
-use Rattle.grammar_rules.specs.Reading.{head_is}
+use Rattle.xml_grammar.specs.Reading.{head_is}
 use Rattle.xml_tree.specs.Characters.{is_name_start, is_joining, is_name_char}
 use Rattle.tree_text.specs.Grammar.{is_raw}
 use Rattle.tree_text.specs.readers.Runs.{is_frequent, is_usual}
@@ -23,7 +23,7 @@ frequent_is_raw c h =
     let b = bounds 39 55295 c parts.1 in
     raw_between c (λ e. true≢false (sym parts.0 ∙ ap (λ (z : ℕ). not (nat_eq z 60)) e)) b.0 b.1
 
--- what stands raw in content wherever it is
+-- characters that are raw in content whatever surrounds them
 inner_by : (c : ℕ) (a d e : Bool) → within 94 55295 c ≡ a → nat_eq c 32 ≡ d → nat_eq c 10 ≡ e → ((a || d) || e) ≡ true → (is_raw c ≡ true) × (nat_eq 93 c ≡ false)
 inner_by c true d e i j k h =
     let b = bounds 94 55295 c i in
@@ -42,7 +42,7 @@ usual_is_raw c h = (inner c h).0
 pub usual_no_bracket : (c : ℕ) → is_usual c ≡ true → nat_eq 93 c ≡ false
 usual_no_bracket c h = (inner c h).1
 
--- names begin with small letters, which stand in them too
+-- names begin with lower-case letters, which they may also contain
 small_begins_name : (c : ℕ) → within 97 122 c ≡ true → is_name_start c ≡ true
 small_begins_name c h = rw h (rw (by (within 65 90 c) (nat_eq c 95)) refl)
   where

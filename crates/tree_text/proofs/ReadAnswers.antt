@@ -1,16 +1,16 @@
--- What the reading functions answer for bytes is what the grammar says of them.
+-- The results of the reading functions for bytes are what the grammar says of them.
 use Rattle.std.proofs.Common.{◌≡◌, ℕ, zero, suc, ◌+◌, ◌<◌, Bool, true, false, cond, List, Err, inl, inr, refl, arith}
 use Rattle.std.specs.Str.{is_utf8, chars}
 use Rattle.std.proofs.lemmas.Str.{IsUtf8-from_is_utf8, is_utf8-from_IsUtf8}
-use Rattle.grammar_rules.specs.readers.Functions.{read_whole}
-use Rattle.grammar_rules.specs.Answers.{Answers}
+use Rattle.xml_grammar.specs.readers.Functions.{read_whole}
+use Rattle.xml_grammar.specs.Answers.{Answers}
 use Rattle.xml_tree.specs.declared.names.Decl.{Decl}
 use Rattle.tree_text.specs.declared.fault.TextFault.TheVariants as texts
 use Rattle.tree_text.specs.declared.fault.ValueFault.TheVariants as bodies
-use Rattle.tree_text.specs.Kinds.{faults}
+use Rattle.tree_text.specs.FaultKinds.{faults}
 use Rattle.tree_text.specs.Grammar.{document}
 use Rattle.tree_text.specs.readers.Texts.{read_text, read_spelling}
-use Rattle.tree_text.specs.Faults.{TextAnswer, spelling_of, body_told, BodyAnswer, text_told as told}
+use Rattle.tree_text.specs.Faults.{TextAnswer, spelling_of, body_result, BodyAnswer, text_result as told}
 use Rattle.tree_text.specs.readers.Whole.{text_read, body_read}
 use Rattle.tree_text.proofs.ReadDocuments.{answers_document}
 use Rattle.tree_text.proofs.ReadBodies.{answers_spelling}
@@ -28,7 +28,7 @@ text_by limit scope bytes false e = inr (λ u. (let t = is_utf8-from_IsUtf8 byte
 pub text_answer : (limit : ℕ) (scope : List (List Decl)) (bytes : List ℕ) → TextAnswer limit scope bytes (text_read limit scope bytes)
 text_answer limit scope bytes = text_by limit scope bytes (is_utf8 bytes) refl
 
-body_by : (bytes : List ℕ) (b : Bool) → is_utf8 bytes ≡ b → BodyAnswer bytes (cond b (body_told (chars bytes) bytes (read_whole read_spelling (spelling_of (chars bytes)))) (Err bodies.NotUtf8))
+body_by : (bytes : List ℕ) (b : Bool) → is_utf8 bytes ≡ b → BodyAnswer bytes (cond b (body_result (chars bytes) bytes (read_whole read_spelling (spelling_of (chars bytes)))) (Err bodies.NotUtf8))
 body_by bytes true e = inl (IsUtf8-from_is_utf8 bytes e, record { stated = read_whole read_spelling (spelling_of (chars bytes)); by_grammar = answers_spelling (faults 0) (spelling_of (chars bytes)); is_told = refl })
 body_by bytes false e = inr (λ u. (let t = is_utf8-from_IsUtf8 bytes u in absurd cc), refl)
 

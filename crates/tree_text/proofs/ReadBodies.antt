@@ -2,22 +2,22 @@
 use Rattle.std.proofs.Common.{◌≡◌, ℕ, List, inl, refl, arith}
 use Rattle.std.specs.Prelude.{◌==◌}
 use Rattle.std.proofs.lemmas.Bool.Decides.{nat_tests}
-use Rattle.grammar_rules.specs.readers.Functions.{read_whole}
-use Rattle.grammar_rules.specs.Answers.{Faults, Answers}
-use Rattle.grammar_rules.proofs.Exact.{Exact}
-use Rattle.grammar_rules.proofs.Carry.{exact_valued}
-use Rattle.grammar_rules.proofs.Heads.{starts_atomic}
-use Rattle.grammar_rules.proofs.Laws.{Lawful, lawful_run, lawful_atomic, lawful_valued, lawful_between}
-use Rattle.grammar_rules.proofs.Closed.{exact_atomic}
-use Rattle.grammar_rules.proofs.Tests.{exact_between_run_head}
-use Rattle.grammar_rules.proofs.Whole.{ends, heads_ends, answers_whole}
-use Rattle.tree_text.specs.declared.kind.Kind.{Kind}
+use Rattle.xml_grammar.specs.readers.Functions.{read_whole}
+use Rattle.xml_grammar.specs.Answers.{Faults, Answers}
+use Rattle.xml_grammar.proofs.Exact.{Exact}
+use Rattle.xml_grammar.proofs.Carry.{exact_valued}
+use Rattle.xml_grammar.proofs.Heads.{starts_atomic}
+use Rattle.xml_grammar.proofs.Laws.{Lawful, lawful_run, lawful_atomic, lawful_valued, lawful_between}
+use Rattle.xml_grammar.proofs.Closed.{exact_atomic}
+use Rattle.xml_grammar.proofs.Tests.{exact_between_run_head}
+use Rattle.xml_grammar.proofs.Whole.{ends, heads_ends, answers_whole}
+use Rattle.tree_text.specs.declared.fault_kind.FaultKind.{FaultKind}
 use Rattle.tree_text.specs.Grammar.{reference, spelling}
 use Rattle.tree_text.specs.readers.Texts.{read_spelling}
 use Rattle.tree_text.proofs.ReadParts.{closed_reference, starts_reference, quiet_reference, same}
 use Rattle.tree_text.specs.Pieces.{value_spelled as value_of}
 
-module _ (faults : Faults Kind) where
+module _ (faults : Faults FaultKind) where
   pub exact_spelling : Exact faults spelling (λ _. ends) read_spelling
   exact_spelling = exact_valued value_of (exact_between_run_head (λ c. c == 38) (starts_atomic (starts_reference faults {P = λ c. c ≡ 38} refl))
       (λ c e. (same 38 c e, grind (arith, nat_tests)))

@@ -7,29 +7,29 @@ use Rattle.xml_tree.specs.Characters.{is_space, is_name_start}
 use Rattle.xml_tree.specs.Tree.{Tree}
 use Rattle.xml_tree.specs.declared.names.Decl.{Decl}
 use Rattle.std.specs.Char.{is_ascii_digit as is_digit}
-use Rattle.grammar_rules.specs.Rules.{Begin, Rule, word, either, judged, trap, optional, keeping_first, keeping_second}
-use Rattle.grammar_rules.specs.Reading.{Reader, Stop, Syntax, head_is, starts, read_word}
-use Rattle.grammar_rules.specs.readers.Functions.{read_whole, read_behind, read_before}
-use Rattle.grammar_rules.specs.Answers.{Faults, Answers}
-use Rattle.grammar_rules.proofs.Exact.{Rest, ahead, IsStopped, Outcome, Exact}
-use Rattle.grammar_rules.proofs.Leaves.{exact_word}
-use Rattle.grammar_rules.proofs.Carry.{Covers, exact_valued, exact_either, covers_either}
-use Rattle.grammar_rules.proofs.Heads.{Heads, heads_starts, heads_run, heads_optional, heads_valued, heads_sequence, starts_word, starts_sequence, follows_starts}
-use Rattle.grammar_rules.proofs.Repeats.{heads_many}
-use Rattle.grammar_rules.proofs.Fronts.{starts_is}
-use Rattle.grammar_rules.proofs.Laws.{Lawful, lawful_one, lawful_word, lawful_only, lawful_run, lawful_either, lawful_valued, lawful_judged, lawful_trap, lawful_optional, lawful_between, lawful_some_of, lawful_name_of, lawful_before, lawful_behind, lawful_quoted, Quiet, quiet_word, quiet_run, quiet_valued, quiet_either, quiet_optional, quiet_some_of, quiet_name_of, quiet_before, quiet_behind, quiet_quoted, Inside, inside_ahead}
-use Rattle.grammar_rules.proofs.Beginnings.{Fronted, fronted_one, fronted_word, fronted_up_to, fronted_either, fronted_valued, fronted_only, fronted_behind, fronted_name_of}
-use Rattle.grammar_rules.proofs.Closed.{anything, inside_anything, exact_closed}
-use Rattle.grammar_rules.proofs.Marks.{Judges, exact_judged, exact_trap, trap_covers}
-use Rattle.grammar_rules.proofs.Shapes.{exact_before, exact_behind, exact_optional, exact_some_of, exact_name_of, exact_quoted, exact_between, starts_behind, starts_some_of, starts_quoted, heads_behind, past_member, inside_past_member}
-use Rattle.grammar_rules.proofs.Led.{Led, led_then, led_valued, led_before, led_either, led_judged, led_trap, led_weaker, led_shorter, starts_led, led_covers, led_covers_rest, next_is, next_true, next_false, stopped_covers}
-use Rattle.grammar_rules.proofs.Tests.{passed_covers, failed_covers, exact_either_head, exact_optional_head, exact_either_next}
-use Rattle.grammar_rules.proofs.Spaced.{blank_some_of, Leads, leads_weaker, leads_behind, Spaced, spaced_run, spaced_behind, spaced_optional, exact_spaced_optional}
-use Rattle.grammar_rules.proofs.Whole.{ends, heads_ends, inside_ends, answers_whole}
+use Rattle.xml_grammar.specs.Rules.{Begin, Rule, word, either, judged, trap, optional, keeping_first, keeping_second}
+use Rattle.xml_grammar.specs.Reading.{Reader, Stop, Syntax, head_is, starts, read_word}
+use Rattle.xml_grammar.specs.readers.Functions.{read_whole, read_behind, read_before}
+use Rattle.xml_grammar.specs.Answers.{Faults, Answers}
+use Rattle.xml_grammar.proofs.Exact.{Rest, ahead, IsStopped, Outcome, Exact}
+use Rattle.xml_grammar.proofs.Leaves.{exact_word}
+use Rattle.xml_grammar.proofs.Carry.{Covers, exact_valued, exact_either, covers_either}
+use Rattle.xml_grammar.proofs.Heads.{Heads, heads_starts, heads_run, heads_optional, heads_valued, heads_sequence, starts_word, starts_sequence, follows_starts}
+use Rattle.xml_grammar.proofs.Repeats.{heads_many}
+use Rattle.xml_grammar.proofs.Fronts.{starts_is}
+use Rattle.xml_grammar.proofs.Laws.{Lawful, lawful_one, lawful_word, lawful_only, lawful_run, lawful_either, lawful_valued, lawful_judged, lawful_trap, lawful_optional, lawful_between, lawful_some_of, lawful_name_of, lawful_before, lawful_behind, lawful_quoted, Quiet, quiet_word, quiet_run, quiet_valued, quiet_either, quiet_optional, quiet_some_of, quiet_name_of, quiet_before, quiet_behind, quiet_quoted, Inside, inside_ahead}
+use Rattle.xml_grammar.proofs.Beginnings.{Fronted, fronted_one, fronted_word, fronted_up_to, fronted_either, fronted_valued, fronted_only, fronted_behind, fronted_name_of}
+use Rattle.xml_grammar.proofs.Closed.{anything, inside_anything, exact_closed}
+use Rattle.xml_grammar.proofs.Marks.{Judges, exact_judged, exact_trap, trap_covers}
+use Rattle.xml_grammar.proofs.Shapes.{exact_before, exact_behind, exact_optional, exact_some_of, exact_name_of, exact_quoted, exact_between, starts_behind, starts_some_of, starts_quoted, heads_behind, past_member, inside_past_member}
+use Rattle.xml_grammar.proofs.Led.{Led, led_then, led_valued, led_before, led_either, led_judged, led_trap, led_weaker, led_shorter, starts_led, led_covers, led_covers_rest, next_is, next_true, next_false, stopped_covers}
+use Rattle.xml_grammar.proofs.Tests.{passed_covers, failed_covers, exact_either_head, exact_optional_head, exact_either_next}
+use Rattle.xml_grammar.proofs.Spaced.{blank_some_of, Leads, leads_weaker, leads_behind, Spaced, spaced_run, spaced_behind, spaced_optional, exact_spaced_optional}
+use Rattle.xml_grammar.proofs.Whole.{ends, heads_ends, inside_ends, answers_whole}
 use Rattle.tree_text.specs.readers.Words.{instruction_start, instruction_end, declaration_start, one_dot, encoding, standalone, yes, not_alone, bang, doctype, byte_order_mark}
-use Rattle.tree_text.specs.declared.kind.Kind.{Kind}
-use Rattle.tree_text.specs.declared.kind.Kind.TheVariants.{Encoded, Doctyped}
-use Rattle.tree_text.specs.Kinds.{is_fault, rank, faults}
+use Rattle.tree_text.specs.declared.fault_kind.FaultKind.{FaultKind}
+use Rattle.tree_text.specs.declared.fault_kind.FaultKind.TheVariants.{Encoded, Doctyped}
+use Rattle.tree_text.specs.FaultKinds.{is_fault, rank, faults}
 use Rattle.tree_text.specs.Grammar.{spaces, is_quote, comment, is_target, instructed, instruction, dropped, element, version_number, is_encoding_char, encoding_name, yes_or_no, pseudo_attribute, xml_declaration, is_our_encoding, IsForeign, misc, prolog, epilog, document}
 use Rattle.tree_text.specs.readers.Texts.{read_spaces, read_dropped, read_element, read_version_number, read_encoding_name, read_yes_or_no, read_declared, read_xml_declaration, encoding_fault, declaration_follows, read_misc, misc_follows, read_prolog_misc, read_prolog, less_follows, read_epilog, read_text}
 use Rattle.tree_text.proofs.ReadParts.{NoSpace, quote_no_space, exact_spaces, exact_equals, lawful_equals, quiet_equals, same, apart}
@@ -50,7 +50,7 @@ letter_no_space d h c e = ap is_space e ∙ h
 abbrev IsMisc : ℕ → Type 0
 IsMisc c = (c == 33) || (c == 63) ≡ true
 
-abbrev Gap : Rule Kind (Unit {0})
+abbrev Gap : Rule FaultKind (Unit {0})
 Gap = dropped spaces
 
 either_true : (a b : Bool) → a || b ≡ true → (a ≡ true) ⊎ (b ≡ true)
@@ -67,27 +67,27 @@ four_true false true c d h = inr (inl refl)
 four_true false false true d h = inr (inr (inl refl))
 four_true false false false d h = inr (inr (inr h))
 
--- what is said of a foreign encoding
+-- the mark of a foreign encoding
 some_is : {A : Type 0} {a b : A} → let o : Option A = Some a in o ≡ Some b → a ≡ b
 some_is e = cc
 
-said_foreign : (a : Option (List ℕ)) (x : Kind × ℕ) → encoding_fault a ≡ Some x → IsForeign a x.0 x.1
+said_foreign : (a : Option (List ℕ)) (x : FaultKind × ℕ) → encoding_fault a ≡ Some x → IsForeign a x.0 x.1
 said_foreign None x h = absurd cc
 said_foreign (Some n) x h = by_ours (is_our_encoding n) refl h
   where
-    by_ours : (b : Bool) → is_our_encoding n ≡ b → cond {A = Option (Kind × ℕ)} b None (Some (Encoded, 2)) ≡ Some x → IsForeign (Some n) x.0 x.1
+    by_ours : (b : Bool) → is_our_encoding n ≡ b → cond {A = Option (FaultKind × ℕ)} b None (Some (Encoded, 2)) ≡ Some x → IsForeign (Some n) x.0 x.1
     by_ours true e k = absurd cc
-    by_ours false e k = let s = some_is k in (n, refl, e, sym (ap (λ (z : Kind × ℕ). z.0) s), sym (ap (λ (z : Kind × ℕ). z.1) s))
+    by_ours false e k = let s = some_is k in (n, refl, e, sym (ap (λ (z : FaultKind × ℕ). z.0) s), sym (ap (λ (z : FaultKind × ℕ). z.1) s))
 
-foreign_said : (a : Option (List ℕ)) (k : Kind) (b : ℕ) → encoding_fault a ≡ None → IsForeign a k b → ⊥
+foreign_said : (a : Option (List ℕ)) (k : FaultKind) (b : ℕ) → encoding_fault a ≡ None → IsForeign a k b → ⊥
 foreign_said a k b none m = by_ours (is_our_encoding m.0) m.2 (ap encoding_fault (sym m.1) ∙ none)
   where
-    by_ours : (c : Bool) → c ≡ false → cond {A = Option (Kind × ℕ)} c None (Some (Encoded, 2)) ≡ None → ⊥
+    by_ours : (c : Bool) → c ≡ false → cond {A = Option (FaultKind × ℕ)} c None (Some (Encoded, 2)) ≡ None → ⊥
     by_ours true e h = absurd cc
     by_ours false e h = absurd cc
 
-module _ (faults : Faults Kind) where
-  module _ {A : Type 0} (c : ℕ) (cs : List ℕ) (no_space : is_space c ≡ false) (r : Rule Kind A) where
+module _ (faults : Faults FaultKind) where
+  module _ {A : Type 0} (c : ℕ) (cs : List ℕ) (no_space : is_space c ≡ false) (r : Rule FaultKind A) where
     lawful_declared : Lawful r → Lawful (pseudo_attribute (c ∷ cs) r)
     lawful_declared h = lawful_behind lawful_some_of (lawful_behind (lawful_word (c ∷ cs)) (lawful_behind (lawful_equals faults) (lawful_quoted (λ _. h))))
 
@@ -97,7 +97,7 @@ module _ (faults : Faults Kind) where
     leads_declared : Leads is_space (λ d. d ≡ c) (pseudo_attribute (c ∷ cs) r)
     leads_declared = leads_behind is_space (letter_no_space c no_space) (blank_some_of is_space) (starts_behind _ (starts_word refl))
 
-    closed_declared : (p : Reader Kind A) → ((q : ℕ) → is_quote q ≡ true → Exact faults r (λ _. ahead (word (q ∷ [])) (λ _. anything)) p) → Exact faults (pseudo_attribute (c ∷ cs) r) (λ _. anything) (read_declared (c ∷ cs) p)
+    closed_declared : (p : Reader FaultKind A) → ((q : ℕ) → is_quote q ≡ true → Exact faults r (λ _. ahead (word (q ∷ [])) (λ _. anything)) p) → Exact faults (pseudo_attribute (c ∷ cs) r) (λ _. anything) (read_declared (c ∷ cs) p)
     closed_declared p h = exact_behind (exact_some_of (λ _. heads_starts (starts_behind _ (starts_word no_space))))
         (exact_behind exact_word (exact_behind (exact_equals faults (heads_starts (starts_quoted (λ _. r) quote_no_space))) (exact_quoted h)))
 
@@ -110,13 +110,13 @@ module _ (faults : Faults Kind) where
   exact_yes_or_no : (q : ℕ) → is_quote q ≡ true → Exact faults yes_or_no (λ _. ahead (word (q ∷ [])) (λ _. anything)) read_yes_or_no
   exact_yes_or_no q h = exact_either_head (λ c. c == 121) (starts_word {P = λ c. c ≡ 121} refl) (same 121) (heads_starts (starts_word refl)) (apart 121) exact_word exact_word
 
-  abbrev Ended : Rule Kind (Unit {0})
+  abbrev Ended : Rule FaultKind (Unit {0})
   Ended = keeping_second spaces (word instruction_end)
 
-  abbrev Alone : Rule Kind (Option (Unit {0}))
+  abbrev Alone : Rule FaultKind (Option (Unit {0}))
   Alone = optional (pseudo_attribute standalone yes_or_no)
 
-  abbrev Encoding : Rule Kind (Option (List ℕ))
+  abbrev Encoding : Rule FaultKind (Option (List ℕ))
   Encoding = optional (pseudo_attribute encoding encoding_name)
 
   -- no white space, and neither of these letters
@@ -181,16 +181,16 @@ module _ (faults : Faults Kind) where
   led_misc : Led (60 ∷ []) IsMisc misc
   led_misc = led_either (led_weaker (λ c e. grind (arith, nat_tests)) led_bang) (led_weaker (λ c e. grind (arith, nat_tests)) (led_instruction faults))
 
-  exact_gap : {K : Rest Kind} → Heads NoSpace K → Exact faults Gap (λ _. K) (read_dropped read_spaces)
+  exact_gap : {K : Rest FaultKind} → Heads NoSpace K → Exact faults Gap (λ _. K) (read_dropped read_spaces)
   exact_gap h = exact_valued (λ _. tt) (exact_spaces faults h)
 
   lawful_gap : Lawful Gap
   lawful_gap = lawful_valued _ lawful_run
 
-  heads_gap : {P : ℕ → Type 0} {K : Rest Kind} → ((c : ℕ) → is_space c ≡ true → P c) → Heads P K → Heads P (ahead Gap (λ _. K))
+  heads_gap : {P : ℕ → Type 0} {K : Rest FaultKind} → ((c : ℕ) → is_space c ≡ true → P c) → Heads P K → Heads P (ahead Gap (λ _. K))
   heads_gap h k = heads_valued (λ _. tt) (heads_run h (λ _. k))
 
-  -- behind the root element
+  -- after the root element
   nothing_ends : (text : List ℕ) → head_is (λ c. c == 60) text ≡ true → Covers faults text ends (ahead misc (past_member Gap misc ends))
   nothing_ends text t = passed_covers (λ c. c == 60) (heads_ends {P = λ c. ⊥}) (λ c h n. n) t
 
@@ -204,10 +204,10 @@ module _ (faults : Faults Kind) where
   lawful_epilog : Lawful epilog
   lawful_epilog = lawful_valued _ (lawful_between lawful_gap lawful_misc (inl (led_bang.fronts [] (60 ∷ []) refl)))
 
--- # In front of the root element
+-- # Before the root element
 
 module _ (limit : ℕ) where
-  abbrev One : Rule Kind (Unit {0})
+  abbrev One : Rule FaultKind (Unit {0})
   One = either (trap Doctyped bang doctype) misc
 
   led_doctype : Led (60 ∷ 33 ∷ []) (λ c. c ≡ 68) (trap {A = Unit {0}} Doctyped bang doctype)
@@ -231,14 +231,14 @@ module _ (limit : ℕ) where
   one_begins : One.Meets Begin []
   one_begins = led_one.fronts [] (60 ∷ []) refl
 
-  -- where one of them comes, no element does
+  -- where one of them comes, no element comes
   no_element : (text : List ℕ) → misc_follows text ≡ true → (d : ℕ) (x : List ℕ) → text ≡ 60 ∷ (d ∷ x) → is_name_start d ≡ true → ⊥
   no_element text t d x j h = ⊎_elim
       (λ a. let n = next_true (60 ∷ []) 33 text a in let e = next_is (60 ∷ []) 33 n.0 d x n.1 j in absurd (grind (arith, nat_tests)))
       (λ a. let n = next_true (60 ∷ []) 63 text a in let e = next_is (60 ∷ []) 63 n.0 d x n.1 j in absurd (grind (arith, nat_tests)))
       (either_true (starts bang text) (starts instruction_start text) t)
 
-  -- where none comes, none is there
+  -- where none comes, there is none
   no_misc : (text : List ℕ) → misc_follows text ≡ false → (d : ℕ) (x : List ℕ) → text ≡ 60 ∷ (d ∷ x) → IsMisc d → ⊥
   no_misc text f d x j m =
       let b = both_false (starts bang text) (starts instruction_start text) f in
@@ -247,7 +247,7 @@ module _ (limit : ℕ) where
       (λ a. let e : d ≡ 63 = grind (arith, nat_tests) in next_false (60 ∷ []) 63 text x b.1 (j ∙ ap (λ (z : ℕ). 60 ∷ z ∷ x) e))
       (either_true (d == 33) (d == 63) m)
 
-  exact_prolog : {A : Type 0} {r : Rule Kind A} {J : A → Rest Kind} → Led (60 ∷ []) (λ c. is_name_start c ≡ true) r → Inside (ahead r J) → Exact (faults limit) prolog (λ _. ahead r J) read_prolog
+  exact_prolog : {A : Type 0} {r : Rule FaultKind A} {J : A → Rest FaultKind} → Led (60 ∷ []) (λ c. is_name_start c ≡ true) r → Inside (ahead r J) → Exact (faults limit) prolog (λ _. ahead r J) read_prolog
   exact_prolog {A} {r} {J} led inside = exact_valued (λ _. tt) (exact_between misc_follows (starts_led {P = NoSpace} refl led_one) refl
       (λ text t. led_covers led led_one (no_element text t))
       (λ text f. led_covers led_one led (no_misc text f))
@@ -258,13 +258,13 @@ module _ (limit : ℕ) where
   lawful_prolog = lawful_valued _ (lawful_between (lawful_gap (faults limit)) lawful_one_more one_begins)
 
   module _ (n : ℕ) (scope : List (List Decl)) (more : limit + 1 < suc n) where
-    abbrev Root : Rule Kind Tree
+    abbrev Root : Rule FaultKind Tree
     Root = keeping_first (element (suc n) scope 1) epilog
 
-    abbrev Rooted : Rule Kind Tree
+    abbrev Rooted : Rule FaultKind Tree
     Rooted = keeping_second prolog Root
 
-    read_rooted : Reader Kind Tree
+    read_rooted : Reader FaultKind Tree
     read_rooted = read_behind read_prolog (read_before (read_element limit scope 1) read_epilog)
 
     led_root : Led (60 ∷ []) (λ c. is_name_start c ≡ true) Root
@@ -281,7 +281,7 @@ module _ (limit : ℕ) where
     exact_rooted = exact_behind (exact_prolog led_root (inside_ahead lawful_root (λ _. inside_ends)))
         (exact_before (exact_closed (λ _. inside_ahead (lawful_epilog (faults limit)) (λ _. inside_ends)) (exact_element limit limit (suc n) scope 1 refl more)) (λ _. exact_epilog (faults limit)))
 
-    -- what begins an instruction begins all this
+    -- a beginning of an instruction is a beginning of all this
     instruction_begins : (u : List ℕ) → (instruction).Meets Begin u → Rooted.Meets Begin u
     instruction_begins u m = inl (inr (
       tt,
@@ -294,7 +294,7 @@ module _ (limit : ℕ) where
       },
     ))
 
-    -- and so does `<?xml`, with each of its fronts
+    -- and so is `<?xml`, with each of its prefixes
     declared_begins : (u x : List ℕ) → declaration_start ≡ u ++ x → Rooted.Meets Begin u
     declared_begins u x j =
         let fronted : Fronted instruction = fronted_behind (lawful_word instruction_start) (fronted_word instruction_start) (fronted_behind (lawful_only is_target lawful_name_of) (fronted_only is_target fronted_name_of) fronted_instructed) in
@@ -303,7 +303,7 @@ module _ (limit : ℕ) where
         fronted_instructed : Fronted instructed
         fronted_instructed = fronted_either (fronted_valued _ (fronted_behind lawful_one fronted_one (fronted_up_to instruction_end))) (fronted_word instruction_end)
 
-    -- and an instruction of that name stops behind it
+    -- and an instruction of that name stops after it
     stops_at : (c : ℕ) (x : List ℕ) → (c ≡ 32) ⊎ ((c ≡ 9) ⊎ ((c ≡ 10) ⊎ (c ≡ 13))) → read_rooted (60 ∷ 63 ∷ 120 ∷ 109 ∷ 108 ∷ c ∷ x) ≡ Err (Syntax (c ∷ x))
     unfolding read_rooted lib.Utf8.encode
     stops_at c x (inl e) = subst (λ (z : ℕ). read_rooted (60 ∷ 63 ∷ 120 ∷ 109 ∷ 108 ∷ z ∷ x) ≡ Err (Syntax (z ∷ x))) (sym e) refl
@@ -311,16 +311,16 @@ module _ (limit : ℕ) where
     stops_at c x (inr (inr (inl e))) = subst (λ (z : ℕ). read_rooted (60 ∷ 63 ∷ 120 ∷ 109 ∷ 108 ∷ z ∷ x) ≡ Err (Syntax (z ∷ x))) (sym e) refl
     stops_at c x (inr (inr (inr e))) = subst (λ (z : ℕ). read_rooted (60 ∷ 63 ∷ 120 ∷ 109 ∷ 108 ∷ z ∷ x) ≡ Err (Syntax (z ∷ x))) (sym e) refl
 
-    abbrev Declared : Rule Kind (Option (List ℕ))
+    abbrev Declared : Rule FaultKind (Option (List ℕ))
     Declared = judged IsForeign xml_declaration
 
     led_declared : Led declaration_start (λ c. is_space c ≡ true) Declared
     led_declared = led_judged IsForeign (led_declaration (faults limit))
 
-    -- where a declaration comes, nothing else goes on behind `<?xml`
+    -- where a declaration comes, nothing else can follow `<?xml`
     declared_covers : (text : List ℕ) (c : ℕ) (x : List ℕ) → text ≡ declaration_start ++ (c ∷ x) → (c ≡ 32) ⊎ ((c ≡ 9) ⊎ ((c ≡ 10) ⊎ (c ≡ 13))) → Covers (faults limit) text (ahead Rooted (λ _. ends)) (ahead Declared (λ _. ahead Rooted (λ _. ends)))
     declared_covers text c x j is =
-        let P : Result (Tree × List ℕ) (Stop Kind) → Type 0 = Outcome (faults limit) Rooted (λ _. ends) text in
+        let P : Result (Tree × List ℕ) (Stop FaultKind) → Type 0 = Outcome (faults limit) Rooted (λ _. ends) text in
         let h : IsStopped (faults limit) Rooted (λ _. ends) text (c ∷ x) = subst P (ap read_rooted j ∙ stops_at c x is) (exact_rooted.by text) in
         let at : h.used ≡ declaration_start = append_cancel_right h.used declaration_start (c ∷ x) (sym h.joined ∙ j) in
         stopped_covers h (λ u y k. inl (inl (led_declared.fronts u y (sym at ∙ k))))

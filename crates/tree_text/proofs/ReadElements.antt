@@ -1,4 +1,4 @@
--- Content and elements are read exactly, within a limit of depth.
+-- Content and elements are read exactly, within a depth limit.
 use Rattle.std.proofs.Common.{◌≡◌, ℕ, zero, suc, ◌+◌, ◌<◌, ◌≤◌, Bool, true, false, List, [], ◌∷◌, ◌++◌, length, Result, Err, ◌⊎◌, inl, inr, ⊎_elim, refl, sym, ap, subst, ◌∙◌, arith}
 use Rattle.std.specs.Prelude.{◌&&◌, ◌||◌, ◌==◌, not, nat_eq}
 use Rattle.std.proofs.lemmas.Bool.{eqb-true}
@@ -7,29 +7,29 @@ use Rattle.xml_tree.specs.Characters.{is_name_start}
 use Rattle.xml_tree.specs.Tree.{last, Tree}
 use Rattle.xml_tree.specs.declared.names.Name.{Name}
 use Rattle.xml_tree.specs.declared.names.Decl.{Decl}
-use Rattle.grammar_rules.specs.Rules.{Begin, Rule, word, sequence, valued, judged}
-use Rattle.grammar_rules.specs.Reading.{Reader, Stop, Syntax, ◌>>=◌, head_is, starts, read_word}
-use Rattle.grammar_rules.specs.readers.Functions.{read_behind, read_never}
-use Rattle.grammar_rules.specs.Answers.{Faults}
-use Rattle.grammar_rules.proofs.Exact.{Rest, ahead, Outcome, Exact, exact_sequence}
-use Rattle.grammar_rules.proofs.Leaves.{exact_empty, exact_word}
-use Rattle.grammar_rules.proofs.Carry.{Covers, exact_valued, covers_either}
-use Rattle.grammar_rules.proofs.Heads.{Not, Heads, heads_starts, Starts, uses, starts_word, starts_sequence, starts_either, starts_valued, starts_covers}
-use Rattle.grammar_rules.proofs.Repeats.{heads_many}
-use Rattle.grammar_rules.proofs.Greedy.{exact_run_without}
-use Rattle.grammar_rules.proofs.Laws.{Lawful, lawful_never, lawful_empty, lawful_word, lawful_run, lawful_run_without, lawful_sequence, lawful_either, lawful_valued, lawful_marked, lawful_judged, lawful_between, lawful_before, lawful_behind, inside_ahead}
-use Rattle.grammar_rules.proofs.Closed.{anything, inside_anything, exact_closed}
-use Rattle.grammar_rules.proofs.Marks.{exact_judged, Marks, exact_marked, exact_unmarked}
-use Rattle.grammar_rules.proofs.Shapes.{exact_before, exact_behind, exact_between, past_member, inside_past_member}
-use Rattle.grammar_rules.proofs.Led.{Past, Led, led_word, led_sequence, led_valued, led_behind, led_judged, led_marked, starts_led, led_covers, led_covers_rest, led_stopped, next_true, next_false, next_is}
-use Rattle.grammar_rules.proofs.Tests.{failed_covers}
+use Rattle.xml_grammar.specs.Rules.{Begin, Rule, word, sequence, valued, judged}
+use Rattle.xml_grammar.specs.Reading.{Reader, Stop, Syntax, ◌>>=◌, head_is, starts, read_word}
+use Rattle.xml_grammar.specs.readers.Functions.{read_behind, read_never}
+use Rattle.xml_grammar.specs.Answers.{Faults}
+use Rattle.xml_grammar.proofs.Exact.{Rest, ahead, Outcome, Exact, exact_sequence}
+use Rattle.xml_grammar.proofs.Leaves.{exact_empty, exact_word}
+use Rattle.xml_grammar.proofs.Carry.{Covers, exact_valued, covers_either}
+use Rattle.xml_grammar.proofs.Heads.{Not, Heads, heads_starts, Starts, uses, starts_word, starts_sequence, starts_either, starts_valued, starts_covers}
+use Rattle.xml_grammar.proofs.Repeats.{heads_many}
+use Rattle.xml_grammar.proofs.Greedy.{exact_run_without}
+use Rattle.xml_grammar.proofs.Laws.{Lawful, lawful_never, lawful_empty, lawful_word, lawful_run, lawful_run_without, lawful_sequence, lawful_either, lawful_valued, lawful_marked, lawful_judged, lawful_between, lawful_before, lawful_behind, inside_ahead}
+use Rattle.xml_grammar.proofs.Closed.{anything, inside_anything, exact_closed}
+use Rattle.xml_grammar.proofs.Marks.{exact_judged, Marks, exact_marked, exact_unmarked}
+use Rattle.xml_grammar.proofs.Shapes.{exact_before, exact_behind, exact_between, past_member, inside_past_member}
+use Rattle.xml_grammar.proofs.Led.{Past, Led, led_word, led_sequence, led_valued, led_behind, led_judged, led_marked, starts_led, led_covers, led_covers_rest, led_stopped, next_true, next_false, next_is}
+use Rattle.xml_grammar.proofs.Tests.{failed_covers}
 use Rattle.tree_text.specs.readers.Words.{less, greater, end_start, ampersand, section_end}
-use Rattle.tree_text.specs.declared.kind.Kind.{Kind}
-use Rattle.tree_text.specs.declared.kind.Kind.TheVariants.{Depth}
+use Rattle.tree_text.specs.declared.fault_kind.FaultKind.{FaultKind}
+use Rattle.tree_text.specs.declared.fault_kind.FaultKind.TheVariants.{Depth}
 use Rattle.tree_text.specs.Pieces.{Reference, Section, Comment, Inner, line_ends, written, with_pieces}
-use Rattle.tree_text.specs.Kinds.{is_fault, faults}
+use Rattle.tree_text.specs.FaultKinds.{is_fault, faults}
 use Rattle.tree_text.specs.Names.{IsWrong, element_of, inside_tag as inside}
-use Rattle.tree_text.specs.Grammar.{is_raw, chars, markup, content, end_tag, tag, behind_tag, StartsTag, element}
+use Rattle.tree_text.specs.Grammar.{is_raw, chars, markup, content, end_tag, start_tag, behind_tag, StartsTag, element}
 use Rattle.tree_text.specs.readers.Texts.{read_name, read_chars, markup_follows, read_content, read_end_tag, read_behind_tag, starts_tag, read_element}
 use Rattle.tree_text.proofs.ReadParts.{exact_spaces, starts_reference, lawful_reference, closed_tag, lawful_tag, quiet_tag, led_tag}
 use Rattle.tree_text.proofs.JudgeTags.{tag_judges}
@@ -52,7 +52,7 @@ not_false : (b : Bool) → not b ≡ false → b ≡ true
 not_false true h = refl
 not_false false h = absurd cc
 
-module _ (faults : Faults Kind) where
+module _ (faults : Faults FaultKind) where
   -- # End tags
 
   led_end_tag : (n : Name) → Led (60 ∷ []) (λ c. c ≡ 47) (end_tag n)
@@ -66,13 +66,13 @@ module _ (faults : Faults Kind) where
 
   -- # Content
 
-  exact_chars : {K : Rest Kind} → Heads (Not is_raw) K → Exact faults chars (λ _. K) read_chars
+  exact_chars : {K : Rest FaultKind} → Heads (Not is_raw) K → Exact faults chars (λ _. K) read_chars
   exact_chars h = exact_valued line_ends (exact_run_without section_end some_section_end section_raw (λ _. h))
 
   lawful_chars : Lawful chars
   lawful_chars = lawful_valued line_ends (lawful_run_without section_end)
 
-  module _ (inner : Rule Kind Tree) (lawful : Lawful inner) where
+  module _ (inner : Rule FaultKind Tree) (lawful : Lawful inner) where
     lawful_markup : Lawful (markup inner)
     lawful_markup = lawful_either (lawful_valued Reference (lawful_reference faults)) (lawful_either (lawful_valued Section (lawful_section faults)) (lawful_either (lawful_valued Comment (lawful_comment faults)) (lawful_either (lawful_valued _ (lawful_instruction faults)) (lawful_valued Inner lawful))))
 
@@ -80,12 +80,12 @@ module _ (faults : Faults Kind) where
     lawful_behind_tag n true = lawful_empty
     lawful_behind_tag n false = lawful_before (lawful_valued _ (lawful_between lawful_chars lawful_markup (inl (inl (ampersand, refl))))) (lawful_end_tag n)
 
-  module _ (inner : Rule Kind Tree) (led : Led (60 ∷ []) (λ c. is_name_start c ≡ true) inner) (lawful : Lawful inner) (p : Reader Kind Tree) (exact : Exact faults inner (λ _. anything) p) where
+  module _ (inner : Rule FaultKind Tree) (led : Led (60 ∷ []) (λ c. is_name_start c ≡ true) inner) (lawful : Lawful inner) (p : Reader FaultKind Tree) (exact : Exact faults inner (λ _. anything) p) where
     starts_markup : {P : ℕ → Type 0} → P 38 → P 60 → Starts P (markup inner)
     starts_markup h i = starts_either (starts_valued Reference (starts_reference faults h)) (starts_led i (led_markup faults inner led lawful p exact))
 
     module _ (n : Name) where
-      abbrev After : Rest Kind
+      abbrev After : Rest FaultKind
       After = ahead (end_tag n) (λ _. anything)
 
       goes_on : (text : List ℕ) → markup_follows text ≡ true → Covers faults text After (ahead (markup inner) (past_member chars (markup inner) After))
@@ -122,9 +122,9 @@ module _ (faults : Faults Kind) where
 past_tag : (v : List ℕ) → StartsTag v → Past (60 ∷ []) (λ c. is_name_start c ≡ true) v
 past_tag v m = record { next = m.0; rest = []; joined = m.1; is = m.2 }
 
--- what stands behind the mark of an element
-abbrev tagged : ℕ → List (List Decl) → ℕ → Rule Kind Tree
-tagged n scope depth = valued element_of (sequence (judged (IsWrong scope) tag) (λ t. behind_tag (element n (inside scope t) (depth + 1)) t.name t.is_empty))
+-- what follows the mark of an element
+abbrev tagged : ℕ → List (List Decl) → ℕ → Rule FaultKind Tree
+tagged n scope depth = valued element_of (sequence (judged (IsWrong scope) start_tag) (λ t. behind_tag (element n (inside scope t) (depth + 1)) t.name t.is_empty))
 
 led_tagged : (n : ℕ) (scope : List (List Decl)) (depth : ℕ) → Led (60 ∷ []) (λ c. is_name_start c ≡ true) (tagged n scope depth)
 led_tagged n scope depth = led_valued element_of (led_sequence _ (led_judged (IsWrong scope) (led_tag (faults 0))))
@@ -135,11 +135,11 @@ led_element n scope depth = led_marked (Depth depth) StartsTag past_tag (led_tag
 tag_begins : (n : ℕ) (scope : List (List Decl)) (depth : ℕ) (v : List ℕ) → StartsTag v → (0 < length v) × (tagged n scope depth).Meets Begin v
 tag_begins n scope depth v m = (omega (arith, ap length m.1), subst ((tagged n scope depth).Meets Begin) (sym m.1) (inl (inr (tt, record { front = 60 ∷ []; back = m.0 ∷ []; joined = refl; front_is = refl; back_is = inl (inl (inl (inr (m.0, m.2, refl)))) }))))
 
--- where no tag starts, reading a tag stops at its `<`, or behind it
-abbrev blocked : Reader Kind Tree
+-- where no tag starts, reading a tag stops at its `<`, or directly after it
+abbrev blocked : Reader FaultKind Tree
 blocked = read_behind (read_word less) (read_behind read_name read_never)
 
-abbrev stopped_text : List ℕ → Result (Tree × List ℕ) (Stop Kind)
+abbrev stopped_text : List ℕ → Result (Tree × List ℕ) (Stop FaultKind)
 stopped_text text = read_word less text >>= λ x. Err (Syntax x.1)
 
 stops_by_name : (b : Bool) (d : ℕ) (y : List ℕ) → is_name_start d ≡ b → b ≡ false → stopped_text (60 ∷ d ∷ y) ≡ blocked (60 ∷ d ∷ y)
@@ -177,14 +177,14 @@ module _ (limit : ℕ) where
   lawful_element zero scope depth = lawful_never
   lawful_element (suc n) scope depth = lawful_marked (Depth depth) StartsTag (tag_begins n scope depth) (lawful_tagged n scope depth (lawful_element n))
 
-  -- an element is longer than nothing
+  -- an element isn't empty
   tagged_uses : (n : ℕ) (scope : List (List Decl)) (depth : ℕ) (u : List ℕ) (a : Tree) → (tagged n scope depth).Spells u a → 0 < length u
   tagged_uses n scope depth u a m = uses (starts_led {P = λ c. c ≡ 60} refl (led_tagged n scope depth)) u a m
 
-  rank_least : (depth : ℕ) (k : Kind) → (faults limit).is_fault k ≡ true → (faults limit).rank (Depth depth) ≤ (faults limit).rank k
+  rank_least : (depth : ℕ) (k : FaultKind) → (faults limit).is_fault k ≡ true → (faults limit).rank (Depth depth) ≤ (faults limit).rank k
   rank_least depth k h = omega arith
 
-  -- at the limit nothing is read but the start of a tag
+  -- at the limit only the start of a tag is read
   marks_at : (n : ℕ) (scope : List (List Decl)) (depth : ℕ) → is_fault limit (Depth depth) ≡ true → Marks (faults limit) (Depth depth) StartsTag (tagged n scope depth) starts_tag
   marks_at n scope depth deep = record {
     is_fault = λ text t. deep;
@@ -197,7 +197,7 @@ module _ (limit : ℕ) where
   blocked_outcome : (n : ℕ) (scope : List (List Decl)) (depth : ℕ) (text : List ℕ) → starts_tag text ≡ false → Outcome (faults limit) (tagged n scope depth) (λ _. anything) text (blocked text)
   blocked_outcome n scope depth text f =
       let first : Exact (faults limit) (word less) (λ _. anything) (read_word less) = exact_word in
-      let P : Result (Tree × List ℕ) (Stop Kind) → Type 0 = Outcome (faults limit) (tagged n scope depth) (λ _. anything) text in
+      let P : Result (Tree × List ℕ) (Stop FaultKind) → Type 0 = Outcome (faults limit) (tagged n scope depth) (λ _. anything) text in
       subst P (blocked_stops text f) (led_stopped (faults limit) (60 ∷ []) (λ c. is_name_start c ≡ true) (tagged n scope depth) (λ _. anything) (led_tagged n scope depth) text
       (λ d x j h. let t = starts_tag_at text d x j h in absurd cc) (read_word less text) (first.by text))
 

@@ -4,34 +4,34 @@ use Rattle.std.specs.Prelude.{◌==◌}
 use Rattle.std.proofs.lemmas.Bool.Decides.{nat_tests}
 use Rattle.std.specs.Char.{is_ascii_digit as is_digit, is_ascii_hexdigit as is_hex_digit}
 use Rattle.xml_tree.specs.Characters.{is_char, is_space, is_name_start, is_name_char}
-use Rattle.grammar_rules.specs.Digits.{decimal_digits, hexadecimal}
-use Rattle.grammar_rules.specs.Rules.{word, keeping_second}
-use Rattle.grammar_rules.specs.Answers.{Faults}
-use Rattle.grammar_rules.proofs.Exact.{Rest, ahead, Exact, exact_sequence}
-use Rattle.grammar_rules.proofs.Leaves.{exact_word}
-use Rattle.grammar_rules.proofs.Carry.{exact_valued, exact_sized}
-use Rattle.grammar_rules.proofs.Heads.{Heads, heads_starts, heads_run, heads_optional, heads_weaker, heads_sequence, Starts, starts_word, starts_number, starts_sequence, starts_either, starts_valued, starts_sized, follows_starts}
-use Rattle.grammar_rules.proofs.Greedy.{exact_run, exact_number}
-use Rattle.grammar_rules.proofs.Laws.{Lawful, lawful_word, lawful_run, lawful_number, lawful_sequence, lawful_either, lawful_many, lawful_valued, lawful_sized, lawful_optional, lawful_between, lawful_name_of, lawful_some_of, lawful_before, lawful_behind, lawful_quoted, Quiet, quiet_word, quiet_run, quiet_number, quiet_sequence, quiet_either, quiet_many, quiet_valued, quiet_sized, quiet_optional, quiet_between, quiet_name_of, quiet_some_of, quiet_before, quiet_behind, quiet_quoted, Inside, inside_ahead}
-use Rattle.grammar_rules.proofs.Repeats.{heads_many}
-use Rattle.grammar_rules.proofs.Closed.{anything, inside_anything, exact_closed}
-use Rattle.grammar_rules.proofs.Shapes.{exact_before, exact_behind, exact_name_of, exact_some_of, exact_quoted, starts_behind, starts_some_of, starts_name_of, starts_quoted, heads_before, heads_behind, inside_past_member}
-use Rattle.grammar_rules.proofs.Led.{Led, led_word, led_then, led_valued, led_sized}
-use Rattle.grammar_rules.proofs.Tests.{exact_either_head, exact_optional_head, exact_between_run_head, exact_either_next}
-use Rattle.grammar_rules.proofs.Spaced.{blank_some_of, Leads, leads_sequence, leads_valued, spaced_run, exact_spaced_many}
+use Rattle.xml_grammar.specs.Digits.{decimal_digits, hexadecimal}
+use Rattle.xml_grammar.specs.Rules.{word, keeping_second}
+use Rattle.xml_grammar.specs.Answers.{Faults}
+use Rattle.xml_grammar.proofs.Exact.{Rest, ahead, Exact, exact_sequence}
+use Rattle.xml_grammar.proofs.Leaves.{exact_word}
+use Rattle.xml_grammar.proofs.Carry.{exact_valued, exact_sized}
+use Rattle.xml_grammar.proofs.Heads.{Heads, heads_starts, heads_run, heads_optional, heads_weaker, heads_sequence, Starts, starts_word, starts_number, starts_sequence, starts_either, starts_valued, starts_sized, follows_starts}
+use Rattle.xml_grammar.proofs.Greedy.{exact_run, exact_number}
+use Rattle.xml_grammar.proofs.Laws.{Lawful, lawful_word, lawful_run, lawful_number, lawful_sequence, lawful_either, lawful_many, lawful_valued, lawful_sized, lawful_optional, lawful_between, lawful_name_of, lawful_some_of, lawful_before, lawful_behind, lawful_quoted, Quiet, quiet_word, quiet_run, quiet_number, quiet_sequence, quiet_either, quiet_many, quiet_valued, quiet_sized, quiet_optional, quiet_between, quiet_name_of, quiet_some_of, quiet_before, quiet_behind, quiet_quoted, Inside, inside_ahead}
+use Rattle.xml_grammar.proofs.Repeats.{heads_many}
+use Rattle.xml_grammar.proofs.Closed.{anything, inside_anything, exact_closed}
+use Rattle.xml_grammar.proofs.Shapes.{exact_before, exact_behind, exact_name_of, exact_some_of, exact_quoted, starts_behind, starts_some_of, starts_name_of, starts_quoted, heads_before, heads_behind, inside_past_member}
+use Rattle.xml_grammar.proofs.Led.{Led, led_word, led_then, led_valued, led_sized}
+use Rattle.xml_grammar.proofs.Tests.{exact_either_head, exact_optional_head, exact_between_run_head, exact_either_next}
+use Rattle.xml_grammar.proofs.Spaced.{blank_some_of, Leads, leads_sequence, leads_valued, spaced_run, exact_spaced_many}
 use Rattle.tree_text.specs.readers.Words.{less, greater, empty_end, colon, ampersand, semicolon, hash, small_x, amp, lt, gt, quot, apos, equals_sign}
-use Rattle.tree_text.specs.declared.kind.Kind.{Kind}
+use Rattle.tree_text.specs.declared.fault_kind.FaultKind.{FaultKind}
 use Rattle.tree_text.specs.Pieces.{qname_of, value_spelled as value_of}
-use Rattle.tree_text.specs.readers.Made.{said_of, tag_of}
-use Rattle.tree_text.specs.Grammar.{name, qname, spaces, equals, stands_for, entity, last_char, char_ref, reference, is_quote, is_raw_in, value, attribute, said, tag_end, tag}
+use Rattle.tree_text.specs.readers.TagValues.{said_of, start_tag_of}
+use Rattle.tree_text.specs.Grammar.{name, qname, spaces, equals, stands_for, entity, last_char, char_ref, reference, is_quote, is_raw_in, value, attribute, raw_attribute, tag_end, start_tag}
 use Rattle.tree_text.specs.readers.Texts.{read_name, read_qname, read_spaces, read_equals, read_stands_for, read_entity, read_numbered, read_reference, read_value, read_attribute, read_said, read_tag_end, read_tag}
 
--- # Classes that don't meet
+-- # Disjoint classes
 
 abbrev pub NoName : ℕ → Type 0
 NoName c = is_name_char c ≡ false
 
--- neither of a name nor a colon
+-- neither a name character nor a colon
 abbrev pub NoQName : ℕ → Type 0
 NoQName c = (is_name_char c ≡ false) × ((c == 58) ≡ false)
 
@@ -64,14 +64,14 @@ apart d c t f = absurd cc
 
 -- # Names
 
-module _ (faults : Faults Kind) where
-  pub exact_name : {K : Rest Kind} → Heads NoName K → Exact faults name (λ _. K) read_name
+module _ (faults : Faults FaultKind) where
+  pub exact_name : {K : Rest FaultKind} → Heads NoName K → Exact faults name (λ _. K) read_name
   exact_name h = exact_name_of (λ _. h)
 
-  starts_colon : {P : ℕ → Type 0} → P 58 → Starts P (keeping_second (word {Kind = Kind} colon) name)
+  starts_colon : {P : ℕ → Type 0} → P 58 → Starts P (keeping_second (word {Kind = FaultKind} colon) name)
   starts_colon h = starts_behind name (starts_word h)
 
-  pub exact_qname : {K : Rest Kind} → Heads NoQName K → Exact faults qname (λ _. K) read_qname
+  pub exact_qname : {K : Rest FaultKind} → Heads NoQName K → Exact faults qname (λ _. K) read_qname
   exact_qname {K} h =
       let after : Heads NoName K = heads_weaker (λ c x. x.0) h in
       exact_valued qname_of (exact_sequence
@@ -89,13 +89,13 @@ module _ (faults : Faults Kind) where
 
   -- # White space and `=`
 
-  pub exact_spaces : {K : Rest Kind} → Heads NoSpace K → Exact faults spaces (λ _. K) read_spaces
+  pub exact_spaces : {K : Rest FaultKind} → Heads NoSpace K → Exact faults spaces (λ _. K) read_spaces
   exact_spaces h = exact_run (λ _. h)
 
-  pub exact_equals : {K : Rest Kind} → Heads NoSpace K → Exact faults equals (λ _. K) read_equals
+  pub exact_equals : {K : Rest FaultKind} → Heads NoSpace K → Exact faults equals (λ _. K) read_equals
   exact_equals {K} h = exact_behind (exact_spaces (heads_starts (starts_behind spaces (starts_word refl)))) (exact_behind exact_word (exact_spaces h))
 
-  pub heads_equals : {P : ℕ → Type 0} {K : Rest Kind} → ((c : ℕ) → is_space c ≡ true → P c) → P 61 → Heads P (ahead equals (λ _. K))
+  pub heads_equals : {P : ℕ → Type 0} {K : Rest FaultKind} → ((c : ℕ) → is_space c ≡ true → P c) → P 61 → Heads P (ahead equals (λ _. K))
   heads_equals h i = heads_behind (heads_run h (λ _. heads_starts (starts_behind spaces (starts_word i))))
 
   pub lawful_equals : Lawful equals
@@ -106,16 +106,16 @@ module _ (faults : Faults Kind) where
 
   -- # References
 
-  exact_stands_for : {c : ℕ} {w : List ℕ} {K : Rest Kind} → Exact faults (stands_for c w) (λ _. K) (read_stands_for c w)
+  exact_stands_for : {c : ℕ} {w : List ℕ} {K : Rest FaultKind} → Exact faults (stands_for c w) (λ _. K) (read_stands_for c w)
   exact_stands_for {c} = exact_valued (λ _. c) exact_word
 
-  exact_entity : {K : Rest Kind} → Exact faults entity (λ _. K) read_entity
+  exact_entity : {K : Rest FaultKind} → Exact faults entity (λ _. K) read_entity
   exact_entity {K} = exact_either_head (λ c. c == 108) (starts_valued _ (starts_word {P = λ c. c ≡ 108} refl)) (same 108) (heads_starts (starts_either (starts_valued _ (starts_word refl)) (starts_either (starts_valued _ (starts_word refl)) (starts_either (starts_valued _ (starts_word refl)) (starts_valued _ (starts_word refl)))))) (apart 108) exact_stands_for
       (exact_either_head (λ c. c == 103) (starts_valued _ (starts_word {P = λ c. c ≡ 103} refl)) (same 103) (heads_starts (starts_either (starts_valued _ (starts_word refl)) (starts_either (starts_valued _ (starts_word refl)) (starts_valued _ (starts_word refl))))) (apart 103) exact_stands_for
       (exact_either_head (λ c. c == 113) (starts_valued _ (starts_word {P = λ c. c ≡ 113} refl)) (same 113) (heads_starts (starts_either (starts_valued _ (starts_word refl)) (starts_valued _ (starts_word refl)))) (apart 113) exact_stands_for
       (exact_either_next (97 ∷ []) 112 (led_valued _ (led_word (97 ∷ []) 112 (111 ∷ 115 ∷ []) refl)) (led_valued _ (led_word {Q = λ c. c ≡ 109} (97 ∷ []) 109 (112 ∷ []) refl)) (λ e. absurd (omega (arith, e))) exact_stands_for exact_stands_for)))
 
-  exact_numbered : {K : Rest Kind} → Heads (λ c. (is_digit c ≡ false) × (is_hex_digit c ≡ false)) K → Exact faults char_ref (λ _. K) read_numbered
+  exact_numbered : {K : Rest FaultKind} → Heads (λ c. (is_digit c ≡ false) × (is_hex_digit c ≡ false)) K → Exact faults char_ref (λ _. K) read_numbered
   exact_numbered {K} h = exact_behind exact_word
       (exact_either_head (λ c. c == 120) (starts_behind _ (starts_word {P = λ c. c ≡ 120} refl)) (same 120)
       (heads_starts (starts_number {P = λ c. (c == 120) ≡ false} decimal_digits last_char is_char digit_no_x)) (apart 120)
@@ -125,7 +125,7 @@ module _ (faults : Faults Kind) where
       digit_no_x : (c : ℕ) → is_digit c ≡ true → (c == 120) ≡ false
       digit_no_x c t = grind (arith, nat_tests)
 
-  -- a reference ends by itself
+  -- a reference is closed
   pub closed_reference : Exact faults reference (λ _. anything) read_reference
   closed_reference = exact_behind exact_word (exact_before
       (exact_either_head (λ c. c == 35) (starts_behind _ (starts_word {P = λ c. c ≡ 35} refl)) (same 35)
@@ -151,7 +151,7 @@ module _ (faults : Faults Kind) where
 
   -- # Values
 
-  exact_value : (q : ℕ) {K : Rest Kind} → is_quote q ≡ true → Inside K → Exact faults (value q) (λ _. ahead (word (q ∷ [])) (λ _. K)) (read_value q)
+  exact_value : (q : ℕ) {K : Rest FaultKind} → is_quote q ≡ true → Inside K → Exact faults (value q) (λ _. ahead (word (q ∷ [])) (λ _. K)) (read_value q)
   exact_value q {K} h inside = exact_valued value_of (exact_between_run_head (λ c. c == 38) (starts_reference {P = λ c. c ≡ 38} refl)
       (λ c e. (same 38 c e, grind (arith, nat_tests)))
       (heads_starts (starts_word {P = λ c. c ≡ q} refl)) (no_own_quote q)
@@ -180,21 +180,21 @@ module _ (faults : Faults Kind) where
   pub quiet_attribute : Quiet attribute
   quiet_attribute = quiet_sequence quiet_qname (λ _. quiet_behind quiet_equals (quiet_quoted quiet_value))
 
-  lawful_said : Lawful said
+  lawful_said : Lawful raw_attribute
   lawful_said = lawful_valued said_of (lawful_sequence lawful_some_of (λ _. lawful_sized lawful_attribute))
 
-  quiet_said : Quiet said
+  quiet_said : Quiet raw_attribute
   quiet_said = quiet_valued said_of (quiet_sequence quiet_some_of (λ _. quiet_sized quiet_attribute))
 
-  leads_said : Leads is_space (λ c. is_name_start c ≡ true) said
+  leads_said : Leads is_space (λ c. is_name_start c ≡ true) raw_attribute
   leads_said = leads_valued is_space said_of (leads_sequence is_space start_no_space (blank_some_of is_space) (starts_sized (starts_attribute (λ c t. t))))
 
-  exact_said : {K : Rest Kind} → Inside K → Exact faults said (λ _. K) read_said
+  exact_said : {K : Rest FaultKind} → Inside K → Exact faults raw_attribute (λ _. K) read_said
   exact_said inside = exact_valued said_of (exact_sequence (exact_some_of (λ _. heads_starts (starts_sized (starts_attribute start_no_space)))) (λ _. exact_sized (exact_closed (λ _. inside) closed_attribute)))
 
   -- # Tags
 
-  exact_tag_end : {K : Rest Kind} → Exact faults tag_end (λ _. K) read_tag_end
+  exact_tag_end : {K : Rest FaultKind} → Exact faults tag_end (λ _. K) read_tag_end
   exact_tag_end {K} = exact_either_head (λ c. c == 47) (starts_valued _ (starts_word {P = λ c. c ≡ 47} refl)) (same 47) (heads_starts (starts_valued _ (starts_word refl))) (apart 47) (exact_valued (λ _. true) exact_word) (exact_valued (λ _. false) exact_word)
 
   starts_tag_end : {P : ℕ → Type 0} → P 47 → P 62 → Starts P tag_end
@@ -207,9 +207,9 @@ module _ (faults : Faults Kind) where
   lawful_tag_end : Lawful tag_end
   lawful_tag_end = lawful_either (lawful_valued _ (lawful_word empty_end)) (lawful_valued _ (lawful_word greater))
 
-  -- a tag ends by itself
-  pub closed_tag : Exact faults tag (λ _. anything) read_tag
-  closed_tag = exact_valued tag_of (exact_sized (exact_behind exact_word (exact_sequence
+  -- a tag is closed
+  pub closed_tag : Exact faults start_tag (λ _. anything) read_tag
+  closed_tag = exact_valued start_tag_of (exact_sized (exact_behind exact_word (exact_sequence
       (exact_qname (heads_sequence (heads_before (heads_many (starts_valued said_of (starts_sequence _ (starts_some_of space_no_qname))) (heads_run space_no_qname (λ _. heads_starts (starts_tag_end (refl, refl) (refl, refl))))))))
       (λ _. exact_sequence
       (exact_before
@@ -218,12 +218,12 @@ module _ (faults : Faults Kind) where
       (λ _. exact_spaces (heads_starts (starts_tag_end refl refl))))
       (λ _. exact_tag_end)))))
 
-  pub lawful_tag : Lawful tag
-  lawful_tag = lawful_valued tag_of (lawful_sized (lawful_behind (lawful_word less) (lawful_sequence lawful_qname (λ _. lawful_sequence (lawful_before (lawful_many lawful_said (inl (inl (inl refl)))) lawful_run) (λ _. lawful_tag_end)))))
+  pub lawful_tag : Lawful start_tag
+  lawful_tag = lawful_valued start_tag_of (lawful_sized (lawful_behind (lawful_word less) (lawful_sequence lawful_qname (λ _. lawful_sequence (lawful_before (lawful_many lawful_said (inl (inl (inl refl)))) lawful_run) (λ _. lawful_tag_end)))))
 
-  pub quiet_tag : Quiet tag
-  quiet_tag = quiet_valued tag_of (quiet_sized (quiet_behind (quiet_word less) (quiet_sequence quiet_qname (λ _. quiet_sequence (quiet_before (quiet_many quiet_said) quiet_run) (λ _. quiet_either (quiet_valued _ (quiet_word empty_end)) (quiet_valued _ (quiet_word greater)))))))
+  pub quiet_tag : Quiet start_tag
+  quiet_tag = quiet_valued start_tag_of (quiet_sized (quiet_behind (quiet_word less) (quiet_sequence quiet_qname (λ _. quiet_sequence (quiet_before (quiet_many quiet_said) quiet_run) (λ _. quiet_either (quiet_valued _ (quiet_word empty_end)) (quiet_valued _ (quiet_word greater)))))))
 
   -- `<`, and the first character of a name
-  pub led_tag : Led (60 ∷ []) (λ c. is_name_start c ≡ true) tag
-  led_tag = led_valued tag_of (led_sized (led_valued (λ x. x.1) (led_then (60 ∷ []) (starts_sequence _ (starts_qname (λ c t. t))))))
+  pub led_tag : Led (60 ∷ []) (λ c. is_name_start c ≡ true) start_tag
+  led_tag = led_valued start_tag_of (led_sized (led_valued (λ x. x.1) (led_then (60 ∷ []) (starts_sequence _ (starts_qname (λ c t. t))))))

@@ -4,22 +4,22 @@ use Rattle.std.specs.Prelude.{◌==◌}
 use Rattle.std.proofs.lemmas.Bool.Decides.{nat_tests}
 use Rattle.xml_tree.specs.Characters.{is_char, is_space, is_name_start, is_name_char}
 use Rattle.xml_tree.specs.Tree.{Tree}
-use Rattle.grammar_rules.specs.Rules.{Rule, AllPass, either, valued}
-use Rattle.grammar_rules.specs.Reading.{Reader, starts, read_valued}
-use Rattle.grammar_rules.specs.readers.Functions.{read_either}
-use Rattle.grammar_rules.specs.Answers.{Faults}
-use Rattle.grammar_rules.proofs.Exact.{ahead, Exact}
-use Rattle.grammar_rules.proofs.Leaves.{exact_one, exact_word}
-use Rattle.grammar_rules.proofs.Carry.{Covers, exact_valued, exact_either, covers_either}
-use Rattle.grammar_rules.proofs.Heads.{heads_starts, Starts, starts_one, starts_word, starts_either, starts_valued}
-use Rattle.grammar_rules.proofs.UpTo.{exact_up_to}
-use Rattle.grammar_rules.proofs.Laws.{Lawful, lawful_one, lawful_word, lawful_up_to, lawful_either, lawful_valued, lawful_only, lawful_name_of, lawful_before, lawful_behind}
-use Rattle.grammar_rules.proofs.Closed.{anything, heads_unless, exact_only}
-use Rattle.grammar_rules.proofs.Shapes.{exact_before, exact_behind, exact_name_of, covered_first, starts_behind}
-use Rattle.grammar_rules.proofs.Led.{Led, led_word, led_valued, led_behind, led_either, led_weaker, led_shorter, starts_led, led_covers, next_true, next_is}
-use Rattle.grammar_rules.proofs.Tests.{exact_either_head, exact_either_next, next_covers, other_covers}
+use Rattle.xml_grammar.specs.Rules.{Rule, AllPass, either, valued}
+use Rattle.xml_grammar.specs.Reading.{Reader, starts, read_valued}
+use Rattle.xml_grammar.specs.readers.Functions.{read_either}
+use Rattle.xml_grammar.specs.Answers.{Faults}
+use Rattle.xml_grammar.proofs.Exact.{ahead, Exact}
+use Rattle.xml_grammar.proofs.Leaves.{exact_one, exact_word}
+use Rattle.xml_grammar.proofs.Carry.{Covers, exact_valued, exact_either, covers_either}
+use Rattle.xml_grammar.proofs.Heads.{heads_starts, Starts, starts_one, starts_word, starts_either, starts_valued}
+use Rattle.xml_grammar.proofs.UpTo.{exact_up_to}
+use Rattle.xml_grammar.proofs.Laws.{Lawful, lawful_one, lawful_word, lawful_up_to, lawful_either, lawful_valued, lawful_only, lawful_name_of, lawful_before, lawful_behind}
+use Rattle.xml_grammar.proofs.Closed.{anything, heads_unless, exact_only}
+use Rattle.xml_grammar.proofs.Shapes.{exact_before, exact_behind, exact_name_of, covered_first, starts_behind}
+use Rattle.xml_grammar.proofs.Led.{Led, led_word, led_valued, led_behind, led_either, led_weaker, led_shorter, starts_led, led_covers, next_true, next_is}
+use Rattle.xml_grammar.proofs.Tests.{exact_either_head, exact_either_next, next_covers, other_covers}
 use Rattle.tree_text.specs.readers.Words.{greater, comment_start, dashes, section_start, section_end, instruction_start, instruction_end, bang_bracket}
-use Rattle.tree_text.specs.declared.kind.Kind.{Kind}
+use Rattle.tree_text.specs.declared.fault_kind.FaultKind.{FaultKind}
 use Rattle.tree_text.specs.Pieces.{Markup, Reference, Section, Comment, Instruction, Inner, line_ends}
 use Rattle.tree_text.specs.Grammar.{is_raw, comment, section, is_target, instructed, instruction, markup}
 use Rattle.tree_text.specs.readers.Texts.{read_comment, read_section, read_instructed, read_instruction, read_markup}
@@ -47,8 +47,8 @@ section_raw = (refl, (refl, (refl, tt)))
 instruction_chars : AllPass is_char instruction_end
 instruction_chars = (refl, (refl, tt))
 
-module _ (faults : Faults Kind) where
-  -- # Comments, sections and instructions end by themselves
+module _ (faults : Faults FaultKind) where
+  -- # Comments, sections and instructions are closed
 
   pub closed_comment : Exact faults comment (λ _. anything) read_comment
   closed_comment = exact_valued line_ends (exact_behind exact_word (exact_before (exact_up_to dashes some_dashes dashes_chars) (λ _. exact_word)))
@@ -100,7 +100,7 @@ module _ (faults : Faults Kind) where
   led_bang_section : Led (60 ∷ []) (λ c. c ≡ 33) section
   led_bang_section = led_shorter (60 ∷ []) 33 led_section
 
-  module _ (inner : Rule Kind Tree) (led : Led (60 ∷ []) (λ c. is_name_start c ≡ true) inner) (lawful : Lawful inner) (p : Reader Kind Tree) (exact : Exact faults inner (λ _. anything) p) where
+  module _ (inner : Rule FaultKind Tree) (led : Led (60 ∷ []) (λ c. is_name_start c ≡ true) inner) (lawful : Lawful inner) (p : Reader FaultKind Tree) (exact : Exact faults inner (λ _. anything) p) where
     -- `<`, and no `!`
     led_others : Led (60 ∷ []) (λ c. (c == 33) ≡ false) (either (valued (λ _. Instruction) instruction) (valued Inner inner))
     led_others = led_either (led_valued _ (led_weaker (λ c e. grind (arith, nat_tests)) led_instruction)) (led_valued Inner (led_weaker (λ c t. grind (arith, nat_tests)) led))
@@ -108,16 +108,16 @@ module _ (faults : Faults Kind) where
     closed_others : Exact faults (either (valued (λ _. Instruction) instruction) (valued Inner inner)) (λ _. anything) (read_either (starts instruction_start) (read_valued (λ _. Instruction) read_instruction) (read_valued Inner p))
     closed_others = exact_either_next (60 ∷ []) 63 (led_valued _ led_instruction) (led_valued Inner led) (λ f. absurd cc) (exact_valued (λ _. Instruction) closed_instruction) (exact_valued Inner exact)
 
-    abbrev Others : Rule Kind Markup
+    abbrev Others : Rule FaultKind Markup
     Others = either (valued (λ _. Instruction) instruction) (valued Inner inner)
 
-    abbrev Noted : Rule Kind Markup
+    abbrev Noted : Rule FaultKind Markup
     Noted = either (valued Comment comment) Others
 
-    abbrev Bracketed : Rule Kind Markup
+    abbrev Bracketed : Rule FaultKind Markup
     Bracketed = either (valued Section section) Noted
 
-    -- where `<![` comes, nothing but a section is there
+    -- where `<![` comes, only a section can be there
     bracket_covers : (text : List ℕ) → starts bang_bracket text ≡ true → Covers faults text (ahead Noted (λ _. anything)) (ahead (valued Section section) (λ _. anything))
     bracket_covers text t =
         let n = next_true (60 ∷ 33 ∷ []) 91 text t in

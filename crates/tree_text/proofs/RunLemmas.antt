@@ -1,16 +1,16 @@
--- A run, cut by its length.
+-- A run, split by its length.
 use Rattle.std.proofs.Common.{◌≡◌, ℕ, suc, ◌+◌, ◌-◌, ◌<◌, ◌≤◌, Bool, true, false, cond, ◌&&◌, List, [], ◌∷◌, ◌++◌, length, take, drop, get_or, Result, Ok, Err, refl, sym, ap, subst, ◌∙◌, append_assoc, take-append-drop, eq-eqb, arith, add-one}
 use Rattle.std.specs.Prelude.{nat_eq}
 use Rattle.std.proofs.lemmas.Bool.{eqb-true}
 use Rattle.std.proofs.Math.Seq.{drop-cons, take-length}
 use Rattle.std.proofs.lemmas.List.{length-drop, length-take, drop_at, take-append-le, take_min, append-nil}
-use Rattle.grammar_rules.specs.Reading.{Stop, Syntax, ◌>>=◌, starts, front_of, after_front}
-use Rattle.grammar_rules.specs.readers.Functions.{all_but_last, front_without, after_without, read_up_to}
-use Rattle.tree_text.specs.declared.kind.Kind.{Kind}
+use Rattle.xml_grammar.specs.Reading.{Stop, Syntax, ◌>>=◌, starts, front_of, after_front}
+use Rattle.xml_grammar.specs.readers.Functions.{all_but_last, front_without, after_without, read_up_to}
+use Rattle.tree_text.specs.declared.fault_kind.FaultKind.{FaultKind}
 use Rattle.tree_text.specs.readers.Runs.{run_len}
 
--- the members so far, in front of those that are read
-abbrev pub with_front : {Kind A : Type 0} → List A → Result (List A × List ℕ) (Stop Kind) → Result (List A × List ℕ) (Stop Kind)
+-- the members so far, before the ones that are read next
+abbrev pub with_front : {FaultKind A : Type 0} → List A → Result (List A × List ℕ) (Stop FaultKind) → Result (List A × List ℕ) (Stop FaultKind)
 with_front front read = read >>= λ x. Ok (front ++ x.0, x.1)
 
 take_by : (c : ℕ) (cs : List ℕ) (n : ℕ) (front : List ℕ) (b : Bool) → take n cs ≡ front → take (cond b (n + 1) 0) (c ∷ cs) ≡ cond b (c ∷ front) []
@@ -37,7 +37,7 @@ pub run_len_le : (p : ℕ → Bool) (xs : List ℕ) → run_len p xs ≤ length 
 run_len_le p [] = omega arith
 run_len_le p (c ∷ cs) = len_by (run_len p cs) (length cs) (p c) (run_len_le p cs)
 
--- a loop's step
+-- one step of a loop
 pub run_more : (p : ℕ → Bool) (xs : List ℕ) (i n : ℕ) → i < length xs → n + run_len p (drop i xs) ≡ run_len p xs → p (get_or xs i 0) ≡ true → n + 1 + run_len p (drop (i + 1) xs) ≡ run_len p xs
 run_more p xs i n h e t =
     let d : drop i xs ≡ get_or xs i 0 ∷ drop (suc i) xs = drop-cons xs i 0 h in
@@ -51,7 +51,7 @@ run_done p xs i n h e t =
     let f : run_len p (drop i xs) ≡ 0 = ap (run_len p) d ∙ rw t refl in
     omega (arith, f, e)
 
--- a loop's step over four
+-- one step of a loop over four bytes
 module _ (p : ℕ → Bool) (xs : List ℕ) where
   next : (i j : ℕ) → j ≡ i + 1 → i < length xs → i + run_len p (drop i xs) ≡ run_len p xs → p (get_or xs i 0) ≡ true → j + run_len p (drop j xs) ≡ run_len p xs
   next i j is h e t = subst (λ (k : ℕ). k + run_len p (drop k xs) ≡ run_len p xs) (sym is) (run_more p xs i i h e t)
@@ -86,7 +86,7 @@ module _ (p : ℕ → Bool) (xs : List ℕ) where
 
 pub ruleset four_by_four = (first_stops, second_stops, third_stops, fourth_stops, four_more)
 
--- the first ones are as many in front as they are
+-- the first characters of a text, by their own number
 pub first_ones : (taken xs : List ℕ) (n : ℕ) → taken ≡ take n xs → taken ≡ take (length taken) xs
 first_ones taken xs n is = is ∙ sym (ap (λ (k : ℕ). take k xs) (ap length is ∙ length-take n xs) ∙ take_min n xs)
 
@@ -110,7 +110,7 @@ take_but_last (c ∷ d ∷ w) =
 take_front : (w text : List ℕ) → starts w text ≡ true → take (length w - 1) text ≡ all_but_last w
 take_front w text h = let r = starts_front w text h in let le : length w - 1 ≤ length w = omega arith in (ap (take (length w - 1)) r.1 ∙ take-append-le (length w - 1) w r.0 le) ∙ take_but_last w
 
--- a text is what stands in front of the place and what stands behind it
+-- a text is the part before the place and the part after it
 found_whole : (w text : List ℕ) → starts w text ≡ true → text ≡ all_but_last w ++ drop (length w - 1) text
 found_whole w text h = sym (take-append-drop (length w - 1) text) ∙ ap (λ (z : List ℕ). z ++ drop (length w - 1) text) (take_front w text h)
 
@@ -123,7 +123,7 @@ pub without_whole : (p : ℕ → Bool) (w xs : List ℕ) → xs ≡ front_withou
 without_whole p w [] = refl
 without_whole p w (c ∷ cs) = whole_by (starts w (c ∷ cs)) (p c) c cs w (front_without p w cs) (after_without p w cs) (found_whole w (c ∷ cs)) (without_whole p w cs)
 
--- a character more, or none
+-- one more character, or none
 module _ (p : ℕ → Bool) (w xs cs : List ℕ) (c : ℕ) (is : xs ≡ c ∷ cs) where
   here : (b : Bool) → starts w xs ≡ b → starts w (c ∷ cs) ≡ b
   here b s = ap (starts w) (sym is) ∙ s
@@ -159,36 +159,36 @@ starts_before [] left = refl
 starts_before (c ∷ w) left = let e : nat_eq c c ≡ true = eq-eqb c c refl in rw e (starts_before w left)
 
 -- a run up to a word: the loop that looks for it
-no_front : (out : Result (List ℕ × List ℕ) (Stop Kind)) → out ≡ with_front [] out
+no_front : (out : Result (List ℕ × List ℕ) (Stop FaultKind)) → out ≡ with_front [] out
 no_front (Ok x) = refl
 no_front (Err e) = refl
 
-pub inside_starts : (p : ℕ → Bool) (w text : List ℕ) → read_up_to {Kind = Kind} p w text ≡ with_front [] (read_up_to p w text)
+pub inside_starts : (p : ℕ → Bool) (w text : List ℕ) → read_up_to {Kind = FaultKind} p w text ≡ with_front [] (read_up_to p w text)
 inside_starts p w text = no_front (read_up_to p w text)
 
-inside_cons : (front : List ℕ) (c : ℕ) (out : Result (List ℕ × List ℕ) (Stop Kind)) → with_front front (out >>= λ x. Ok (c ∷ x.0, x.1)) ≡ with_front (front ++ c ∷ []) out
+inside_cons : (front : List ℕ) (c : ℕ) (out : Result (List ℕ × List ℕ) (Stop FaultKind)) → with_front front (out >>= λ x. Ok (c ∷ x.0, x.1)) ≡ with_front (front ++ c ∷ []) out
 inside_cons front c (Ok y) = ap (λ (z : List ℕ). Ok (z, y.1)) (sym (append_assoc front (c ∷ []) y.0))
 inside_cons front c (Err e) = refl
 
 module _ (p : ℕ → Bool) (w front xs cs : List ℕ) (c : ℕ) (is : xs ≡ c ∷ cs) where
-  abbrev Read : List ℕ → Result (List ℕ × List ℕ) (Stop Kind)
+  abbrev Read : List ℕ → Result (List ℕ × List ℕ) (Stop FaultKind)
   Read z = with_front front (read_up_to p w z)
 
-  pub inside_more : starts w xs ≡ false → p c ≡ true → with_front front (read_up_to {Kind = Kind} p w xs) ≡ with_front (front ++ c ∷ []) (read_up_to p w cs)
+  pub inside_more : starts w xs ≡ false → p c ≡ true → with_front front (read_up_to {Kind = FaultKind} p w xs) ≡ with_front (front ++ c ∷ []) (read_up_to p w cs)
   inside_more s t =
       let h : starts w (c ∷ cs) ≡ false = ap (starts w) (sym is) ∙ s in
       ap Read is ∙ rw (h, t) (inside_cons front c (read_up_to p w cs))
 
-  pub inside_found : (left : List ℕ) → xs ≡ w ++ left → with_front front (read_up_to {Kind = Kind} p w xs) ≡ Ok (front, left)
+  pub inside_found : (left : List ℕ) → xs ≡ w ++ left → with_front front (read_up_to {Kind = FaultKind} p w xs) ≡ Ok (front, left)
   inside_found left found =
       let h : starts w (c ∷ cs) ≡ true = ap (starts w) (sym is ∙ found) ∙ starts_before w left in
       let d : drop (length w) (c ∷ cs) ≡ left = ap (drop (length w)) (sym is ∙ found) ∙ drop_at w left (length w) refl in
       ap Read is ∙ rw h (rw (append-nil front) (ap (λ (z : List ℕ). Ok (front, z)) d))
 
-  pub inside_stops : starts w xs ≡ false → p c ≡ false → with_front front (read_up_to {Kind = Kind} p w xs) ≡ Err (Syntax xs)
+  pub inside_stops : starts w xs ≡ false → p c ≡ false → with_front front (read_up_to {Kind = FaultKind} p w xs) ≡ Err (Syntax xs)
   inside_stops s f =
       let h : starts w (c ∷ cs) ≡ false = ap (starts w) (sym is) ∙ s in
       ap Read is ∙ rw (h, f) (ap (λ (z : List ℕ). Err (Syntax z)) (sym is))
 
-pub inside_over : (p : ℕ → Bool) (w front xs : List ℕ) → xs ≡ [] → with_front front (read_up_to {Kind = Kind} p w xs) ≡ Err (Syntax xs)
+pub inside_over : (p : ℕ → Bool) (w front xs : List ℕ) → xs ≡ [] → with_front front (read_up_to {Kind = FaultKind} p w xs) ≡ Err (Syntax xs)
 inside_over p w front xs is = ap (λ (z : List ℕ). with_front front (read_up_to p w z)) is ∙ ap (λ (z : List ℕ). Err (Syntax z)) (sym is)

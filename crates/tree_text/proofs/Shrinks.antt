@@ -1,26 +1,26 @@
--- What is left behind a reader is an end of the text, so it is no longer.
+-- What is left after a reader is a suffix of the text, so it is no longer.
 use Rattle.std.proofs.Common.{◌≡◌, ℕ, zero, suc, ◌+◌, ◌*◌, ◌≤◌, Bool, true, false, cond, List, [], ◌∷◌, ◌++◌, length, length-append, Result, Ok, Err, encode_utf8_all, refl, sym, ap, ◌∙◌, append_assoc, subst, arith}
 use Rattle.std.specs.Prelude.{nat_eq, nat_le}
-use Rattle.grammar_rules.specs.Digits.{Digits}
-use Rattle.grammar_rules.specs.Reading.{Stop, Syntax, Reader, ◌>>=◌, after_front, read_one, read_word, read_run, read_sequence, read_valued}
-use Rattle.grammar_rules.specs.readers.Functions.{number_end, read_digits, read_number, read_either, read_at_most, read_many, read_empty}
-use Rattle.tree_text.specs.declared.kind.Kind.{Kind}
+use Rattle.xml_grammar.specs.Digits.{Digits}
+use Rattle.xml_grammar.specs.Reading.{Stop, Syntax, Reader, ◌>>=◌, after_front, read_one, read_word, read_run, read_sequence, read_valued}
+use Rattle.xml_grammar.specs.readers.Functions.{number_end, read_digits, read_number, read_either, read_at_most, read_many, read_empty}
+use Rattle.tree_text.specs.declared.fault_kind.FaultKind.{FaultKind}
 use Rattle.tree_text.specs.readers.Ends.{EndsWith}
 
-abbrev pub Left : {A : Type 0} → List ℕ → Result (A × List ℕ) (Stop Kind) → Type 0
+abbrev pub Left : {A : Type 0} → List ℕ → Result (A × List ℕ) (Stop FaultKind) → Type 0
 Left text (Ok x) = EndsWith text x.1
 Left text (Err e) = Unit {0}
 
-pub record Shrinks {A : Type 0} (p : Reader Kind A) : Type 0 where
+pub record Shrinks {A : Type 0} (p : Reader FaultKind A) : Type 0 where
   pub by : (text : List ℕ) → Left text (p text)
 
-pub ok_left : {A : Type 0} {p : Reader Kind A} → Shrinks p → (text : List ℕ) (x : A × List ℕ) → p text ≡ Ok x → EndsWith text x.1
-ok_left {A} {p} h text x e = subst (λ (r : Result (A × List ℕ) (Stop Kind)). Left text r) e (h.by text)
+pub ok_left : {A : Type 0} {p : Reader FaultKind A} → Shrinks p → (text : List ℕ) (x : A × List ℕ) → p text ≡ Ok x → EndsWith text x.1
+ok_left {A} {p} h text x e = subst (λ (r : Result (A × List ℕ) (Stop FaultKind)). Left text r) e (h.by text)
 
-pub ok_small : {A : Type 0} {p : Reader Kind A} → Shrinks p → (text : List ℕ) (x : A × List ℕ) → p text ≡ Ok x → length x.1 ≤ length text
+pub ok_small : {A : Type 0} {p : Reader FaultKind A} → Shrinks p → (text : List ℕ) (x : A × List ℕ) → p text ≡ Ok x → length x.1 ≤ length text
 ok_small h text x e = let ends = ok_left h text x e in omega (arith, ap length ends.1, length-append ends.0 x.1)
 
--- # Ends of a text
+-- # Suffixes of a text
 
 pub all_left : (text : List ℕ) → EndsWith text text
 all_left text = ([], refl)
@@ -31,15 +31,15 @@ more_left text mid rest h i = (h.0 ++ i.0, h.1 ∙ ap (λ (z : List ℕ). h.0 ++
 one_left : (c : ℕ) (cs : List ℕ) → EndsWith (c ∷ cs) cs
 one_left c cs = (c ∷ [], refl)
 
-pub left_then : {A B : Type 0} (text : List ℕ) (out : Result (A × List ℕ) (Stop Kind)) (f : A × List ℕ → Result (B × List ℕ) (Stop Kind)) → Left text out → ((x : A × List ℕ) → EndsWith text x.1 → Left text (f x)) → Left text (out >>= f)
+pub left_then : {A B : Type 0} (text : List ℕ) (out : Result (A × List ℕ) (Stop FaultKind)) (f : A × List ℕ → Result (B × List ℕ) (Stop FaultKind)) → Left text out → ((x : A × List ℕ) → EndsWith text x.1 → Left text (f x)) → Left text (out >>= f)
 left_then text (Ok x) f h g = g x h
 left_then text (Err e) f h g = tt
 
-left_under : {A : Type 0} (text mid : List ℕ) (out : Result (A × List ℕ) (Stop Kind)) → EndsWith text mid → Left mid out → Left text out
+left_under : {A : Type 0} (text mid : List ℕ) (out : Result (A × List ℕ) (Stop FaultKind)) → EndsWith text mid → Left mid out → Left text out
 left_under text mid (Ok x) e h = more_left text mid x.1 e h
 left_under text mid (Err s) e h = tt
 
-pub left_cond : {A : Type 0} (text : List ℕ) (b : Bool) (p q : Result (A × List ℕ) (Stop Kind)) → Left text p → Left text q → Left text (cond b p q)
+pub left_cond : {A : Type 0} (text : List ℕ) (b : Bool) (p q : Result (A × List ℕ) (Stop FaultKind)) → Left text p → Left text q → Left text (cond b p q)
 left_cond text true p q h i = h
 left_cond text false p q h i = i
 
@@ -89,19 +89,19 @@ shrinks_number d most p = record { by = λ text. left_digits d most p 0 false te
 pub shrinks_empty : {A : Type 0} (a : A) → Shrinks (read_empty a)
 shrinks_empty a = record { by = λ text. all_left text }
 
-pub shrinks_sequence : {A B : Type 0} {p : Reader Kind A} {q : A → Reader Kind B} → Shrinks p → ((a : A) → Shrinks (q a)) → Shrinks (read_sequence p q)
+pub shrinks_sequence : {A B : Type 0} {p : Reader FaultKind A} {q : A → Reader FaultKind B} → Shrinks p → ((a : A) → Shrinks (q a)) → Shrinks (read_sequence p q)
 shrinks_sequence {A} {B} {p} {q} h i = record {
   by = λ text. left_then text (p text) (λ x. q x.0 x.1 >>= λ y. Ok ((x.0, y.0), y.1)) (h.by text)
       (λ x e. left_under text x.1 (q x.0 x.1 >>= λ y. Ok ((x.0, y.0), y.1)) e (left_then x.1 (q x.0 x.1) (λ y. Ok ((x.0, y.0), y.1)) ((i x.0).by x.1) (λ y e. e)));
 }
 
-pub shrinks_valued : {A B : Type 0} {p : Reader Kind A} (f : A → B) → Shrinks p → Shrinks (read_valued f p)
+pub shrinks_valued : {A B : Type 0} {p : Reader FaultKind A} (f : A → B) → Shrinks p → Shrinks (read_valued f p)
 shrinks_valued {A} {B} {p} f h = record { by = λ text. left_then text (p text) (λ x. Ok (f x.0, x.1)) (h.by text) (λ x e. e) }
 
-pub shrinks_either : {A : Type 0} {p q : Reader Kind A} (test : List ℕ → Bool) → Shrinks p → Shrinks q → Shrinks (read_either test p q)
+pub shrinks_either : {A : Type 0} {p q : Reader FaultKind A} (test : List ℕ → Bool) → Shrinks p → Shrinks q → Shrinks (read_either test p q)
 shrinks_either {A} {p} {q} test h i = record { by = λ text. left_cond text (test text) (p text) (q text) (h.by text) (i.by text) }
 
-left_many : {A : Type 0} (test : List ℕ → Bool) (p : Reader Kind A) → Shrinks p → (n : ℕ) (text : List ℕ) → Left text (read_at_most test p n text)
+left_many : {A : Type 0} (test : List ℕ → Bool) (p : Reader FaultKind A) → Shrinks p → (n : ℕ) (text : List ℕ) → Left text (read_at_most test p n text)
 left_many test p h zero text = all_left text
 left_many test p h (suc n) text =
     left_cond text (test text) (p text >>= λ x. read_at_most test p n x.1 >>= λ y. Ok (x.0 ∷ y.0, y.1)) (Ok ([], text))
@@ -109,5 +109,5 @@ left_many test p h (suc n) text =
     (λ x e. left_under text x.1 (read_at_most test p n x.1 >>= λ y. Ok (x.0 ∷ y.0, y.1)) e (left_then x.1 (read_at_most test p n x.1) (λ y. Ok (x.0 ∷ y.0, y.1)) (left_many test p h n x.1) (λ y e. e))))
     (all_left text)
 
-pub shrinks_many : {A : Type 0} {p : Reader Kind A} (test : List ℕ → Bool) → Shrinks p → Shrinks (read_many test p)
+pub shrinks_many : {A : Type 0} {p : Reader FaultKind A} (test : List ℕ → Bool) → Shrinks p → Shrinks (read_many test p)
 shrinks_many {A} {p} test h = record { by = λ text. left_many test p h (length (encode_utf8_all text)) text }

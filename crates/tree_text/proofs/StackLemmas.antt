@@ -1,4 +1,4 @@
--- The numbers of each prefix, as declarations come and go.
+-- The numbers of each prefix, as declarations are added and removed.
 use Rattle.std.proofs.Common.{◌≡◌, ℕ, Bool, true, false, cond, List, [], ◌∷◌, ◌++◌, ◌+◌, ◌-◌, length, take, map, Option, Some, None, option_map, slice_get, bytes_eq, ◌≢◌, refl, sym, ap, ◌∙◌, arith, append-nil, append_assoc}
 use Rattle.std.specs.BTreeMap.{BTreeMap, UpdatesBy}
 use Rattle.std.specs.Cmp.Lexicographic.{slice_cmp, bytes_decides}
@@ -36,7 +36,7 @@ module _ (m n : BTreeMap (List ℕ) (Vec ℕ)) (prefix : List ℕ) (w : Vec ℕ)
       by true = refl
       by false = refl
 
-  -- o is what the map had there
+  -- o is what the map had at the prefix
   module _ (o : Option (Vec ℕ)) (found : o ≡ at_text m prefix) where
     pub pushed : (k : ℕ) → w.items ≡ numbers_in o ++ k ∷ [] → (p : List ℕ) → numbers_at n p ≡ numbers_at m p ++ cond (bytes_eq prefix p) (k ∷ []) []
     pushed k made p = numbers_written p ∙ by (bytes_eq prefix p) refl
@@ -52,7 +52,7 @@ module _ (m n : BTreeMap (List ℕ) (Vec ℕ)) (prefix : List ℕ) (w : Vec ℕ)
         by true is = made ∙ ap (λ a. front_of (numbers_in a)) (found ∙ ap (at_text m) ((bytes_decides prefix p).0 is))
         by false is = refl
 
--- ---- one declaration less
+-- ---- one declaration fewer
 pub uris-append : (ds es : List Decl) (p : List ℕ) → uris (ds ++ es) p ≡ uris ds p ++ uris es p
 uris-append [] es p = refl
 uris-append (d ∷ ds) es p = by (bytes_eq d.prefix p) (uris-append ds es p)
@@ -130,7 +130,7 @@ module _ (s : Namespaces) (here : List (List Decl)) (are : AreOf s (joined here)
         ap (option_map (number s)) (declared_last (joined here) p) ∙ sym (last_of-map (number s) (uris (joined here) p)) ∙ ap last_of (are.declared p)
         ∙ last_of-map Some (stack s p) ∙ ap (option_map Some) (last_of-get (stack s p) ∙ ap (λ a. last_in (numbers_in a)) (sym found) ∙ sym is)
 
-    -- no number is there
+    -- there is no number
     pub bound_nowhere : None ≡ last_in (numbers_in o) → None ≡ option_map (number s) (bound here p)
     bound_nowhere is = rw plain (by (declared (joined here) p) (nearest_number None is))
       where
@@ -138,7 +138,7 @@ module _ (s : Namespaces) (here : List (List Decl)) (are : AreOf s (joined here)
         by None e = refl
         by (Some u) e = cc
 
-    -- the number is that of the empty text
+    -- the number is the number of the empty text
     pub bound_empty : (k : ℕ) → Some k ≡ last_in (numbers_in o) → k ≡ s.none → None ≡ option_map (number s) (bound here p)
     bound_empty k is none = rw plain (by (declared (joined here) p) (nearest_number (Some k) is))
       where
@@ -148,7 +148,7 @@ module _ (s : Namespaces) (here : List (List Decl)) (are : AreOf s (joined here)
             let its : number s u ≡ Some k = cc in
             ap (λ v. option_map (number s) (some_text (Some v))) (are.numbers.apart [] u k (are.none ∙ ap Some (sym none)) its)
 
-    -- it is that of another text
+    -- it is the number of another text
     pub bound_to : (k : ℕ) → Some k ≡ last_in (numbers_in o) → k ≢ s.none → Some (Some k) ≡ option_map (number s) (bound here p)
     bound_to k is other = rw plain (by (declared (joined here) p) (nearest_number (Some k) is))
       where
@@ -157,7 +157,7 @@ module _ (s : Namespaces) (here : List (List Decl)) (are : AreOf s (joined here)
         by (Some []) e = let its : number s [] ≡ Some k = cc in let same : k ≡ s.none = cc (its, are.none) in absurd (other same)
         by (Some (c ∷ cs)) e = sym e
 
--- ---- one list of declarations more
+-- ---- one more list of declarations
 pub joined-more : (c : List (List Decl)) (ds : List Decl) → joined (c ++ ds ∷ []) ≡ joined c ++ ds
 joined-more [] ds = append-nil ds
 joined-more (xs ∷ c) ds = ap (λ (l : List Decl). xs ++ l) (joined-more c ds) ∙ sym (append_assoc xs (joined c) ds)

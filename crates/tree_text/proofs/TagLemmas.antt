@@ -1,9 +1,9 @@
--- Names and references: what is left behind them.
+-- Names and references: what is left after them.
 use Rattle.std.proofs.Common.{ℕ, List, [], ◌∷◌}
 use Rattle.std.specs.Prelude.{◌==◌}
-use Rattle.grammar_rules.specs.Reading.{head_is, starts}
+use Rattle.xml_grammar.specs.Reading.{head_is, starts}
 use Rattle.tree_text.specs.readers.Words.{ampersand, semicolon, hash, small_x, amp, lt, gt, quot, apos}
-use Rattle.grammar_rules.specs.Digits.{decimal_digits, hexadecimal}
+use Rattle.xml_grammar.specs.Digits.{decimal_digits, hexadecimal}
 use Rattle.xml_tree.specs.Characters.{is_char, is_name_start, is_name_char}
 use Rattle.tree_text.specs.Grammar.{last_char}
 use Rattle.tree_text.specs.Pieces.{qname_of}

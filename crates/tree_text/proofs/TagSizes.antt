@@ -1,12 +1,12 @@
--- What was read of an attribute or a tag stands in front of what is left, and tells how much it is.
+-- What was read of an attribute or a tag comes before what is left, so its size is known.
 use Rattle.std.proofs.Common.{◌≡◌, ℕ, suc, ◌+◌, ◌≤◌, List, length, length-append, Result, Ok, ap, subst, arith}
-use Rattle.grammar_rules.specs.Reading.{Stop}
-use Rattle.grammar_rules.proofs.Exact.{IsRead, Outcome}
-use Rattle.grammar_rules.proofs.Closed.{anything}
+use Rattle.xml_grammar.specs.Reading.{Stop}
+use Rattle.xml_grammar.proofs.Exact.{IsRead, Outcome}
+use Rattle.xml_grammar.proofs.Closed.{anything}
 use Rattle.xml_tree.specs.declared.names.Name.{Name}
-use Rattle.tree_text.specs.declared.kind.Kind.{Kind}
-use Rattle.tree_text.specs.Kinds.{faults}
-use Rattle.tree_text.specs.Grammar.{attribute, tag}
+use Rattle.tree_text.specs.declared.fault_kind.FaultKind.{FaultKind}
+use Rattle.tree_text.specs.FaultKinds.{faults}
+use Rattle.tree_text.specs.Grammar.{attribute, start_tag}
 use Rattle.tree_text.specs.Names.{widths}
 use Rattle.tree_text.specs.Pieces.{StartTag, written}
 use Rattle.tree_text.specs.readers.Ends.{EndsWith}
@@ -16,12 +16,12 @@ use Rattle.tree_text.proofs.ReadParts.{closed_attribute, closed_tag}
 
 pub attribute_ends : (text left : List ℕ) (a : Name × List ℕ) → read_attribute text ≡ Ok (a, left) → EndsWith text left
 attribute_ends text left a h =
-    let r : IsRead (faults 0) attribute (λ _. anything) text a left = subst (λ (out : Result ((Name × List ℕ) × List ℕ) (Stop Kind)). Outcome (faults 0) attribute (λ _. anything) text out) h ((closed_attribute (faults 0)).by text) in
+    let r : IsRead (faults 0) attribute (λ _. anything) text a left = subst (λ (out : Result ((Name × List ℕ) × List ℕ) (Stop FaultKind)). Outcome (faults 0) attribute (λ _. anything) text out) h ((closed_attribute (faults 0)).by text) in
     (r.used, r.joined)
 
--- the name of a tag and what it says behind it stand in the text
-pub tag_room : (text left : List ℕ) (t : StartTag) → read_tag text ≡ Ok (t, left) → suc (length (written t.name)) + widths t.said ≤ length text
+-- the text contains the name of a tag and its raw attributes
+pub tag_room : (text left : List ℕ) (t : StartTag) → read_tag text ≡ Ok (t, left) → suc (length (written t.name)) + widths t.raw_attribute ≤ length text
 tag_room text left t h =
-    let r : IsRead (faults 0) tag (λ _. anything) text t left = subst (λ (out : Result (StartTag × List ℕ) (Stop Kind)). Outcome (faults 0) tag (λ _. anything) text out) h ((closed_tag (faults 0)).by text) in
+    let r : IsRead (faults 0) start_tag (λ _. anything) text t left = subst (λ (out : Result (StartTag × List ℕ) (Stop FaultKind)). Outcome (faults 0) start_tag (λ _. anything) text out) h ((closed_tag (faults 0)).by text) in
     let s = tag_sizes r.used t r.spelled in
     omega (arith, s.room, ap length r.joined, length-append r.used left)

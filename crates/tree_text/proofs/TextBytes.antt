@@ -1,4 +1,4 @@
--- The characters of a text by its bytes: an ASCII byte in front is the first character.
+-- The characters of a text by its bytes: an ASCII byte at the front is the first character.
 use Rattle.std.proofs.Common.{◌≡◌, ℕ, zero, suc, ◌+◌, ◌-◌, ◌<◌, ◌≤◌, Bool, true, false, cond, List, [], ◌∷◌, ◌++◌, ◌&&◌, length, take, drop, get_or, chars, encode_utf8_all, IsUtf8, refl, sym, ap, subst, ◌∙◌, take-append-drop, length-append, arith}
 use lib.Utf8.{encode}
 use Rattle.std.specs.Prelude.{nat_lt}
@@ -10,7 +10,7 @@ use Rattle.std.proofs.Math.Seq.{take-length}
 use Rattle.std.proofs.lemmas.List.Folds.{list_all-append}
 use Rattle.std.proofs.lemmas.Str.{chars-nil, chars-append, chars-IsAscii, encode_ascii, encodes-append, encodes-chars, inside_one, length-le-encodes, IsUtf8-from_ascii, IsUtf8-take, IsCharBoundary-from_take, IsCharBoundary-at_seam}
 use Rattle.std.proofs.lemmas.Str.Ascii.{IsAscii-nil, IsAscii-cons}
-use Rattle.grammar_rules.specs.Reading.{head_is, front_of, after_front}
+use Rattle.xml_grammar.specs.Reading.{head_is, front_of, after_front}
 use Rattle.tree_text.specs.readers.Runs.{run_len}
 use Rattle.tree_text.specs.inner.Classes.{in_ascii, is_wide}
 use Rattle.tree_text.specs.readers.Ends.{EndsWith}
@@ -38,7 +38,7 @@ chars_le bs u = omega (arith, length-le-encodes (chars bs), ap length (encodes-c
 
 -- # Steps
 
--- one character more is passed
+-- one more character is passed
 pub skip_more : (xs cs : List ℕ) (c left : ℕ) → xs ≡ c ∷ cs → 0 < left → drop (left - 1) cs ≡ drop left xs
 skip_more xs cs c zero is some = absurd (omega arith)
 skip_more xs cs c (suc n) is some = let k : n ≡ suc n - 1 = omega arith in subst (λ (m : ℕ). drop m cs ≡ drop (suc n) xs) k (sym (ap (drop (suc n)) is))
@@ -96,7 +96,7 @@ run_stops p xs cs c is h = run_stays p xs (ap (head_is p) is ∙ h)
 pub run_over : (p : ℕ → Bool) (xs : List ℕ) → xs ≡ [] → after_front p xs ≡ xs
 run_over p xs is = ap (after_front p) is ∙ sym is
 
--- # ASCII characters in front
+-- # ASCII characters at the front
 
 all_in_ascii : (p : ℕ → Bool) (xs : List ℕ) → list_all (in_ascii p) xs ≡ true → IsAscii xs
 all_in_ascii p [] h = IsAscii-nil
@@ -121,7 +121,7 @@ head_fails p (b ∷ bs) h w =
     ap (head_is p) (ascii_first b bs low) ∙ fails
 
 module _ (p : ℕ → Bool) (bs : List ℕ) (n : ℕ) (is : n ≡ run_len (in_ascii p) bs) where
-  -- a text may be cut behind them
+  -- a text may be split after them
   pub ascii_cut : IsUtf8 bs → IsCharBoundary bs n
   ascii_cut u =
       let le : n ≤ length bs = omega (arith, is, run_len_le (in_ascii p) bs) in
@@ -140,7 +140,7 @@ module _ (p : ℕ → Bool) (bs : List ℕ) (n : ℕ) (is : n ≡ run_len (in_as
       let fails : head_is (in_ascii p) rest ≡ false = ap (head_is (in_ascii p)) (left_is rest left) ∙ after_fails (in_ascii p) bs in
       sym (behind_ascii rest left ∙ run_stays p (chars rest) (head_fails p rest fails w))
 
--- # A text, and what it ends with
+-- # A text and its suffixes
 
 module _ (text rest : List ℕ) (u : IsUtf8 text) (v : IsUtf8 rest) (ends : EndsWith (chars text) (chars rest)) where
   seam : text ≡ encode_utf8_all ends.0 ++ rest
@@ -168,7 +168,7 @@ module _ (text rest : List ℕ) (u : IsUtf8 text) (v : IsUtf8 rest) (ends : Ends
       ap chars (sym (take-append-drop n text)) ∙ chars-append (take n text) (drop n text) (IsUtf8-take text n u end_boundary)
       ∙ ap (λ (z : List ℕ). chars (take n text) ++ chars z) end_left
 
--- a front by what follows it
+-- a prefix by what follows it
 pub front_by_rest : (whole front other rest : List ℕ) → whole ≡ front ++ rest → whole ≡ other ++ rest → front ≡ other
 front_by_rest whole front other rest h i = append_cancel_right front other rest (sym h ∙ i)
 
@@ -220,6 +220,6 @@ module _ (p : ℕ → Bool) (high : (c : ℕ) → 128 ≤ c → p c ≡ true) wh
   encodes_pass [] = refl
   encodes_pass (c ∷ cs) = list_all-append p (encode c) (encode_utf8_all cs) ∙ rw (encode_by c (nat_lt c 128) refl, encodes_pass cs) refl
 
-  -- where all that isn't ASCII passes, the bytes of a text pass exactly if its characters do
+  -- where all that isn't ASCII passes, the bytes of a text pass exactly if its characters pass
   pub all_by_bytes : (bs : List ℕ) → IsUtf8 bs → list_all p bs ≡ list_all p (chars bs)
   all_by_bytes bs u = ap (list_all p) (sym (encodes-chars bs u)) ∙ encodes_pass (chars bs)

@@ -1,23 +1,23 @@
--- What is told of bytes: that they are no UTF-8, or what reading their characters gives.
+-- The result for bytes: that they aren't UTF-8, or the result of reading their characters.
 use Rattle.std.proofs.Common.{◌≡◌, ℕ, ◌-◌, Bool, true, false, List, Result, Ok, Err, refl, sym, ap, subst, ◌∙◌}
 use Rattle.std.specs.Prelude.{IsUtf8}
 use Rattle.std.specs.Str.{chars, is_utf8}
 use Rattle.std.proofs.lemmas.Str.{IsUtf8-from_is_utf8, is_utf8-from_IsUtf8}
-use Rattle.grammar_rules.specs.Reading.{Stop, Syntax, Faulty}
-use Rattle.grammar_rules.specs.readers.Functions.{read_whole}
+use Rattle.xml_grammar.specs.Reading.{Stop, Syntax, Faulty}
+use Rattle.xml_grammar.specs.readers.Functions.{read_whole}
 use Rattle.xml_tree.specs.Tree.{Tree}
 use Rattle.xml_tree.specs.declared.names.Decl.{Decl}
-use Rattle.tree_text.specs.declared.kind.Kind.{Kind}
+use Rattle.tree_text.specs.declared.fault_kind.FaultKind.{FaultKind}
 use Rattle.tree_text.specs.declared.fault.TextFault.{TextFault}
 use Rattle.tree_text.specs.declared.fault.TextFault.TheVariants as texts
-use Rattle.tree_text.specs.declared.stop.Stop.{Stop as CodeStop}
-use Rattle.tree_text.specs.declared.stop.Stop.TheVariants as stops
-use Rattle.tree_text.specs.Faults.{body_told, body_place, byte_at, in_quotes, spelling_of, text_told as told, closing_len as closing}
+use Rattle.tree_text.specs.declared.parse_error.ParseError.{ParseError as CodeStop}
+use Rattle.tree_text.specs.declared.parse_error.ParseError.TheVariants as stops
+use Rattle.tree_text.specs.Faults.{body_result, body_place, byte_at, in_quotes, spelling_of, text_result as told, closing_len as closing}
 use Rattle.tree_text.specs.declared.fault.ValueFault.{ValueFault}
 use Rattle.tree_text.specs.declared.fault.ValueFault.TheVariants as bodies
 use Rattle.xml_tree.specs.declared.read_error.ReadError.{ReadError}
 use Rattle.xml_tree.specs.declared.read_error.ReadError.TheVariants as errors
-use Rattle.tree_text.specs.readers.Gives.{Fails}
+use Rattle.tree_text.specs.readers.Results.{Fails}
 use Rattle.xml_tree.specs.Memory.{Answered}
 use Rattle.tree_text.specs.readers.Texts.{read_text, read_spelling}
 use Rattle.tree_text.specs.readers.Whole.{FaultOf, text_read, BodyFaultOf, body_read}
@@ -30,7 +30,7 @@ pub not_read : (limit : ℕ) (scope : List (List Decl)) (bytes : List ℕ) → (
 not_read limit scope bytes n = rw (not_by bytes (is_utf8 bytes) refl n) refl
 
 module _ (limit : ℕ) (scope : List (List Decl)) (bytes text all : List ℕ) (same : text ≡ bytes) (utf8 : IsUtf8 bytes) (decoded : all ≡ chars text) where
-  pub is_read : (out : Result Tree (Stop Kind)) → read_whole (read_text limit scope) all ≡ out → text_read limit scope bytes ≡ told bytes out
+  pub is_read : (out : Result Tree (Stop FaultKind)) → read_whole (read_text limit scope) all ≡ out → text_read limit scope bytes ≡ told bytes out
   is_read out h =
       let yes : is_utf8 bytes ≡ true = is_utf8-from_IsUtf8 bytes utf8 in
       let read : read_whole (read_text limit scope) (chars bytes) ≡ out = ap (read_whole (read_text limit scope)) (sym (decoded ∙ ap chars same)) ∙ h in
@@ -39,7 +39,7 @@ module _ (limit : ℕ) (scope : List (List Decl)) (bytes text all : List ℕ) (s
   pub ok_told : (tree : Tree) → read_whole (read_text limit scope) all ≡ Ok tree → (let answer : Result Tree TextFault = Ok tree in answer ≡ text_read limit scope bytes)
   ok_told tree h = sym (is_read (Ok tree) h)
 
-  -- the call answers a fault of the text, or that memory ran out
+  -- the call returns a fault of the text, or that memory ran out
   abbrev Tells : ReadError TextFault → Type 0
   Tells error = let answer : Result Tree (ReadError TextFault) = Err error in Answered (λ answer. answer ≡ text_read limit scope bytes) answer
 
@@ -57,11 +57,11 @@ module _ (bytes text all part : List ℕ) (behind : ℕ) (same : text ≡ bytes)
   body_is : all ≡ chars bytes
   body_is = decoded ∙ ap chars same
 
-  pub body_is_read : (out : Result (List ℕ) (Stop Kind)) → read_whole read_spelling part ≡ out → body_read bytes ≡ body_told (chars bytes) bytes out
+  pub body_is_read : (out : Result (List ℕ) (Stop FaultKind)) → read_whole read_spelling part ≡ out → body_read bytes ≡ body_result (chars bytes) bytes out
   body_is_read out h =
       let yes : is_utf8 bytes ≡ true = is_utf8-from_IsUtf8 bytes utf8 in
       let read : read_whole read_spelling (spelling_of (chars bytes)) ≡ out = ap (read_whole read_spelling) (sym (spelling ∙ ap spelling_of body_is)) ∙ h in
-      rw yes (ap (body_told (chars bytes) bytes) read)
+      rw yes (ap (body_result (chars bytes) bytes) read)
 
   pub body_ok_told : (value : List ℕ) → read_whole read_spelling part ≡ Ok value → (let answer : Result (List ℕ) ValueFault = Ok value in answer ≡ body_read bytes)
   body_ok_told value h = sym (body_is_read (Ok value) h)

@@ -1,17 +1,17 @@
--- What bytes are by the grammar: the tree or the value that they spell, or their fault and the byte at which it stands. Want of memory is none
--- of these faults.
+-- What bytes are by the grammar: the tree or the value that they spell, or their fault and its
+-- byte. Running out of memory is none of these faults.
 use Rattle.std.specs.Prelude.{◌≡◌, ◌⊎◌, ℕ, ◌+◌, ◌-◌, ◌<◌, Bool, ◌==◌, not, List, [], ◌∷◌, length, Option, None, Some, unwrap_or, Result, Ok, Err, IsUtf8, encode_utf8_all, if◌then◌else◌, chars}
-use Rattle.grammar_rules.specs.Reading.{Stop, Syntax, Faulty, front_of, after_front}
-use Rattle.grammar_rules.specs.Answers.{Answers}
+use Rattle.xml_grammar.specs.Reading.{Stop, Syntax, Faulty, front_of, after_front}
+use Rattle.xml_grammar.specs.Answers.{Answers}
 use Rattle.xml_tree.specs.Tree.{Tree}
 use Rattle.xml_tree.specs.declared.names.Decl.{Decl}
-use Rattle.tree_text.specs.declared.kind.Kind.{Kind}
-use Rattle.tree_text.specs.declared.kind.Kind.TheVariants.{Encoded, Doctyped, Depth, Unbound, Repeated}
+use Rattle.tree_text.specs.declared.fault_kind.FaultKind.{FaultKind}
+use Rattle.tree_text.specs.declared.fault_kind.FaultKind.TheVariants.{Encoded, Doctyped, Depth, Unbound, Repeated}
 use Rattle.tree_text.specs.declared.fault.TextFault.{TextFault}
 use Rattle.tree_text.specs.declared.fault.TextFault.TheVariants as texts
 use Rattle.tree_text.specs.declared.fault.ValueFault.{ValueFault}
 use Rattle.tree_text.specs.declared.fault.ValueFault.TheVariants as bodies
-use Rattle.tree_text.specs.Kinds.{faults}
+use Rattle.tree_text.specs.FaultKinds.{faults}
 use Rattle.tree_text.specs.Grammar.{is_quote, document, spelling}
 
 -- the byte at which this rest of the text begins
@@ -20,8 +20,8 @@ byte_at bytes left = length bytes - length (encode_utf8_all left)
 
 -- ---- documents and fragments
 
--- the fault that each stop is: behind the longest beginning, or at the place of the first fault
-abbrev pub stop_fault : List ℕ → Stop Kind → TextFault
+-- the fault of each stop: after the longest beginning, or at the place of the first fault
+abbrev pub stop_fault : List ℕ → Stop FaultKind → TextFault
 stop_fault bytes (Syntax left) = texts.NotWellFormed (byte_at bytes left)
 stop_fault bytes (Faulty Encoded left) = texts.NotUtf8
 stop_fault bytes (Faulty Doctyped left) = texts.Doctype (byte_at bytes left)
@@ -30,23 +30,23 @@ stop_fault bytes (Faulty Unbound left) = texts.Namespace (byte_at bytes left)
 stop_fault bytes (Faulty Repeated left) = texts.RepeatedAttribute (byte_at bytes left)
 
 -- the tree, or the fault
-abbrev pub text_told : List ℕ → Result Tree (Stop Kind) → Result Tree TextFault
-text_told bytes (Ok tree) = Ok tree
-text_told bytes (Err stop) = Err (stop_fault bytes stop)
+abbrev pub text_result : List ℕ → Result Tree (Stop FaultKind) → Result Tree TextFault
+text_result bytes (Ok tree) = Ok tree
+text_result bytes (Err stop) = Err (stop_fault bytes stop)
 
--- The answer for bytes by the grammar: the tree that they spell and no other, or the first fault. How many more levels than the limit
--- the grammar is given makes no difference.
+-- The answer for bytes by the grammar: the tree that they spell and no other, or the first fault.
+-- It doesn't depend on how many more levels than the limit the grammar is given.
 pub record IsTextAnswer (limit : ℕ) (scope : List (List Decl)) (bytes : List ℕ) (answer : Result Tree TextFault) : Type 0 where
-  pub stated : Result Tree (Stop Kind)
+  pub stated : Result Tree (Stop FaultKind)
   pub by_grammar : (n : ℕ) → limit + 1 < n → Answers (faults limit) (document n scope) (chars bytes) stated
-  pub is_told : answer ≡ text_told bytes stated
+  pub is_told : answer ≡ text_result bytes stated
 
 abbrev pub TextAnswer : ℕ → List (List Decl) → List ℕ → Result Tree TextFault → Type 0
 TextAnswer limit scope bytes answer = (IsUtf8 bytes × IsTextAnswer limit scope bytes answer) ⊎ ((IsUtf8 bytes → ⊥) × (answer ≡ Err texts.NotUtf8))
 
 -- ---- bodies that spell a value
 
--- a text up to its last character, where nothing else follows the first part
+-- the first part of a text, where exactly one character follows it
 abbrev pub all_but_one : List ℕ → List ℕ → Option (List ℕ)
 all_but_one front [] = None
 all_but_one front (c ∷ []) = Some front
@@ -56,16 +56,16 @@ all_but_one front (c ∷ d ∷ cs) = None
 abbrev pub is_other : ℕ → ℕ → Bool
 is_other one c = not (c == one)
 
--- the inside of a body between two quotes of one kind, where that quote stands nowhere else
+-- the inside of a body between two quotes of one kind, which doesn't contain that quote
 abbrev pub in_quotes : List ℕ → Option (List ℕ)
 in_quotes [] = None
 in_quotes (c ∷ cs) = if is_quote c then all_but_one (front_of (is_other c) cs) (after_front (is_other c) cs) else None
 
--- the part of a body that spells its value: that inside, or all of it
+-- the part of a body that spells its value: that inside, or the whole body
 abbrev pub spelling_of : List ℕ → List ℕ
 spelling_of body = unwrap_or (in_quotes body) body
 
--- how many bytes stand behind it
+-- how many bytes follow it
 abbrev pub closing_len : Option (List ℕ) → ℕ
 closing_len None = 0
 closing_len (Some inside) = 1
@@ -75,16 +75,16 @@ abbrev pub body_place : List ℕ → List ℕ → List ℕ → ℕ
 body_place body bytes left = byte_at bytes left - closing_len (in_quotes body)
 
 -- the value, or the fault
-abbrev pub body_told : List ℕ → List ℕ → Result (List ℕ) (Stop Kind) → Result (List ℕ) ValueFault
-body_told body bytes (Ok value) = Ok value
-body_told body bytes (Err (Syntax left)) = Err (bodies.NotValue (body_place body bytes left))
-body_told body bytes (Err (Faulty kind left)) = Err (bodies.NotValue (body_place body bytes left))
+abbrev pub body_result : List ℕ → List ℕ → Result (List ℕ) (Stop FaultKind) → Result (List ℕ) ValueFault
+body_result body bytes (Ok value) = Ok value
+body_result body bytes (Err (Syntax left)) = Err (bodies.NotValue (body_place body bytes left))
+body_result body bytes (Err (Faulty kind left)) = Err (bodies.NotValue (body_place body bytes left))
 
 -- the answer for a body by the grammar
 pub record IsBodyAnswer (bytes : List ℕ) (answer : Result (List ℕ) ValueFault) : Type 0 where
-  pub stated : Result (List ℕ) (Stop Kind)
+  pub stated : Result (List ℕ) (Stop FaultKind)
   pub by_grammar : Answers (faults 0) spelling (spelling_of (chars bytes)) stated
-  pub is_told : answer ≡ body_told (chars bytes) bytes stated
+  pub is_told : answer ≡ body_result (chars bytes) bytes stated
 
 abbrev pub BodyAnswer : List ℕ → Result (List ℕ) ValueFault → Type 0
 BodyAnswer bytes answer = (IsUtf8 bytes × IsBodyAnswer bytes answer) ⊎ ((IsUtf8 bytes → ⊥) × (answer ≡ Err bodies.NotUtf8))

@@ -1,4 +1,5 @@
--- Names in tags: which of them are declarations, and which are wrong in the scope of the tag. Namespaces in XML 1.0, sections 3 to 6.
+-- Names in start tags: which of them are declarations, and which are wrong in the scope of the
+-- tag. Namespaces in XML 1.0, sections 3 to 6.
 use Rattle.std.specs.Prelude.{◌≡◌, ◌⊎◌, ℕ, suc, ◌+◌, Bool, true, ◌&&◌, ◌||◌, not, List, [], ◌∷◌, ◌++◌, length, if◌then◌else◌, is_some}
 use Rattle.std.specs.Str.{bytes_eq}
 use Rattle.std.specs.List.{list_any}
@@ -9,9 +10,9 @@ use Rattle.xml_tree.specs.Proper.{may_stand}
 use Rattle.xml_tree.specs.declared.names.Name.{Name}
 use Rattle.xml_tree.specs.declared.names.Decl.{Decl}
 use Rattle.xml_tree.specs.declared.names.Attr.{Attr}
-use Rattle.tree_text.specs.declared.kind.Kind.{Kind}
-use Rattle.tree_text.specs.declared.kind.Kind.TheVariants.{Unbound, Repeated}
-use Rattle.tree_text.specs.declared.said.Said.{Said}
+use Rattle.tree_text.specs.declared.fault_kind.FaultKind.{FaultKind}
+use Rattle.tree_text.specs.declared.fault_kind.FaultKind.TheVariants.{Unbound, Repeated}
+use Rattle.tree_text.specs.declared.raw_attribute.RawAttribute.{RawAttribute}
 use Rattle.tree_text.specs.Pieces.{StartTag, written}
 
 -- ---- declarations and attributes
@@ -20,83 +21,85 @@ use Rattle.tree_text.specs.Pieces.{StartTag, written}
 abbrev pub is_declaring : Name → Bool
 is_declaring n = (bytes_eq n.prefix [] && bytes_eq n.local xmlns_prefix) || bytes_eq n.prefix xmlns_prefix
 
--- the declaration that one is: `xmlns` declares the default namespace, `xmlns:p` the prefix `p`
-abbrev pub said_decl : Said → Decl
-said_decl s = record { prefix = if bytes_eq s.name.prefix [] then [] else s.name.local; uri = s.value }
+-- the declaration that a raw attribute is: `xmlns` declares the default namespace, `xmlns:p` the
+-- prefix `p`
+abbrev pub raw_attribute_decl : RawAttribute → Decl
+raw_attribute_decl s = record { prefix = if bytes_eq s.name.prefix [] then [] else s.name.local; uri = s.value }
 
-abbrev pub said_attr : Said → Attr
+abbrev pub said_attr : RawAttribute → Attr
 said_attr s = record { name = s.name; value = s.value }
 
 -- the declarations of a tag, and its attributes, each in order
-abbrev pub decls_of : List Said → List Decl
+abbrev pub decls_of : List RawAttribute → List Decl
 decls_of [] = []
-decls_of (s ∷ ss) = if is_declaring s.name then (said_decl s ∷ decls_of ss) else decls_of ss
+decls_of (s ∷ ss) = if is_declaring s.name then (raw_attribute_decl s ∷ decls_of ss) else decls_of ss
 
-abbrev pub attrs_of : List Said → List Attr
+abbrev pub attrs_of : List RawAttribute → List Attr
 attrs_of [] = []
 attrs_of (s ∷ ss) = if is_declaring s.name then attrs_of ss else (said_attr s ∷ attrs_of ss)
 
 -- the scope inside a tag
 abbrev pub inside_tag : List (List Decl) → StartTag → List (List Decl)
-inside_tag scope t = scope ++ decls_of t.said ∷ []
+inside_tag scope t = scope ++ decls_of t.raw_attribute ∷ []
 
--- the element of a tag and of what stands behind it
+-- the element of a start tag and its content
 abbrev pub element_of : StartTag × Content → Tree
-element_of x = tree_of x.0.name (decls_of x.0.said) (attrs_of x.0.said) x.1
+element_of x = tree_of x.0.name (decls_of x.0.raw_attribute) (attrs_of x.0.raw_attribute) x.1
 
 -- ---- what is wrong with a name, in the scope inside its tag
 
--- a prefix, which isn't bound
+-- the name has a prefix that isn't bound
 abbrev pub is_unbound_in : List (List Decl) → Name → Bool
 is_unbound_in here n = not (bytes_eq n.prefix []) && not (is_some (bound here n.prefix))
 
--- a declaration that may not stand, or an attribute with an unbound prefix
-abbrev pub is_misnamed : List (List Decl) → Said → Bool
-is_misnamed here s = if is_declaring s.name then not (may_stand (said_decl s)) else is_unbound_in here s.name
+-- a declaration that isn't allowed, or an attribute with an unbound prefix
+abbrev pub is_misnamed : List (List Decl) → RawAttribute → Bool
+is_misnamed here s = if is_declaring s.name then not (may_stand (raw_attribute_decl s)) else is_unbound_in here s.name
 
--- two declarations of one prefix, or two attributes of one expanded name
-abbrev pub says_again : List (List Decl) → Said → Said → Bool
+-- two declarations of one prefix, or two attributes of equal expanded names
+abbrev pub says_again : List (List Decl) → RawAttribute → RawAttribute → Bool
 says_again here s e =
     if is_declaring s.name
-    then (is_declaring e.name && bytes_eq (said_decl e).prefix (said_decl s).prefix)
+    then (is_declaring e.name && bytes_eq (raw_attribute_decl e).prefix (raw_attribute_decl s).prefix)
     else (not (is_declaring e.name) && same_expanded (attr_name here e.name) (attr_name here s.name))
 
--- one of those before it in the tag is such
-abbrev pub is_repeated : List (List Decl) → List Said → Said → Bool
+-- an earlier raw attribute of the tag declares the same prefix or has the same expanded name
+abbrev pub is_repeated : List (List Decl) → List RawAttribute → RawAttribute → Bool
 is_repeated here earlier s = list_any (says_again here s) earlier
 
--- this is wrong with one of a tag, behind these
-abbrev pub IsWrongSaid : List (List Decl) → List Said → Said → Kind → Type 0
+-- a raw attribute of the tag is wrong in this way, after these
+abbrev pub IsWrongSaid : List (List Decl) → List RawAttribute → RawAttribute → FaultKind → Type 0
 IsWrongSaid here earlier s Unbound = is_misnamed here s ≡ true
 IsWrongSaid here earlier s Repeated = is_repeated here earlier s ≡ true
 IsWrongSaid here earlier s _ = ⊥
 
--- ---- where it stands in the tag
+-- ---- the place of a wrong name in the tag
 
--- how many characters these take
-abbrev pub widths : List Said → ℕ
+-- how many characters these raw attributes take
+abbrev pub widths : List RawAttribute → ℕ
 widths [] = 0
 widths (s ∷ ss) = s.gap + s.size + widths ss
 
--- how many characters of a tag stand before its attributes: `<` and the name
+-- how many characters of a tag come before its attributes: `<` and the name
 abbrev pub opening_size : StartTag → ℕ
 opening_size t = suc (length (written t.name))
 
--- the element's own name is wrong, so many characters before the end of the tag
-pub record IsWrongName (scope : List (List Decl)) (t : StartTag) (kind : Kind) (back : ℕ) : Type 0 where
+-- the element's own name is wrong; its place is a number of characters before the end of the tag
+pub record IsWrongName (scope : List (List Decl)) (t : StartTag) (kind : FaultKind) (back : ℕ) : Type 0 where
   pub wrong : is_unbound_in (inside_tag scope t) t.name ≡ true
   pub kind_is : kind ≡ Unbound
   pub place : back + 1 ≡ t.size
 
--- one of the tag's attributes and declarations is wrong, its name standing so many characters before the end of the tag
-pub record HasWrongSaid (scope : List (List Decl)) (t : StartTag) (kind : Kind) (back : ℕ) : Type 0 where
-  pub earlier : List Said
-  pub said : Said
-  pub later : List Said
-  pub among : t.said ≡ earlier ++ said ∷ later
-  pub wrong : IsWrongSaid (inside_tag scope t) earlier said kind
-  pub place : back + (opening_size t + widths earlier + said.gap) ≡ t.size
+-- an attribute or declaration of the tag is wrong; the place of its name is a number of
+-- characters before the end of the tag
+pub record HasWrongSaid (scope : List (List Decl)) (t : StartTag) (kind : FaultKind) (back : ℕ) : Type 0 where
+  pub earlier : List RawAttribute
+  pub raw_attribute : RawAttribute
+  pub later : List RawAttribute
+  pub among : t.raw_attribute ≡ earlier ++ raw_attribute ∷ later
+  pub wrong : IsWrongSaid (inside_tag scope t) earlier raw_attribute kind
+  pub place : back + (opening_size t + widths earlier + raw_attribute.gap) ≡ t.size
 
--- A whole tag says of each name in it that is wrong what is wrong with it, at the name.
-abbrev pub IsWrong : List (List Decl) → StartTag → Kind → ℕ → Type 0
+-- A whole tag marks each wrong name in it with what is wrong, at the name.
+abbrev pub IsWrong : List (List Decl) → StartTag → FaultKind → ℕ → Type 0
 IsWrong scope t kind back = IsWrongName scope t kind back ⊎ HasWrongSaid scope t kind back

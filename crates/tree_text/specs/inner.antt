@@ -1,3 +1,3 @@
--- What private functions and proofs speak of. No clause of a public call needs it.
+-- Definitions for private functions and proofs; no public clause needs them.
 pub mod Classes
 pub mod Escapes

@@ -1,14 +1,14 @@
-//! The declarations of the elements that are open, and the namespaces that they bind.
+//! The declarations of the open elements, and the namespaces that they bind.
 ghost use Rattle.std.specs.Prelude.{◌≡◌, ◌++◌, ◌<◌, ◌∷◌, [], option_map, Some, IfOk, OnOk, length};
 ghost use Rattle.xml_tree.specs.Scopes.{bound};
 ghost use Rattle.xml_tree.specs.declared.names.Decl.{Decl};
-ghost use Rattle.tree_text.specs.readers.Bindings.{AreKept, lists, number};
+ghost use Rattle.tree_text.specs.readers.Bindings.{AreOpenNamespaces, lists, number};
 
 use crate::namespaces::Namespaces;
 use std::alloc::{AllocError, Global};
 use xml_tree::{Decl, Prefix, Scope, copy_decls};
 
-/// What is declared at a place.
+/// The declarations in force at a place.
 #[derive(Drop)]
 pub struct Bindings {
     /// The declarations of the elements around it, outermost first.
@@ -18,10 +18,10 @@ pub struct Bindings {
 }
 
 impl Bindings {
-    /// What is declared where nothing is open.
+    /// No declarations.
     fn new(alloc: Global) -> Result<Bindings, AllocError>
         ensures binds_nothing { IfOk result (λ made. lists made ≡ []) }
-        ensures lists_are_kept_in_step { IfOk result AreKept }
+        ensures lists_in_step { IfOk result AreOpenNamespaces }
     {
         Ok(Bindings {
             open: Vec::new(alloc),
@@ -29,10 +29,10 @@ impl Bindings {
         })
     }
 
-    /// What is declared in a scope.
-    pub fn given(alloc: Global, scope: &Scope<'_>) -> Result<Bindings, AllocError>
-        ensures holds_the_given_scope { IfOk result (λ made. lists made ≡ scope.now) }
-        ensures lists_are_kept_in_step { IfOk result AreKept }
+    /// The declarations of a scope.
+    pub fn from_scope(alloc: Global, scope: &Scope<'_>) -> Result<Bindings, AllocError>
+        ensures given_scope { IfOk result (λ made. lists made ≡ scope.now) }
+        ensures lists_in_step { IfOk result AreOpenNamespaces }
     {
         let mut made = Bindings::new(alloc)?;
         for decls in scope.lists() {
@@ -41,35 +41,37 @@ impl Bindings {
         Ok(made)
     }
 
-    /// Goes into an element with these declarations.
+    /// Enters an element with these declarations.
     #[inline(always)]
     pub fn enter(&mut self, alloc: Global, decls: Vec<Decl>) -> Result<(), AllocError>
-        requires { AreKept self.old }
-        ensures scope_grows_by_them { OnOk result (lists self.new ≡ lists self.old ++ decls.items ∷ []) }
-        ensures lists_are_kept_in_step { OnOk result (AreKept self.new) }
+        requires { AreOpenNamespaces self.old }
+        ensures scope_grows { OnOk result (lists self.new ≡ lists self.old ++ decls.items ∷ []) }
+        ensures lists_in_step { OnOk result (AreOpenNamespaces self.new) }
     {
         self.namespaces.declare_all(alloc, &decls)?;
         self.open.push(decls)?;
         Ok(())
     }
 
-    /// Goes out of the innermost element, and answers its declarations.
+    /// Leaves the innermost element, and returns its declarations.
     #[inline(always)]
     pub fn leave(&mut self) -> Vec<Decl>
-        requires kept { AreKept self.old }
-        requires some { 0 < length self.old.open.items }
-        ensures scope_shrinks_by_them { lists self.old ≡ lists self.new ++ result.items ∷ [] }
-        ensures lists_are_kept_in_step { AreKept self.new }
+        requires namespaces_in_step { AreOpenNamespaces self.old }
+        requires nonempty { 0 < length self.old.open.items }
+        ensures scope_shrinks { lists self.old ≡ lists self.new ++ result.items ∷ [] }
+        ensures lists_in_step { AreOpenNamespaces self.new }
     {
         let decls = self.open.pop().unwrap();
         self.namespaces.forget_all(&decls);
         decls
     }
 
-    /// The number of the namespace that a prefix is bound to, the empty prefix being the default namespace.
+    /// The number of the namespace that a prefix is bound to; the empty prefix is the default
+    /// namespace.
     pub fn namespace(&self, prefix: &Prefix) -> Option<usize>
-        requires { AreKept self.now }
-        ensures number_of_the_bound_namespace { option_map Some result ≡ option_map (number self.now.namespaces) (bound (lists self.now) prefix.now) }
+        requires { AreOpenNamespaces self.now }
+        ensures exact { option_map Some result
+            ≡ option_map (number self.now.namespaces) (bound (lists self.now) prefix.now) }
     {
         self.namespaces.of_prefix(prefix)
     }

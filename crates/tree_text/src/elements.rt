@@ -1,12 +1,12 @@
-//! Elements: their tags, their content, and the elements in it, no deeper than a limit.
+//! Elements: their start tags, their content, and the elements in it, within a depth limit.
 ghost use Rattle.std.specs.Prelude.{◌≡◌, ◌==◌, ◌||◌, ◌+◌, ◌≤◌, ◌<◌, ◌++◌, true, [], ◌∷◌, chars, IfOk, OnOk, Ok, Err};
-ghost use Rattle.grammar_rules.specs.Reading.{Reader, head_is};
-ghost use Rattle.grammar_rules.specs.readers.Functions.{judgement};
+ghost use Rattle.xml_grammar.specs.Reading.{Reader, head_is};
+ghost use Rattle.xml_grammar.specs.readers.Functions.{judgement};
 ghost use Rattle.xml_tree.specs.Edits.{with_text};
 ghost use Rattle.xml_tree.specs.Tree.{Tree, last, tree_of};
-ghost use Rattle.tree_text.specs.declared.kind.Kind.{Kind};
-ghost use Rattle.tree_text.specs.readers.Bindings.{AreBack, AreKept, lists};
-ghost use Rattle.tree_text.specs.readers.Gives.{Gives, Fails};
+ghost use Rattle.tree_text.specs.declared.fault_kind.FaultKind.{FaultKind};
+ghost use Rattle.tree_text.specs.readers.Bindings.{AreBack, AreOpenNamespaces, lists};
+ghost use Rattle.tree_text.specs.readers.Results.{Gives, Fails};
 ghost use Rattle.tree_text.specs.readers.Members.{read_chars_onto, read_onto, read_child, read_filled, read_filled_behind};
 ghost use Rattle.tree_text.specs.Names.{attrs_of};
 ghost use Rattle.tree_text.specs.readers.Judging.{counted_back, first_of_tag};
@@ -14,50 +14,58 @@ ghost use Rattle.tree_text.specs.readers.Runs.{ends_run};
 ghost use Rattle.tree_text.specs.readers.Texts.{markup_follows, other_follows, read_tag, read_element};
 ghost use Rattle.tree_text.specs.readers.Views.{name_in, tag_in};
 
-use crate::ahead::{are_next, is_either_next, is_next};
-use crate::bare::push_bare;
+use crate::attribute_values::reference;
 use crate::bindings::Bindings;
-use crate::classes::{Class, run};
-use crate::kind::Kind;
+use crate::character_classes::{Class, run};
+use crate::character_runs::{lines, raw_run, starts};
+use crate::cursor::{count, is_first, split_first};
+use crate::empty_elements::push_bare;
+use crate::fault_kind::FaultKind;
+use crate::fault_places::before;
+use crate::lookahead::{are_next, is_either_next, is_next};
+use crate::markup::{comment, instruction, section};
 use crate::names::{declares, decls_of, first_of_tag};
-use crate::parts::starts_with_name;
-use crate::pieces::{comment, instruction, section};
-use crate::places::before;
-use crate::runs::{lines, raw_run, starts};
-use crate::said::Said;
-use crate::stepping::{count, is_first, split_first};
-use crate::stop::Stop;
-use crate::tags::{Tag, whole_tag};
-use crate::texts::text_of;
-use crate::values::reference;
-use crate::written::{end_tag, owned};
+use crate::parse_error::ParseError;
+use crate::raw_attribute::RawAttribute;
+use crate::raw_name::{end_tag, owned_name};
+use crate::start_tags::{RawStartTag, whole_tag};
+use crate::text_buffers::text_of;
+use crate::tokens::starts_with_name;
 use std::alloc::{AllocError, Global};
 use xml_tree::{Attr, Decl, Element, Name, Text, last_elem};
 
-/// Stops at the first wrong name of a tag, which this follows, inside its element.
+/// Stops at the first wrong name of a start tag, inside its element.
 #[inline(always)]
-fn judged<'a>(
+fn check_tag_names<'a>(
     alloc: Global,
     text: &'a str,
     here: &Bindings,
     name: &Name,
-    said: &[Said<'_>],
-    tag: &Tag<'_>,
-) -> Result<(), Stop<'a>>
-    requires kept { AreKept here.now }
-    requires named { name.now ≡ name_in tag.now.written }
-    requires tagged { read_tag (chars text.now) ≡ Ok (tag_in (chars text.now) tag.now said.now, chars tag.now.behind.now) }
-    ensures judges_the_names_of_the_tag { Gives (λ _. (tag_in (chars text.now) tag.now said.now, chars tag.now.behind.now)) result (judgement (chars text.now) (tag_in (chars text.now) tag.now said.now, chars tag.now.behind.now) (counted_back (tag_in (chars text.now) tag.now said.now).size (first_of_tag (lists here.now) (tag_in (chars text.now) tag.now said.now)))) }
+    raw_attribute: &[RawAttribute<'_>],
+    start_tag: &RawStartTag<'_>,
+) -> Result<(), ParseError<'a>>
+    requires namespaces_in_step { AreOpenNamespaces here.now }
+    requires name_matches { name.now ≡ name_in start_tag.now.written }
+    requires tag_read { read_tag (chars text.now)
+        ≡ Ok (tag_in (chars text.now) start_tag.now raw_attribute.now, chars start_tag.now.behind.now) }
+    ensures judged_names { Gives
+        (λ _. (tag_in (chars text.now) start_tag.now raw_attribute.now, chars start_tag.now.behind.now))
+        result (judgement (chars text.now)
+        (tag_in (chars text.now) start_tag.now raw_attribute.now, chars start_tag.now.behind.now)
+        (counted_back (tag_in (chars text.now) start_tag.now raw_attribute.now).size
+        (first_of_tag (lists here.now)
+        (tag_in (chars text.now) start_tag.now raw_attribute.now)))) }
 {
-    if let Some((kind, at)) = first_of_tag(alloc, here, name, said, tag)? {
-        let size = count(text).saturating_sub(count(tag.behind));
-        let place = before(text, tag.behind, size.saturating_sub(at));
-        return Err(Stop::Faulty(kind, place));
+    if let Some((kind, at)) = first_of_tag(alloc, here, name, raw_attribute, start_tag)? {
+        let size = count(text).saturating_sub(count(start_tag.behind));
+        let place = before(text, start_tag.behind, size.saturating_sub(at));
+        return Err(ParseError::Faulty(kind, place));
     }
     Ok(())
 }
 
-/// Takes room for one node alone where the content ends before this rest of the text: most elements have one node or none.
+/// Reserves capacity for exactly one node where the content ends before this rest of the text:
+/// most elements have one node or none.
 #[inline(always)]
 fn room_before(element: &mut Element, rest: &str) -> Result<(), AllocError>
     ensures changes_nothing { element.new ≡ element.old }
@@ -68,17 +76,19 @@ fn room_before(element: &mut Element, rest: &str) -> Result<(), AllocError>
     Ok(())
 }
 
-/// Adds plain characters to content, before this rest of the text.
+/// Appends plain characters to content, before this rest of the text.
 fn push_plain(element: &mut Element, plain: Text, rest: &str) -> Result<(), AllocError>
-    ensures adds_the_characters { OnOk result (element.new ≡ record element.old { content = with_text plain element.old.content }) }
+    ensures appends_chars { OnOk result
+        (element.new ≡ record element.old { content = with_text plain element.old.content }) }
 {
     room_before(element, rest)?;
     element.push_text(plain)
 }
 
-/// Adds a character to content.
+/// Appends a character to content.
 fn push_char(alloc: Global, element: &mut Element, c: char) -> Result<(), AllocError>
-    ensures adds_the_character { OnOk result (element.new ≡ record element.old { content = with_text (c ∷ []) element.old.content }) }
+    ensures ok { OnOk result
+        (element.new ≡ record element.old { content = with_text (c ∷ []) element.old.content }) }
 {
     element.push_text(text_of(alloc, &[c])?)
 }
@@ -86,28 +96,31 @@ fn push_char(alloc: Global, element: &mut Element, c: char) -> Result<(), AllocE
 /// Whether a `<` or a `&` follows, which ends a run.
 #[inline(always)]
 fn run_ends(text: &str) -> bool
-    ensures tells_whether_the_run_ends { result ≡ ends_run 60 (chars text.now) }
+    ensures exact { result ≡ ends_run 60 (chars text.now) }
 {
     is_either_next(text, '<', '&')
 }
 
-/// Adds a run of raw characters to content, as they are read, and answers what follows.
+/// Appends a run of raw characters to content, as read, and returns what follows.
 fn push_mixed<'a>(
     alloc: Global,
     text: &'a str,
     element: &mut Element,
 ) -> Result<&'a str, AllocError>
-    ensures reads_the_characters_onto_it { IfOk result (λ rest. read_chars_onto element.old (chars text.now) ≡ Ok (element.new, chars rest.now)) }
+    ensures reads_onto { IfOk result
+        (λ rest. read_chars_onto element.old (chars text.now) ≡ Ok (element.new, chars rest.now)) }
 {
     let (run, rest) = raw_run(text);
     element.push_text(lines(alloc, run)?)?;
     Ok(rest)
 }
 
-/// The same. Most runs are plain, and are copied as they stand.
+/// Appends a run of raw characters, if there is one. Most runs are plain, and are copied as they
+/// are.
 #[inline(never)]
 fn push_some<'a>(alloc: Global, text: &'a str, element: &mut Element) -> Result<&'a str, AllocError>
-    ensures reads_the_run_onto_it { IfOk result (λ rest. read_chars_onto element.old (chars text.now) ≡ Ok (element.new, chars rest.now)) }
+    ensures reads_onto { IfOk result
+        (λ rest. read_chars_onto element.old (chars text.now) ≡ Ok (element.new, chars rest.now)) }
 {
     let (plain, rest) = run(text, Class::PlainContent);
     if run_ends(rest) {
@@ -118,10 +131,11 @@ fn push_some<'a>(alloc: Global, text: &'a str, element: &mut Element) -> Result<
     push_mixed(alloc, text, element)
 }
 
-/// The same. Between tags there is often no run.
+/// Appends a run of raw characters, if there is one. Between tags there is often none.
 #[inline(always)]
 fn push_run<'a>(alloc: Global, text: &'a str, element: &mut Element) -> Result<&'a str, AllocError>
-    ensures reads_the_run_onto_it { IfOk result (λ rest. read_chars_onto element.old (chars text.now) ≡ Ok (element.new, chars rest.now)) }
+    ensures reads_onto { IfOk result
+        (λ rest. read_chars_onto element.old (chars text.now) ≡ Ok (element.new, chars rest.now)) }
 {
     if run_ends(text) {
         return Ok(text);
@@ -129,10 +143,11 @@ fn push_run<'a>(alloc: Global, text: &'a str, element: &mut Element) -> Result<&
     push_some(alloc, text, element)
 }
 
-/// Adds declarations to an element. Most have none.
+/// Appends declarations to an element. Most have none.
 #[inline(always)]
 fn push_decls(element: &mut Element, decls: Vec<Decl>) -> Result<(), AllocError>
-    ensures adds_the_declarations { OnOk result (element.new ≡ record element.old { decls = element.old.decls ++ decls.items }) }
+    ensures adds_declarations { OnOk result
+        (element.new ≡ record element.old { decls = element.old.decls ++ decls.items }) }
 {
     if decls.is_empty() {
         decls.destroy_empty();
@@ -141,10 +156,11 @@ fn push_decls(element: &mut Element, decls: Vec<Decl>) -> Result<(), AllocError>
     push_each_decl(element, decls)
 }
 
-/// The same, one by one.
+/// Appends declarations one by one.
 #[inline(never)]
 fn push_each_decl(element: &mut Element, decls: Vec<Decl>) -> Result<(), AllocError>
-    ensures adds_each_declaration { OnOk result (element.new ≡ record element.old { decls = element.old.decls ++ decls.items }) }
+    ensures appended { OnOk result
+        (element.new ≡ record element.old { decls = element.old.decls ++ decls.items }) }
 {
     for decl in decls {
         element.push_decl(decl)?;
@@ -152,62 +168,72 @@ fn push_each_decl(element: &mut Element, decls: Vec<Decl>) -> Result<(), AllocEr
     Ok(())
 }
 
-/// Adds one of a tag to an element, unless it is a declaration.
+/// Appends a raw attribute to an element, unless it is a declaration.
 #[inline(always)]
-fn push_said(element: &mut Element, said: Said<'_>) -> Result<(), AllocError>
-    ensures adds_it_if_it_is_an_attribute { OnOk result (element.new ≡ record element.old { attrs = element.old.attrs ++ attrs_of (said.entry ∷ []) }) }
+fn push_raw_attribute(
+    element: &mut Element,
+    raw_attribute: RawAttribute<'_>,
+) -> Result<(), AllocError>
+    ensures appended { OnOk result
+        (element.new ≡ record element.old { attrs = element.old.attrs ++ attrs_of (raw_attribute.entry ∷ []) }) }
 {
-    if declares(&said.name) {
+    if declares(&raw_attribute.name) {
         return Ok(());
     }
-    let Said {
+    let RawAttribute {
         name,
         value,
         gap: _,
         size: _,
-    } = said;
+    } = raw_attribute;
     element.push_attr(Attr { name, value })
 }
 
-/// Adds the attributes among what a tag says to an element, and keeps nothing of it.
+/// Appends the attributes among the raw attributes to an element, and drops the raw attributes.
 #[inline(never)]
-fn push_all_said(element: &mut Element, said: &mut Vec<Said<'_>>) -> Result<(), AllocError>
-    ensures adds_the_attributes { OnOk result (element.new ≡ record element.old { attrs = element.old.attrs ++ attrs_of said.old.items }) }
+fn push_all_said(
+    element: &mut Element,
+    raw_attribute: &mut Vec<RawAttribute<'_>>,
+) -> Result<(), AllocError>
+    ensures appended { OnOk result
+        (element.new ≡ record element.old { attrs = element.old.attrs ++ attrs_of raw_attribute.old.items }) }
 {
-    for one in said.drain(..) {
-        push_said(element, one)?;
+    for one in raw_attribute.drain(..) {
+        push_raw_attribute(element, one)?;
     }
     Ok(())
 }
 
-/// The same, with room for so many. Most tags say nothing.
+/// Appends the attributes among the raw attributes, with capacity reserved for `room` of them.
+/// Most tags have none.
 #[inline(always)]
 fn push_attrs(
     element: &mut Element,
-    said: &mut Vec<Said<'_>>,
+    raw_attribute: &mut Vec<RawAttribute<'_>>,
     room: usize,
 ) -> Result<(), AllocError>
-    ensures adds_the_attributes { OnOk result (element.new ≡ record element.old { attrs = element.old.attrs ++ attrs_of said.old.items }) }
+    ensures appended { OnOk result
+        (element.new ≡ record element.old { attrs = element.old.attrs ++ attrs_of raw_attribute.old.items }) }
 {
-    if said.is_empty() {
+    if raw_attribute.is_empty() {
         return Ok(());
     }
     element.reserve_attrs(room)?;
-    push_all_said(element, said)
+    push_all_said(element, raw_attribute)
 }
 
 /// Whether a reference or a `<` follows.
 #[inline(always)]
 fn starts_markup(text: &str) -> bool
-    ensures tells_whether_markup_or_an_end_tag_follows { result ≡ head_is (λ c. c == 38 || c == 60) (chars text.now) }
+    ensures exact { result ≡ head_is (λ c. c == 38 || c == 60) (chars text.now) }
 {
     is_either_next(text, '&', '<')
 }
 
-/// Whether content goes on: a reference or a `<` follows, and no end tag.
+/// Whether content goes on: a reference or a `<` follows that isn't the start of an end tag.
 #[inline(always)]
 fn markup_follows(text: &str) -> bool
-    ensures tells_whether_markup_follows { result ≡ markup_follows (chars text.now) }
+    ensures exact { result ≡ markup_follows (chars text.now) }
 {
     if !starts_markup(text) {
         return false;
@@ -215,37 +241,44 @@ fn markup_follows(text: &str) -> bool
     !are_next(text, '<', '/')
 }
 
-/// Why no element is read where no level is left: it is too deep, or none stands there.
-fn no_level(text: &str, depth: usize) -> Stop<'_>
-    ensures stops_where_no_level_is_left { Fails result (read_element 0 [] depth (chars text.now)) }
+/// Why no element is read where no level is left: it is too deep, or there is none.
+fn no_level(text: &str, depth: usize) -> ParseError<'_>
+    ensures fails_too_deep { Fails result (read_element 0 [] depth (chars text.now)) }
 {
     match split_first(text) {
         Some((first, rest)) => {
             if first != '<' {
-                return Stop::Syntax(text);
+                return ParseError::Syntax(text);
             }
             if starts_with_name(rest) {
-                return Stop::Faulty(Kind::Depth(depth), text);
+                return ParseError::Faulty(FaultKind::Depth(depth), text);
             }
-            Stop::Syntax(rest)
+            ParseError::Syntax(rest)
         }
-        None => Stop::Syntax(text),
+        None => ParseError::Syntax(text),
     }
 }
 
-/// Whether markup follows that is no element.
+/// Whether markup other than an element follows.
 #[inline(always)]
 fn other_follows(text: &str) -> bool
-    ensures tells_whether_other_markup_follows { result ≡ other_follows (chars text.now) }
+    ensures exact { result ≡ other_follows (chars text.now) }
 {
     is_next(text, '&') || are_next(text, '<', '!') || are_next(text, '<', '?')
 }
 
-/// Adds a piece of markup that is no element to content, and answers what follows it. Most are elements.
+/// Appends a piece of markup that isn't an element to content, and returns what follows it. Most
+/// markup is elements.
 #[inline(never)]
-fn push_other<'a>(alloc: Global, text: &'a str, element: &mut Element) -> Result<&'a str, Stop<'a>>
+fn push_other<'a>(
+    alloc: Global,
+    text: &'a str,
+    element: &mut Element,
+) -> Result<&'a str, ParseError<'a>>
     requires { other_follows (chars text.now) ≡ true }
-    ensures reads_other_markup_onto_it { (inner : Reader Kind Tree) → Gives (λ rest. (element.new, chars rest.now)) result (read_onto element.old inner (chars text.now)) }
+    ensures reads_onto { (inner : Reader FaultKind Tree)
+        → Gives (λ rest. (element.new, chars rest.now)) result
+        (read_onto element.old inner (chars text.now)) }
 {
     if is_first(text, '&') {
         let (c, rest) = reference(text)?;
@@ -266,7 +299,7 @@ fn push_other<'a>(alloc: Global, text: &'a str, element: &mut Element) -> Result
     Ok(rest)
 }
 
-/// Adds a piece of markup to content, and answers what follows it.
+/// Appends a piece of markup to content, and returns what follows it.
 #[inline(always)]
 #[cycle(nested)]
 #[tactic(auto, using(crate::proofs::ElementLemmas::child_onto))]
@@ -276,21 +309,22 @@ fn push_markup<'a>(
     bindings: &mut Bindings,
     depth: usize,
     levels: usize,
-    said: &mut Vec<Said<'a>>,
+    raw_attribute: &mut Vec<RawAttribute<'a>>,
     element: &mut Element,
-) -> Result<&'a str, Stop<'a>>
-    requires kept { AreKept bindings.old }
-    requires deep { depth + levels ≤ 1000 }
-    ensures reads_as_the_rule_does { Gives (λ rest. (element.new, chars rest.now)) result (read_onto element.old (read_element levels (lists bindings.old) depth) (chars text.now)) }
-    ensures bindings_are_those_of_before { OnOk result (AreBack bindings.old bindings.new) }
+) -> Result<&'a str, ParseError<'a>>
+    requires namespaces_in_step { AreOpenNamespaces bindings.old }
+    requires depth_bounded { depth + levels ≤ 1000 }
+    ensures reads_rule { Gives (λ rest. (element.new, chars rest.now)) result
+        (read_onto element.old (read_element levels (lists bindings.old) depth) (chars text.now)) }
+    ensures bindings_restored { OnOk result (AreBack bindings.old bindings.new) }
 {
     if other_follows(text) {
         return push_other(alloc, text, element);
     }
-    push_child(alloc, text, bindings, depth, levels, said, element)
+    push_child(alloc, text, bindings, depth, levels, raw_attribute, element)
 }
 
-/// Adds content to an element that has none, and answers what follows it.
+/// Reads content into an element that has none, and returns what follows it.
 #[inline(always)]
 #[cycle(nested)]
 fn content<'a>(
@@ -299,14 +333,16 @@ fn content<'a>(
     bindings: &mut Bindings,
     depth: usize,
     levels: usize,
-    said: &mut Vec<Said<'a>>,
+    raw_attribute: &mut Vec<RawAttribute<'a>>,
     element: &mut Element,
-) -> Result<&'a str, Stop<'a>>
-    requires kept { AreKept bindings.old }
-    requires deep { depth + levels ≤ 1000 }
+) -> Result<&'a str, ParseError<'a>>
+    requires namespaces_in_step { AreOpenNamespaces bindings.old }
+    requires depth_bounded { depth + levels ≤ 1000 }
     requires empty { element.old.content ≡ last [] }
-    ensures reads_as_the_rule_does { Gives (λ rest. (element.new, chars rest.now)) result (read_filled element.old (read_element levels (lists bindings.old) depth) (chars text.now)) }
-    ensures bindings_are_those_of_before { OnOk result (AreBack bindings.old bindings.new) }
+    ensures reads_rule { Gives (λ rest. (element.new, chars rest.now)) result
+        (read_filled element.old (read_element levels (lists bindings.old) depth)
+        (chars text.now)) }
+    ensures bindings_restored { OnOk result (AreBack bindings.old bindings.new) }
 {
     let start = push_run(alloc, text, element)?;
     let mut rest = start;
@@ -314,13 +350,14 @@ fn content<'a>(
         if !markup_follows(rest) {
             break;
         }
-        let after = push_markup(alloc, rest, bindings, depth, levels, said, element)?;
+        let after = push_markup(alloc, rest, bindings, depth, levels, raw_attribute, element)?;
         rest = push_run(alloc, after, element)?;
     }
     Ok(rest)
 }
 
-/// Adds what stands behind a tag to its element, which has no content, and answers what follows.
+/// Reads what follows a start tag into its element, which has no content, and returns what
+/// follows.
 #[inline(always)]
 #[cycle(nested)]
 fn behind_tag<'a>(
@@ -328,26 +365,36 @@ fn behind_tag<'a>(
     bindings: &mut Bindings,
     depth: usize,
     levels: usize,
-    said: &mut Vec<Said<'a>>,
-    tag: &Tag<'a>,
+    raw_attribute: &mut Vec<RawAttribute<'a>>,
+    start_tag: &RawStartTag<'a>,
     element: &mut Element,
-) -> Result<&'a str, Stop<'a>>
-    requires kept { AreKept bindings.old }
-    requires deep { depth + levels ≤ 1000 }
+) -> Result<&'a str, ParseError<'a>>
+    requires namespaces_in_step { AreOpenNamespaces bindings.old }
+    requires depth_bounded { depth + levels ≤ 1000 }
     requires empty { element.old.content ≡ last [] }
-    ensures reads_as_the_rule_does { Gives (λ rest. (element.new, chars rest.now)) result (read_filled_behind element.old (read_element levels (lists bindings.old) depth) (name_in tag.now.written) tag.now.is_empty (chars tag.now.behind.now)) }
-    ensures bindings_are_those_of_before { OnOk result (AreBack bindings.old bindings.new) }
+    ensures reads_rule { Gives (λ rest. (element.new, chars rest.now)) result
+        (read_filled_behind element.old (read_element levels (lists bindings.old) depth)
+        (name_in start_tag.now.written) start_tag.now.is_empty (chars start_tag.now.behind.now)) }
+    ensures bindings_restored { OnOk result (AreBack bindings.old bindings.new) }
 {
-    if tag.is_empty {
-        return Ok(tag.behind);
+    if start_tag.is_empty {
+        return Ok(start_tag.behind);
     }
-    let rest = content(alloc, tag.behind, bindings, depth, levels, said, element)?;
-    let rest = end_tag(rest, &tag.written)?;
+    let rest = content(
+        alloc,
+        start_tag.behind,
+        bindings,
+        depth,
+        levels,
+        raw_attribute,
+        element,
+    )?;
+    let rest = end_tag(rest, &start_tag.written)?;
     Ok(rest)
 }
 
-/// Makes a bare element of the name of a tag that of the tag, which says this, and of what stands behind it, and answers what
-/// follows.
+/// Fills the empty element of a start tag with the tag's declarations, attributes and content,
+/// and returns what follows the end tag.
 #[inline(always)]
 #[cycle(nested)]
 fn fill<'a>(
@@ -356,30 +403,41 @@ fn fill<'a>(
     bindings: &mut Bindings,
     depth: usize,
     inner: usize,
-    said: &mut Vec<Said<'a>>,
-    tag: &Tag<'a>,
+    raw_attribute: &mut Vec<RawAttribute<'a>>,
+    start_tag: &RawStartTag<'a>,
     element: &mut Element,
-) -> Result<&'a str, Stop<'a>>
-    requires kept { AreKept bindings.old }
-    requires deep { depth + inner < 1000 }
-    requires tagged { read_tag (chars text.now) ≡ Ok (tag_in (chars text.now) tag.now said.old.items, chars tag.now.behind.now) }
-    requires bare { element.old ≡ tree_of (name_in tag.now.written) [] [] (last []) }
-    ensures reads_as_the_rule_does { Gives (λ rest. (element.new, chars rest.now)) result (read_element (inner + 1) (lists bindings.old) depth (chars text.now)) }
-    ensures bindings_are_those_of_before { OnOk result (AreBack bindings.old bindings.new) }
+) -> Result<&'a str, ParseError<'a>>
+    requires namespaces_in_step { AreOpenNamespaces bindings.old }
+    requires depth_bounded { depth + inner < 1000 }
+    requires tag_read { read_tag (chars text.now)
+        ≡ Ok (tag_in (chars text.now) start_tag.now raw_attribute.old.items, chars start_tag.now.behind.now) }
+    requires bare { element.old ≡ tree_of (name_in start_tag.now.written) [] [] (last []) }
+    ensures reads_rule { Gives (λ rest. (element.new, chars rest.now)) result
+        (read_element (inner + 1) (lists bindings.old) depth (chars text.now)) }
+    ensures bindings_restored { OnOk result (AreBack bindings.old bindings.new) }
 {
-    let all = said.as_slice();
+    let all = raw_attribute.as_slice();
     let decls = decls_of(alloc, all)?;
     let attrs = all.len().saturating_sub(decls.len());
     bindings.enter(alloc, decls)?;
-    judged(alloc, text, bindings, element.name(), all, tag)?;
-    push_attrs(element, said, attrs)?;
-    let rest = behind_tag(alloc, bindings, depth + 1, inner, said, tag, element)?;
+    check_tag_names(alloc, text, bindings, element.name(), all, start_tag)?;
+    push_attrs(element, raw_attribute, attrs)?;
+    let rest = behind_tag(
+        alloc,
+        bindings,
+        depth + 1,
+        inner,
+        raw_attribute,
+        start_tag,
+        element,
+    )?;
     let decls = bindings.leave();
     push_decls(element, decls)?;
     Ok(rest)
 }
 
-/// Adds an element at this depth, with this many levels at most, to content, and answers what follows it. It is made in its place.
+/// Appends an element at this depth, with at most this many levels, to content, and returns what
+/// follows it. The element is built in place.
 #[inline(never)]
 #[cycle(nested)]
 fn push_child<'a>(
@@ -388,45 +446,56 @@ fn push_child<'a>(
     bindings: &mut Bindings,
     depth: usize,
     levels: usize,
-    said: &mut Vec<Said<'a>>,
+    raw_attribute: &mut Vec<RawAttribute<'a>>,
     parent: &mut Element,
-) -> Result<&'a str, Stop<'a>>
-    requires kept { AreKept bindings.old }
-    requires deep { depth + levels ≤ 1000 }
-    ensures reads_as_the_rule_does { Gives (λ rest. (parent.new, chars rest.now)) result (read_child parent.old (read_element levels (lists bindings.old) depth) (chars text.now)) }
-    ensures bindings_are_those_of_before { OnOk result (AreBack bindings.old bindings.new) }
+) -> Result<&'a str, ParseError<'a>>
+    requires namespaces_in_step { AreOpenNamespaces bindings.old }
+    requires depth_bounded { depth + levels ≤ 1000 }
+    ensures reads_rule { Gives (λ rest. (parent.new, chars rest.now)) result
+        (read_child parent.old (read_element levels (lists bindings.old) depth) (chars text.now)) }
+    ensures bindings_restored { OnOk result (AreBack bindings.old bindings.new) }
 {
     let Some(inner) = levels.checked_sub(1) else {
         return Err(no_level(text, depth));
     };
-    let tag = whole_tag(alloc, text, said)?;
+    let start_tag = whole_tag(alloc, text, raw_attribute)?;
     let mut nodes = parent.take_nodes();
-    push_bare(alloc, &mut nodes, &tag)?;
+    push_bare(alloc, &mut nodes, &start_tag)?;
     let child = last_elem(&mut nodes);
-    let rest = fill(alloc, text, bindings, depth, inner, said, &tag, child)?;
+    let rest = fill(
+        alloc,
+        text,
+        bindings,
+        depth,
+        inner,
+        raw_attribute,
+        &start_tag,
+        child,
+    )?;
     parent.put_nodes(nodes);
     Ok(rest)
 }
 
-/// An element at this depth, with this many levels at most, and what follows it.
+/// An element at this depth, with at most this many levels, and what follows it.
 pub fn element<'a>(
     alloc: Global,
     text: &'a str,
     bindings: &mut Bindings,
     depth: usize,
     levels: usize,
-) -> Result<(Element, &'a str), Stop<'a>>
-    requires kept { AreKept bindings.old }
-    requires deep { depth + levels ≤ 1000 }
-    ensures reads_as_the_rule_does { Gives (λ x. (x.0, chars x.1.now)) result (read_element levels (lists bindings.old) depth (chars text.now)) }
-    ensures bindings_are_those_of_before { OnOk result (AreBack bindings.old bindings.new) }
+) -> Result<(Element, &'a str), ParseError<'a>>
+    requires namespaces_in_step { AreOpenNamespaces bindings.old }
+    requires depth_bounded { depth + levels ≤ 1000 }
+    ensures reads_rule { Gives (λ x. (x.0, chars x.1.now)) result
+        (read_element levels (lists bindings.old) depth (chars text.now)) }
+    ensures bindings_restored { OnOk result (AreBack bindings.old bindings.new) }
 {
     let Some(inner) = levels.checked_sub(1) else {
         return Err(no_level(text, depth));
     };
-    let mut said = Vec::new(alloc);
-    let tag = whole_tag(alloc, text, &mut said)?;
-    let name = owned(alloc, &tag.written)?;
+    let mut raw_attribute = Vec::new(alloc);
+    let start_tag = whole_tag(alloc, text, &mut raw_attribute)?;
+    let name = owned_name(alloc, &start_tag.written)?;
     let mut element = Element::new(alloc, name);
     let rest = fill(
         alloc,
@@ -434,8 +503,8 @@ pub fn element<'a>(
         bindings,
         depth,
         inner,
-        &mut said,
-        &tag,
+        &mut raw_attribute,
+        &start_tag,
         &mut element,
     )?;
     Ok((element, rest))

@@ -1,4 +1,4 @@
-//! Texts as they are printed, with references in place of the characters that would be read otherwise.
+//! Texts as printed, with references in place of the characters that would be read otherwise.
 ghost use Rattle.std.specs.Prelude.{◌≡◌, ◌++◌, ◌∷◌, [], ◌<◌, length, take, get_or, chars, flat_map, IsTrue, IfSome, IfNone, OnOk};
 ghost use Rattle.tree_text.specs.inner.Escapes.{escape_in};
 
@@ -18,7 +18,7 @@ pub enum Place {
 /// Whether each byte of a text is printed as itself.
 #[inline(always)]
 fn is_plain(place: Place, bytes: &[u8]) -> bool
-    ensures bytes_stand_for_themselves { IsTrue result → flat_map (escape_in place) bytes.now ≡ bytes.now }
+    ensures plain_unescaped { IsTrue result → flat_map (escape_in place) bytes.now ≡ bytes.now }
 {
     match place {
         Place::Content => is_plain_text(bytes),
@@ -30,9 +30,10 @@ fn is_plain(place: Place, bytes: &[u8]) -> bool
 #[inline(always)]
 #[tactic(auto, using(crate::proofs::EscapeLemmas::escape_high))]
 fn reference(place: Place, byte: u8) -> Option<&'static str>
-    ensures reference_of_the_byte { IfSome result (λ reference. chars reference.now ≡ escape_in place byte) }
+    ensures byte_reference { IfSome result
+        (λ reference. chars reference.now ≡ escape_in place byte) }
     ensures is_ascii { IfSome result (λ _. byte < 128) }
-    ensures plain_byte_stands_for_itself { IfNone result (escape_in place byte ≡ byte ∷ []) }
+    ensures none_is_plain { IfNone result (escape_in place byte ≡ byte ∷ []) }
 {
     if byte >= 128 {
         return None;
@@ -43,15 +44,17 @@ fn reference(place: Place, byte: u8) -> Option<&'static str>
     }
 }
 
-/// The place of the first byte that is printed as a reference, and the reference.
+/// The index of the first byte that is printed as a reference, and the reference.
 #[inline(always)]
 #[tactic(auto, using(crate::proofs::EscapeLemmas::plain_more))]
 fn first_reference(place: Place, bytes: &[u8]) -> Option<(usize, &'static str)>
     ensures is_there { IfSome result (λ first. first.0 < length bytes.now) }
     ensures is_ascii { IfSome result (λ first. get_or bytes.now first.0 0 < 128) }
-    ensures plain_in_front { IfSome result (λ first. flat_map (escape_in place) (take first.0 bytes.now) ≡ take first.0 bytes.now) }
-    ensures reference_of_the_byte { IfSome result (λ first. chars first.1.now ≡ escape_in place (get_or bytes.now first.0 0)) }
-    ensures all_plain_where_there_is_none { IfNone result (flat_map (escape_in place) bytes.now ≡ bytes.now) }
+    ensures plain_in_front { IfSome result
+        (λ first. flat_map (escape_in place) (take first.0 bytes.now) ≡ take first.0 bytes.now) }
+    ensures byte_reference { IfSome result
+        (λ first. chars first.1.now ≡ escape_in place (get_or bytes.now first.0 0)) }
+    ensures none_all_plain { IfNone result (flat_map (escape_in place) bytes.now ≡ bytes.now) }
 {
     for (at, &byte) in bytes.iter().enumerate() {
         if let Some(reference) = reference(place, byte) {
@@ -61,10 +64,12 @@ fn first_reference(place: Place, bytes: &[u8]) -> Option<(usize, &'static str)>
     None
 }
 
-/// Adds a text as it is printed in a place. Most hold nothing that is printed as a reference.
+/// Appends a text as printed in a place. Most texts contain nothing that is printed as a
+/// reference.
 #[inline(always)]
 pub fn push_escaped(out: &mut Output, text: &str, place: Place) -> Result<(), AllocError>
-    ensures adds_the_printed_text { OnOk result (out.new ≡ out.old ++ flat_map (escape_in place) (chars text.now)) }
+    ensures appended { OnOk result
+        (out.new ≡ out.old ++ flat_map (escape_in place) (chars text.now)) }
 {
     if is_plain(place, text.as_bytes()) {
         return out.push_str(text);
@@ -72,10 +77,11 @@ pub fn push_escaped(out: &mut Output, text: &str, place: Place) -> Result<(), Al
     push_parts(out, text, place)
 }
 
-/// The same: runs of plain characters at once, and references between them.
+/// `push_escaped` in parts: runs of plain characters at once, and references between them.
 #[inline(never)]
 fn push_parts(out: &mut Output, text: &str, place: Place) -> Result<(), AllocError>
-    ensures adds_runs_and_references { OnOk result (out.new ≡ out.old ++ flat_map (escape_in place) (chars text.now)) }
+    ensures appended { OnOk result
+        (out.new ≡ out.old ++ flat_map (escape_in place) (chars text.now)) }
 {
     let mut rest = text;
     'references: while let Some((at, reference)) = first_reference(place, rest.as_bytes()) {

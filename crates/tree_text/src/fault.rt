@@ -2,21 +2,24 @@
 
 use thiserror::Error;
 
-/// Why bytes are no document or fragment. Places are byte offsets. Where several hold, the one with
-/// the least place is told; of those at one place the first in this order: `TooDeep`, `Namespace`,
-/// `RepeatedAttribute`, `NotUtf8`, `Doctype`.
+/// Why bytes are no document or fragment. Places are byte offsets. Of several faults the one with
+/// the least place is reported; of faults at one place the first in this order: `TooDeep`,
+/// `Namespace`, `RepeatedAttribute`, `NotUtf8`, `Doctype`.
 #[derive(Debug, PartialEq, Eq, Drop, Error)]
 pub enum TextFault {
-    /// The bytes aren't UTF-8, or a whole XML declaration names another encoding than UTF-8 and US-ASCII.
+    /// The bytes aren't UTF-8, or a whole XML declaration names another encoding than UTF-8 and
+    /// US-ASCII.
     #[error("not UTF-8")]
     NotUtf8,
     /// The longest beginning of a document ends here.
     #[error("not well-formed at byte {0}")]
     NotWellFormed(usize),
-    /// A name here has an unbound prefix, or declares what may not be declared (Namespaces in XML 1.0, sections 3 and 5).
+    /// A name here has an unbound prefix, or is a declaration that isn't allowed (Namespaces in
+    /// XML 1.0, sections 3 and 5).
     #[error("namespace error at byte {0}")]
     Namespace(usize),
-    /// The tag has declared this prefix before, or has an attribute of the same expanded name (section 6.3).
+    /// The tag already has a declaration of this prefix, or an attribute of the same expanded
+    /// name (section 6.3).
     #[error("attribute repeated at byte {0}")]
     RepeatedAttribute(usize),
     /// A start tag that is deeper than the limit begins here.
@@ -33,7 +36,8 @@ pub enum ValueFault {
     /// The bytes aren't UTF-8.
     #[error("not UTF-8")]
     NotUtf8,
-    /// Here stands a `<`, a `&` that begins no reference, or a character that is no Char: the first of them.
+    /// Here is a `<`, a `&` that begins no reference, or a character that isn't a Char: the first
+    /// of them.
     #[error("not a value at byte {0}")]
     NotValue(usize),
 }

@@ -1,4 +1,5 @@
-//! Numbers for namespaces, so that names are compared without reading their namespaces again (Namespaces in XML 1.0, section 2.3).
+//! Numbers for namespaces, so that names are compared without reading their namespaces again
+//! (Namespaces in XML 1.0, section 2.3).
 ghost use Rattle.std.specs.Prelude.{◌≡◌, ◌-◌, ◌++◌, List, ℕ, [], ◌∷◌, Some, length, take, option_map, IfOk, OnOk, if◌then◌else◌};
 ghost use Rattle.std.specs.Str.{bytes_eq};
 ghost use Rattle.xml_tree.specs.Scopes.{bound, joined};
@@ -9,7 +10,7 @@ use std::alloc::{AllocError, Global};
 use std::collections::BTreeMap;
 use xml_tree::{Decl, Prefix, Text};
 
-/// A number for each namespace that was declared, and what is declared of each prefix.
+/// A number for each declared namespace, and the declarations of each prefix.
 #[derive(Drop)]
 pub struct Namespaces {
     /// Equal namespaces have equal numbers.
@@ -22,15 +23,16 @@ pub struct Namespaces {
     pub xml: usize,
 }
 
-/// The number of a text, a new one where it has none.
-fn numbered(
+/// The number of a text; a new number where it has none.
+fn number_for(
     alloc: Global,
     numbers: &mut BTreeMap<Text, usize>,
     text: &Text,
 ) -> Result<usize, AllocError>
     ensures numbers_stay_numbers { AreNumbers numbers.old → OnOk result (AreNumbers numbers.new) }
-    ensures number_of_the_text { IfOk result (λ n. at_text numbers.new text.now ≡ Some n) }
-    ensures numbers_stay { OnOk result ((u : List ℕ) (n : ℕ) → at_text numbers.old u ≡ Some n → at_text numbers.new u ≡ Some n) }
+    ensures number_of_text { IfOk result (λ n. at_text numbers.new text.now ≡ Some n) }
+    ensures numbers_stay { OnOk result
+        ((u : List ℕ) (n : ℕ) → at_text numbers.old u ≡ Some n → at_text numbers.new u ≡ Some n) }
 {
     if let Some(number) = numbers.get(text) {
         return Ok(*number);
@@ -40,14 +42,16 @@ fn numbered(
     Ok(number)
 }
 
-/// Puts a number behind those of a prefix.
+/// Appends a number to the numbers of a prefix.
 fn push_number(
     alloc: Global,
     declared: &mut BTreeMap<Prefix, Vec<usize>>,
     prefix: &Prefix,
     number: usize,
 ) -> Result<(), AllocError>
-    ensures puts_the_number_behind { OnOk result ((p : List ℕ) → numbers_at declared.new p ≡ numbers_at declared.old p ++ (if bytes_eq prefix.now p then number ∷ [] else [])) }
+    ensures appends_number { OnOk result
+        ((p : List ℕ) → numbers_at declared.new p
+        ≡ numbers_at declared.old p ++ (if bytes_eq prefix.now p then number ∷ [] else [])) }
 {
     match declared.get_mut(prefix) {
         Some(numbers) => numbers.push(number)?,
@@ -60,9 +64,13 @@ fn push_number(
     Ok(())
 }
 
-/// Takes the last number of a prefix away.
+/// Removes the last number of a prefix.
 fn pop_number(declared: &mut BTreeMap<Prefix, Vec<usize>>, prefix: &Prefix)
-    ensures takes_the_last_number { (p : List ℕ) → numbers_at declared.new p ≡ (if bytes_eq prefix.now p then take (length (numbers_at declared.old p) - 1) (numbers_at declared.old p) else numbers_at declared.old p) }
+    ensures drops_last_number { (p : List ℕ)
+        → numbers_at declared.new p
+        ≡ (if bytes_eq prefix.now p
+        then take (length (numbers_at declared.old p) - 1) (numbers_at declared.old p)
+        else numbers_at declared.old p) }
 {
     if let Some(numbers) = declared.get_mut(prefix) {
         numbers.pop();
@@ -70,13 +78,13 @@ fn pop_number(declared: &mut BTreeMap<Prefix, Vec<usize>>, prefix: &Prefix)
 }
 
 impl Namespaces {
-    /// Those of no declarations.
+    /// The namespaces where nothing is declared.
     pub fn new(alloc: Global) -> Result<Namespaces, AllocError>
-        ensures made_of_no_declarations { IfOk result (λ made. AreOf made []) }
+        ensures holds_none { IfOk result (λ made. AreOf made []) }
     {
         let mut numbers = BTreeMap::new(alloc);
-        let none = numbered(alloc, &mut numbers, &Text::from(alloc, "")?)?;
-        let xml = numbered(
+        let none = number_for(alloc, &mut numbers, &Text::from(alloc, "")?)?;
+        let xml = number_for(
             alloc,
             &mut numbers,
             &Text::from(alloc, "http://www.w3.org/XML/1998/namespace")?,
@@ -89,25 +97,29 @@ impl Namespaces {
         })
     }
 
-    /// Adds a declaration, which is nearer than the others.
+    /// Adds a declaration, nearer than the existing ones.
     fn declare(&mut self, alloc: Global, decl: &Decl) -> Result<(), AllocError>
-        ensures made_of_one_more { (ds : List Decl) → AreOf self.old ds → OnOk result (AreOf self.new (ds ++ decl.now ∷ [])) }
+        ensures holds_one_more { (ds : List Decl) → AreOf self.old ds
+            → OnOk result (AreOf self.new (ds ++ decl.now ∷ [])) }
     {
-        let number = numbered(alloc, &mut self.numbers, &decl.uri)?;
+        let number = number_for(alloc, &mut self.numbers, &decl.uri)?;
         push_number(alloc, &mut self.declared, &decl.prefix, number)
     }
 
-    /// Takes the nearest declaration away.
+    /// Removes the nearest declaration of a prefix.
     fn forget(&mut self, decl: &Decl)
-        ensures made_of_one_fewer { (ds : List Decl) → AreOf self.old (ds ++ decl.now ∷ []) → AreOf self.new ds }
+        ensures holds_one_fewer { (ds : List Decl) → AreOf self.old (ds ++ decl.now ∷ [])
+            → AreOf self.new ds }
     {
         pop_number(&mut self.declared, &decl.prefix);
     }
 
-    /// Adds declarations, which are nearer than the others, and a later one nearer than those before it. Most elements have none.
+    /// Adds declarations, nearer than the existing ones, each nearer than those before it. Most
+    /// elements have none.
     #[inline(always)]
     pub fn declare_all(&mut self, alloc: Global, decls: &[Decl]) -> Result<(), AllocError>
-        ensures made_of_all_of_them { (ds : List Decl) → AreOf self.old ds → OnOk result (AreOf self.new (ds ++ decls.now)) }
+        ensures holds_every { (ds : List Decl) → AreOf self.old ds
+            → OnOk result (AreOf self.new (ds ++ decls.now)) }
     {
         if decls.is_empty() {
             return Ok(());
@@ -115,10 +127,11 @@ impl Namespaces {
         self.declare_each(alloc, decls)
     }
 
-    /// The same, one by one.
+    /// Adds declarations one by one.
     #[inline(never)]
     fn declare_each(&mut self, alloc: Global, decls: &[Decl]) -> Result<(), AllocError>
-        ensures made_of_each_of_them { (ds : List Decl) → AreOf self.old ds → OnOk result (AreOf self.new (ds ++ decls.now)) }
+        ensures holds_every { (ds : List Decl) → AreOf self.old ds
+            → OnOk result (AreOf self.new (ds ++ decls.now)) }
     {
         for decl in decls {
             self.declare(alloc, decl)?;
@@ -126,10 +139,11 @@ impl Namespaces {
         Ok(())
     }
 
-    /// Takes the nearest declarations away. Most elements have none.
+    /// Removes the nearest declarations. Most elements have none.
     #[inline(always)]
     pub fn forget_all(&mut self, decls: &[Decl])
-        ensures made_of_those_before { (ds : List Decl) → AreOf self.old (ds ++ decls.now) → AreOf self.new ds }
+        ensures holds_earlier { (ds : List Decl) → AreOf self.old (ds ++ decls.now)
+            → AreOf self.new ds }
     {
         if decls.is_empty() {
             return;
@@ -137,19 +151,22 @@ impl Namespaces {
         self.forget_each(decls);
     }
 
-    /// The same, one by one.
+    /// Removes declarations one by one.
     #[inline(never)]
     fn forget_each(&mut self, decls: &[Decl])
-        ensures takes_each_away { (ds : List Decl) → AreOf self.old (ds ++ decls.now) → AreOf self.new ds }
+        ensures forgets_each { (ds : List Decl) → AreOf self.old (ds ++ decls.now)
+            → AreOf self.new ds }
     {
         for decl in decls.iter().rev() {
             self.forget(decl);
         }
     }
 
-    /// The number of the namespace that a prefix is bound to, the empty prefix being the default namespace.
+    /// The number of the namespace that a prefix is bound to; the empty prefix is the default
+    /// namespace.
     pub fn of_prefix(&self, prefix: &Prefix) -> Option<usize>
-        ensures number_of_the_bound_prefix { (here : List (List Decl)) → AreOf self.now (joined here) → option_map Some result ≡ option_map (number self.now) (bound here prefix.now) }
+        ensures numbers_prefix { (here : List (List Decl)) → AreOf self.now (joined here)
+            → option_map Some result ≡ option_map (number self.now) (bound here prefix.now) }
     {
         if prefix.is("xml") {
             return Some(self.xml);

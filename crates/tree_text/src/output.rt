@@ -5,7 +5,7 @@ use std::alloc::{AllocError, Global};
 use std::marker::Model;
 use xcap_io::Bytes;
 
-/// What has been printed so far. Contracts see the list of its characters.
+/// The text printed so far. Contracts see the list of its characters.
 #[derive(Drop)]
 pub struct Output {
     text: String,
@@ -20,7 +20,7 @@ impl Model for Output {
 }
 
 impl Output {
-    /// Nothing. Takes no memory.
+    /// The empty output. Does not allocate.
     pub fn new(alloc: Global) -> Output
         ensures holds_no_characters { result ≡ [] }
     {
@@ -29,25 +29,25 @@ impl Output {
         }
     }
 
-    /// Adds a text at the end.
+    /// Appends a text.
     #[inline(always)]
     pub fn push_str(&mut self, text: &str) -> Result<(), AllocError>
-        ensures adds_the_characters { OnOk result (self.new ≡ self.old ++ chars text.now) }
+        ensures appends_chars { OnOk result (self.new ≡ self.old ++ chars text.now) }
     {
         push_bytes(&mut self.text, text)
     }
 
-    /// Adds a character at the end.
+    /// Appends a character.
     #[inline(always)]
     pub fn push(&mut self, c: char) -> Result<(), AllocError>
-        ensures adds_it_behind { OnOk result (self.new ≡ self.old ++ c ∷ []) }
+        ensures appended { OnOk result (self.new ≡ self.old ++ c ∷ []) }
     {
         push_encoded(&mut self.text, c)
     }
 
-    /// The bytes of all of it, in UTF-8. Takes no memory.
+    /// All of its bytes, in UTF-8. Does not allocate.
     pub fn into_bytes(self) -> Bytes
-        ensures bytes_of_the_characters { result ≡ encode_utf8_all self }
+        ensures utf8_bytes { result ≡ encode_utf8_all self }
     {
         let Output { text } = self;
         owned_bytes(text)
@@ -55,20 +55,22 @@ impl Output {
 }
 
 fn push_bytes(string: &mut String, text: &str) -> Result<(), AllocError>
-    ensures adds_the_bytes { OnOk result (string_bytes string.new ≡ string_bytes string.old ++ text.now) }
+    ensures adds_bytes { OnOk result
+        (string_bytes string.new ≡ string_bytes string.old ++ text.now) }
 {
     string.push_str(text)
 }
 
 #[inline(always)]
 fn push_encoded(string: &mut String, c: char) -> Result<(), AllocError>
-    ensures adds_its_bytes { OnOk result (string_bytes string.new ≡ string_bytes string.old ++ encode_utf8 c) }
+    ensures appends_bytes { OnOk result
+        (string_bytes string.new ≡ string_bytes string.old ++ encode_utf8 c) }
 {
     string.push(c)
 }
 
 fn owned_bytes(string: String) -> Bytes
-    ensures holds_the_bytes { result ≡ string_bytes string }
+    ensures holds_bytes { result ≡ string_bytes string }
 {
     Bytes::own(string.into_bytes())
 }

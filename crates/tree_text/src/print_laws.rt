@@ -1,6 +1,6 @@
 //! Laws of prints, each the contract of a function that does nothing.
 ghost use Rattle.std.specs.Prelude.{◌≡◌, ◌≤◌, ◌<◌, ◌+◌, ◌++◌, ℕ, List, None, Ok, IsTrue, encode_utf8_all};
-ghost use Rattle.grammar_rules.specs.Answers.{IsSpelled};
+ghost use Rattle.xml_grammar.specs.Answers.{IsSpelled};
 ghost use Rattle.xml_tree.specs.Characters.{all_chars};
 ghost use Rattle.xml_tree.specs.Print.{print, document_print};
 ghost use Rattle.xml_tree.specs.Proper.{ProperIn};
@@ -9,30 +9,41 @@ ghost use Rattle.xml_tree.specs.Tree.{Tree, height};
 ghost use Rattle.xml_tree.specs.declared.names.Decl.{Decl};
 ghost use Rattle.tree_text.specs.Faults.{BodyAnswer, TextAnswer};
 ghost use Rattle.tree_text.specs.Grammar.{document, spelling};
-ghost use Rattle.tree_text.specs.Kinds.{faults};
+ghost use Rattle.tree_text.specs.FaultKinds.{faults};
 ghost use Rattle.tree_text.specs.Printing.{body_print};
 
-/// What is printed is read as what was printed: the bytes of the print of a tree, as a document or by itself, as the tree, in the
-/// scope in which it is proper and with at least as many levels as it has; and those of the print of a value that consists of
-/// Chars as the value. The scope may bind any prefix but `xmlns`.
+/// Prints are read back: the bytes of the print of a tree, as a document or by itself, are read
+/// as the tree, in the scope in which it is proper and with at least as many levels as it has;
+/// the bytes of the print of a value that consists of Chars are read as the value. The scope may
+/// bind any prefix but `xmlns`.
 pub fn prints_are_read_back()
-    ensures of_a_document { (depth : ℕ) (scope : List (List Decl)) (root : Tree) → bound scope xmlns_prefix ≡ None → ProperIn scope root → height root ≤ depth
+    ensures for_document { (depth : ℕ) (scope : List (List Decl)) (root : Tree)
+        → bound scope xmlns_prefix ≡ None → ProperIn scope root → height root ≤ depth
         → TextAnswer depth scope (encode_utf8_all (document_print root)) (Ok root) }
-    ensures of_an_element { (depth : ℕ) (scope : List (List Decl)) (root : Tree) → bound scope xmlns_prefix ≡ None → ProperIn scope root → height root ≤ depth
+    ensures for_element { (depth : ℕ) (scope : List (List Decl)) (root : Tree)
+        → bound scope xmlns_prefix ≡ None → ProperIn scope root → height root ≤ depth
         → TextAnswer depth scope (encode_utf8_all (print root)) (Ok root) }
-    ensures of_a_value { (value : List ℕ) → IsTrue (all_chars value) → BodyAnswer (encode_utf8_all (body_print value)) (Ok value) }
+    ensures for_value { (value : List ℕ) → IsTrue (all_chars value)
+        → BodyAnswer (encode_utf8_all (body_print value)) (Ok value) }
 {}
 
-/// By the grammar a print spells what was printed, nothing else, and no fault is said of it (XML 1.0; Namespaces in XML 1.0).
+/// By the grammar a print spells what was printed, nothing else, and has no fault (XML 1.0;
+/// Namespaces in XML 1.0).
 pub fn prints_spell_what_was_printed()
-    ensures of_a_document { (depth : ℕ) (scope : List (List Decl)) (root : Tree) → bound scope xmlns_prefix ≡ None → ProperIn scope root → height root ≤ depth
-        → (n : ℕ) → depth + 1 < n → IsSpelled (faults depth) (document n scope) (document_print root) root }
-    ensures of_an_element { (depth : ℕ) (scope : List (List Decl)) (root : Tree) → bound scope xmlns_prefix ≡ None → ProperIn scope root → height root ≤ depth
+    ensures for_document { (depth : ℕ) (scope : List (List Decl)) (root : Tree)
+        → bound scope xmlns_prefix ≡ None → ProperIn scope root → height root ≤ depth
+        → (n : ℕ) → depth + 1 < n
+        → IsSpelled (faults depth) (document n scope) (document_print root) root }
+    ensures for_element { (depth : ℕ) (scope : List (List Decl)) (root : Tree)
+        → bound scope xmlns_prefix ≡ None → ProperIn scope root → height root ≤ depth
         → (n : ℕ) → depth + 1 < n → IsSpelled (faults depth) (document n scope) (print root) root }
-    ensures of_a_value { (value : List ℕ) → IsTrue (all_chars value) → IsSpelled (faults 0) spelling (body_print value) value }
+    ensures for_value { (value : List ℕ) → IsTrue (all_chars value)
+        → IsSpelled (faults 0) spelling (body_print value) value }
 {}
 
-/// No scope in a proper tree binds `xmlns`, unless that around it does.
+/// No scope in a proper tree binds `xmlns`, unless the scope around the tree does.
 pub fn scopes_leave_xmlns_unbound()
-    ensures leaves_xmlns_unbound { (path : List ℕ) (scope : List (List Decl)) (root : Tree) → bound scope xmlns_prefix ≡ None → ProperIn scope root → bound (scope ++ scope_at path root) xmlns_prefix ≡ None }
+    ensures leaves_xmlns_unbound { (path : List ℕ) (scope : List (List Decl)) (root : Tree)
+        → bound scope xmlns_prefix ≡ None → ProperIn scope root
+        → bound (scope ++ scope_at path root) xmlns_prefix ≡ None }
 {}

@@ -11,9 +11,9 @@ use std::alloc::{AllocError, Global};
 use xcap_io::Bytes;
 use xml_tree::{Attr, Decl, Element, Name, Node, Prefix, Text, value_reference};
 
-/// Adds a character of a value in quotes.
+/// Appends a character of a value in quotes.
 fn push_value_char(out: &mut Output, c: char) -> Result<(), AllocError>
-    ensures adds_the_character_of_a_value { OnOk result (out.new ≡ out.old ++ value_escape c) }
+    ensures appended { OnOk result (out.new ≡ out.old ++ value_escape c) }
 {
     match value_reference(c) {
         Some(reference) => out.push_str(reference),
@@ -21,10 +21,10 @@ fn push_value_char(out: &mut Output, c: char) -> Result<(), AllocError>
     }
 }
 
-/// Adds a character of a body, which may stand in either quotes.
+/// Appends a character of a body, escaped for either quotes.
 #[tactic(auto, using(crate::proofs::PrintLemmas::literals))]
 fn push_body_char(out: &mut Output, c: char) -> Result<(), AllocError>
-    ensures adds_the_character_of_a_body { OnOk result (out.new ≡ out.old ++ body_escape c) }
+    ensures appended { OnOk result (out.new ≡ out.old ++ body_escape c) }
 {
     match c {
         '\'' => out.push_str("&apos;"),
@@ -33,19 +33,19 @@ fn push_body_char(out: &mut Output, c: char) -> Result<(), AllocError>
 }
 
 fn push_text(out: &mut Output, text: &str) -> Result<(), AllocError>
-    ensures adds_the_text { OnOk result (out.new ≡ out.old ++ print_text (chars text.now)) }
+    ensures adds_text { OnOk result (out.new ≡ out.old ++ print_text (chars text.now)) }
 {
     push_escaped(out, text, Place::Content)
 }
 
 fn push_value(out: &mut Output, value: &str) -> Result<(), AllocError>
-    ensures adds_the_value { OnOk result (out.new ≡ out.old ++ flat_map value_escape (chars value.now)) }
+    ensures appended { OnOk result (out.new ≡ out.old ++ flat_map value_escape (chars value.now)) }
 {
     push_escaped(out, value, Place::Quotes)
 }
 
 fn push_body(out: &mut Output, value: &str) -> Result<(), AllocError>
-    ensures adds_the_body { OnOk result (out.new ≡ out.old ++ body_print (chars value.now)) }
+    ensures appended { OnOk result (out.new ≡ out.old ++ body_print (chars value.now)) }
 {
     for c in value.chars() {
         push_body_char(out, c)?;
@@ -53,10 +53,10 @@ fn push_body(out: &mut Output, value: &str) -> Result<(), AllocError>
     Ok(())
 }
 
-/// Adds `=` and a value in quotes.
+/// Appends `=` and a value in quotes.
 #[tactic(auto, using(crate::proofs::PrintLemmas::literals, crate::proofs::PrintLemmas::set_value))]
 fn push_set(out: &mut Output, value: &Text) -> Result<(), AllocError>
-    ensures adds_the_set_value { OnOk result (out.new ≡ out.old ++ 61 ∷ quoted_text value.now) }
+    ensures appended { OnOk result (out.new ≡ out.old ++ 61 ∷ quoted_text value.now) }
 {
     out.push_str("=\"")?;
     push_value(out, value.as_str())?;
@@ -65,7 +65,7 @@ fn push_set(out: &mut Output, value: &Text) -> Result<(), AllocError>
 
 #[tactic(auto, using(crate::proofs::PrintLemmas::three))]
 fn push_name(out: &mut Output, name: &Name) -> Result<(), AllocError>
-    ensures adds_the_name { OnOk result (out.new ≡ out.old ++ print_name name.now) }
+    ensures appended { OnOk result (out.new ≡ out.old ++ print_name name.now) }
 {
     if is_nothing(&name.prefix) {
         return out.push_str(name.local.as_str());
@@ -75,10 +75,10 @@ fn push_name(out: &mut Output, name: &Name) -> Result<(), AllocError>
     out.push_str(name.local.as_str())
 }
 
-/// Adds the name that declares a prefix.
+/// Appends the name that declares a prefix.
 #[tactic(auto, using(crate::proofs::PrintLemmas::literals))]
 fn push_declaring(out: &mut Output, prefix: &Prefix) -> Result<(), AllocError>
-    ensures adds_the_declaring_name { OnOk result (out.new ≡ out.old ++ declaring prefix.now) }
+    ensures appended { OnOk result (out.new ≡ out.old ++ declaring prefix.now) }
 {
     if is_nothing(prefix) {
         return out.push_str("xmlns");
@@ -90,7 +90,7 @@ fn push_declaring(out: &mut Output, prefix: &Prefix) -> Result<(), AllocError>
 
 #[tactic(auto, using(crate::proofs::PrintLemmas::three))]
 fn push_decl(out: &mut Output, decl: &Decl) -> Result<(), AllocError>
-    ensures adds_the_declaration { OnOk result (out.new ≡ out.old ++ print_decl decl.now) }
+    ensures adds_declaration { OnOk result (out.new ≡ out.old ++ print_decl decl.now) }
 {
     out.push(' ')?;
     push_declaring(out, &decl.prefix)?;
@@ -99,7 +99,7 @@ fn push_decl(out: &mut Output, decl: &Decl) -> Result<(), AllocError>
 
 #[tactic(auto, using(crate::proofs::PrintLemmas::three))]
 fn push_attr(out: &mut Output, attr: &Attr) -> Result<(), AllocError>
-    ensures adds_the_attribute { OnOk result (out.new ≡ out.old ++ print_attr attr.now) }
+    ensures adds_attribute { OnOk result (out.new ≡ out.old ++ print_attr attr.now) }
 {
     out.push(' ')?;
     push_name(out, &attr.name)?;
@@ -107,7 +107,7 @@ fn push_attr(out: &mut Output, attr: &Attr) -> Result<(), AllocError>
 }
 
 fn push_decls(out: &mut Output, decls: &[Decl]) -> Result<(), AllocError>
-    ensures adds_all_declarations { OnOk result (out.new ≡ out.old ++ flat_map print_decl decls.now) }
+    ensures appended { OnOk result (out.new ≡ out.old ++ flat_map print_decl decls.now) }
 {
     for decl in decls {
         push_decl(out, decl)?;
@@ -116,7 +116,7 @@ fn push_decls(out: &mut Output, decls: &[Decl]) -> Result<(), AllocError>
 }
 
 fn push_attrs(out: &mut Output, attrs: &[Attr]) -> Result<(), AllocError>
-    ensures adds_all_attributes { OnOk result (out.new ≡ out.old ++ flat_map print_attr attrs.now) }
+    ensures appended { OnOk result (out.new ≡ out.old ++ flat_map print_attr attrs.now) }
 {
     for attr in attrs {
         push_attr(out, attr)?;
@@ -124,9 +124,10 @@ fn push_attrs(out: &mut Output, attrs: &[Attr]) -> Result<(), AllocError>
     Ok(())
 }
 
-/// Adds `<`, a name, declarations and attributes.
+/// Appends `<`, a name, declarations and attributes.
 fn push_opening(out: &mut Output, element: &Element) -> Result<(), AllocError>
-    ensures adds_the_opening { OnOk result (out.new ≡ out.old ++ opening element.now.name element.now.decls element.now.attrs) }
+    ensures appended { OnOk result
+        (out.new ≡ out.old ++ opening element.now.name element.now.decls element.now.attrs) }
 {
     out.push('<')?;
     push_name(out, element.name())?;
@@ -134,30 +135,28 @@ fn push_opening(out: &mut Output, element: &Element) -> Result<(), AllocError>
     push_attrs(out, element.attrs())
 }
 
-/// Adds an end tag.
 #[tactic(auto, using(crate::proofs::PrintLemmas::literals, crate::proofs::PrintLemmas::three))]
 fn push_closing(out: &mut Output, name: &Name) -> Result<(), AllocError>
-    ensures adds_the_end_tag { OnOk result (out.new ≡ out.old ++ closing name.now) }
+    ensures appended { OnOk result (out.new ≡ out.old ++ closing name.now) }
 {
     out.push_str("</")?;
     push_name(out, name)?;
     out.push('>')
 }
 
-/// Adds a comment.
 #[tactic(auto, using(crate::proofs::PrintLemmas::literals, crate::proofs::PrintLemmas::three))]
 fn push_comment(out: &mut Output, text: &Text) -> Result<(), AllocError>
-    ensures adds_the_comment { OnOk result (out.new ≡ out.old ++ print_comment text.now) }
+    ensures adds_comment { OnOk result (out.new ≡ out.old ++ print_comment text.now) }
 {
     out.push_str("<!--")?;
     out.push_str(text.as_str())?;
     out.push_str("-->")
 }
 
-/// Adds the print of a node.
+/// Appends the print of a node.
 #[cycle(print)]
 fn push_node(out: &mut Output, node: &Node) -> Result<(), AllocError>
-    ensures adds_the_node { OnOk result (out.new ≡ out.old ++ print_node node.now) }
+    ensures adds_node { OnOk result (out.new ≡ out.old ++ print_node node.now) }
 {
     match node {
         Node::Elem(element) => push_element(out, element),
@@ -166,10 +165,12 @@ fn push_node(out: &mut Output, node: &Node) -> Result<(), AllocError>
     }
 }
 
-/// Adds what follows the attributes of an element: `/>`, or `>`, its nodes and its end tag.
+/// Appends what follows the attributes of an element: `/>`, or `>`, its nodes and its end tag.
 #[cycle(print)]
 fn push_ending(out: &mut Output, element: &Element) -> Result<(), AllocError>
-    ensures adds_the_ending { OnOk result (out.new ≡ out.old ++ ending element.now.name (is_empty element.now.content) (print_content element.now.content)) }
+    ensures appended { OnOk result
+        (out.new ≡ out.old ++ ending element.now.name (is_empty element.now.content)
+        (print_content element.now.content)) }
 {
     let nodes = element.nodes();
     if nodes.is_empty() {
@@ -184,21 +185,21 @@ fn push_ending(out: &mut Output, element: &Element) -> Result<(), AllocError>
     Ok(())
 }
 
-/// Adds the print of an element.
+/// Appends the print of an element.
 #[cycle(print)]
 fn push_element(out: &mut Output, element: &Element) -> Result<(), AllocError>
-    ensures adds_the_element { OnOk result (out.new ≡ out.old ++ print element.now) }
+    ensures adds_element { OnOk result (out.new ≡ out.old ++ print element.now) }
 {
     push_opening(out, element)?;
     push_ending(out, element)
 }
 
-/// The print of an element: the one text, of those that are read, that stands for it.
+/// The print of an element: one of the texts that are read as it.
 ///
 /// # Errors
-/// `NoMemory` for want of memory.
+/// `NoMemory` when out of memory.
 pub fn print_element(alloc: Global, element: &Element) -> Result<Bytes, AllocError>
-    ensures prints_the_element { IfOk result (λ bytes. bytes ≡ encode_utf8_all (print element.now)) }
+    ensures ok { IfOk result (λ bytes. bytes ≡ encode_utf8_all (print element.now)) }
 {
     let mut out = Output::new(alloc);
     push_element(&mut out, element)?;
@@ -208,18 +209,20 @@ pub fn print_element(alloc: Global, element: &Element) -> Result<Bytes, AllocErr
 /// The XML declaration and a line feed.
 #[tactic(auto, using(crate::proofs::PrintLemmas::literals))]
 fn push_header(out: &mut Output) -> Result<(), AllocError>
-    ensures adds_the_header { OnOk result (out.new ≡ out.old ++ header) }
+    ensures appended { OnOk result (out.new ≡ out.old ++ header) }
 {
     out.push_str("<?xml version=\"1.0\" encoding=\"UTF-8\"?>\n")?;
     Ok(())
 }
 
-/// The print of a document with this root element: the XML declaration, a line feed and the element.
+/// The print of a document with this root element: the XML declaration, a line feed and the
+/// element.
 ///
 /// # Errors
-/// `NoMemory` for want of memory.
+/// `NoMemory` when out of memory.
 pub fn print_document(alloc: Global, root: &Element) -> Result<Bytes, AllocError>
-    ensures prints_the_document { IfOk result (λ bytes. bytes ≡ encode_utf8_all (document_print root.now)) }
+    ensures prints_document { IfOk result
+        (λ bytes. bytes ≡ encode_utf8_all (document_print root.now)) }
 {
     let mut out = Output::new(alloc);
     push_header(&mut out)?;
@@ -230,9 +233,9 @@ pub fn print_document(alloc: Global, root: &Element) -> Result<Bytes, AllocError
 /// The print of an attribute body that spells this value.
 ///
 /// # Errors
-/// `NoMemory` for want of memory.
+/// `NoMemory` when out of memory.
 pub fn print_att_value(alloc: Global, value: &str) -> Result<Bytes, AllocError>
-    ensures prints_the_value { IfOk result (λ bytes. bytes ≡ encode_utf8_all (body_print (chars value.now))) }
+    ensures ok { IfOk result (λ bytes. bytes ≡ encode_utf8_all (body_print (chars value.now))) }
 {
     let mut out = Output::new(alloc);
     push_body(&mut out, value)?;

@@ -4,17 +4,17 @@ use Rattle.std.specs.Prelude.{◌==◌, if◌then◌else◌, codes}
 use Rattle.std.specs.List.{list_any, list_all}
 use Rattle.std.proofs.lemmas.Bool.{eqb-true}
 use Rattle.xml_tree.specs.Characters.{is_space}
-use Rattle.usage_docs.specs.declared.letters.Address.{Address}
-use Rattle.usage_docs.specs.declared.letters.Address.TheVariants.{Start, H, Ht, Htt, Http, Https, Colon, Slash, Whole, GoesOn, Other}
-use Rattle.usage_docs.specs.readers.Letters.{white, address_after, is_address}
-use Rattle.usage_docs.specs.Forms.{goes_on, is_http, trimmed, trim_front, trim_back}
+use Rattle.usage_docs.specs.declared.address_states.AddressState.{AddressState}
+use Rattle.usage_docs.specs.declared.address_states.AddressState.TheVariants.{Start, H, Ht, Htt, Http, Https, Colon, Slash, Whole, GoesOn, Other}
+use Rattle.usage_docs.specs.readers.AddressStates.{white, address_after, is_address}
+use Rattle.usage_docs.specs.Forms.{goes_on, is_http, trim_text, trim_front, trim_back}
 
--- ---- what each state still needs, `w` being the letters that don't count at the ends
+-- ---- what each state still needs, where `w` are the letters that are ignored at the ends
 
-abbrev run : (ℕ → Bool) → Address → List ℕ → Bool
+abbrev run : (ℕ → Bool) → AddressState → List ℕ → Bool
 run w a s = is_address (fold (address_after w) a s)
 
--- these letters, and behind them one that counts
+-- these letters, and after them one that isn't ignored
 abbrev reach : (ℕ → Bool) → List ℕ → List ℕ → Bool
 reach w [] s = list_any (λ c. not (w c)) s
 reach w (x ∷ xs) [] = false
@@ -36,7 +36,7 @@ whole : (w : ℕ → Bool) (s : List ℕ) → run w Whole s ≡ reach w [] s
 whole w [] = refl
 whole w (c ∷ s) = whole_step w (w c) (reach w [] s) s (whole w s)
 
-expect : (w : ℕ → Bool) (b : Bool) (next : Address) (s : List ℕ) (r : Bool) → run w next s ≡ r → run w (if b then next else Other) s ≡ (b && r)
+expect : (w : ℕ → Bool) (b : Bool) (next : AddressState) (s : List ℕ) (r : Bool) → run w next s ≡ r → run w (if b then next else Other) s ≡ (b && r)
 expect w true next s r h = h
 expect w false next s r h = other w s
 
@@ -117,7 +117,7 @@ address_is s =
     start (white false) s ∙ ap (reaches (white false)) (untrimmed s)
     ∙ either _ _ _ _ (every (codes "http://") s) (every (codes "https://") s)
 
--- ---- where white space doesn't count
+-- ---- where white space is ignored
 
 black : (w : ℕ → Bool) (x c : ℕ) → IsTrue (not (w x)) → w c ≡ true → (d : Bool) → (c == x) ≡ d → d ≡ false
 black w x c out white_c false e = refl
@@ -156,8 +156,8 @@ cut w [] (c ∷ s) k = empty_step (w c) (reach w [] s) (trim_back w s) c (cut w 
 cut w (x ∷ xs) [] k = refl
 cut w (x ∷ xs) (c ∷ s) k = word_step (w c) (reach w xs s) x c xs (trim_back w s) (λ p. black w x c (first_black w x xs k) p (c == x) refl) (cut w xs s (others_black w x xs k))
 
-pub trimmed_is : (s : List ℕ) → is_address (fold (address_after (white true)) Start s) ≡ is_http (trimmed s)
-unfolding is_http trimmed
+pub trimmed_is : (s : List ℕ) → is_address (fold (address_after (white true)) Start s) ≡ is_http (trim_text s)
+unfolding is_http trim_text
 trimmed_is s =
     let u = trim_front is_space s in
     start is_space s ∙ sym (either _ _ _ _ (cut is_space (codes "http://") u refl) (cut is_space (codes "https://") u refl))

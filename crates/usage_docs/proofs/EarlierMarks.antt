@@ -1,16 +1,16 @@
--- Clashes at an element behind its earlier siblings, by their marks, and below it.
+-- Clashes at an element after its earlier siblings, by their marks, and below it.
 use Rattle.std.specs.Prelude.{◌≡◌, ℕ, ◌⊎◌, ◌↔◌, List, [], ◌∷◌, Option, Some, filter_map}
-use Rattle.xml_tree.specs.Tree.{Tree, kids_of}
+use Rattle.xml_tree.specs.Tree.{Tree, child_elements_of}
 use Rattle.xml_tree.specs.declared.names.Attr.{Attr}
 use Rattle.xml_tree.specs.Scopes.{inside}
-use Rattle.usage_docs.specs.declared.rows.Kind.{Kind}
-use Rattle.usage_docs.specs.declared.rows.Key.{Key}
-use Rattle.usage_docs.specs.Rows.{Scope, kind_of}
+use Rattle.usage_docs.specs.declared.schema_table.ElementKind.{ElementKind}
+use Rattle.usage_docs.specs.declared.schema_table.Key.{Key}
+use Rattle.usage_docs.specs.SchemaTable.{Scope, kind_of}
 use Rattle.usage_docs.specs.Keys.{key_of, value_of}
-use Rattle.usage_docs.specs.Clashes.{Mark, mark, mark_of, RepeatsAt}
+use Rattle.usage_docs.specs.UniqueKeys.{Mark, mark, mark_of, RepeatsAt}
 
--- the marks of some siblings, without those that have none
-abbrev pub marks_of : Kind → Scope → List Tree → List Mark
+-- the marks of some siblings, without the siblings that have none
+abbrev pub marks_of : ElementKind → Scope → List Tree → List Mark
 marks_of row c es = filter_map (mark_of row c) es
 
 -- one of these marks is this one
@@ -18,11 +18,12 @@ abbrev pub IsAmong : List Mark → Mark → Type 0
 IsAmong [] m = ⊥
 IsAmong (n ∷ ns) m = (n ≡ m) ⊎ IsAmong ns m
 
--- an element behind siblings with these marks has one of them, or one in it repeats a sibling's key at the path
-abbrev pub RepeatsHere : Kind → Scope → List Mark → Tree → List ℕ → Key → Type 0
+-- an element after siblings with these marks has one of them, or a descendant of it repeats a
+-- sibling's key at the path
+abbrev pub RepeatsHere : ElementKind → Scope → List Mark → Tree → List ℕ → Key → Type 0
 RepeatsHere row c ms e [] key = (m : Mark) × ((mark_of row c e ≡ Some m) × IsAmong ms m × (key_of m.kind ≡ Some key))
-RepeatsHere row c ms e (n ∷ p) key = (kind : Kind) × ((kind_of row (inside c e) e.name ≡ Some kind) × RepeatsAt kind (inside c e) (kids_of e) (n ∷ p) key)
+RepeatsHere row c ms e (n ∷ p) key = (kind : ElementKind) × ((kind_of row (inside c e) e.name ≡ Some kind) × RepeatsAt kind (inside c e) (child_elements_of e) (n ∷ p) key)
 
 -- the key of an element of this kind, if the element's mark is one of these
-abbrev pub RepeatedKey : List Mark → Kind → List Attr → Option Key → Type 0
+abbrev pub RepeatedKey : List Mark → ElementKind → List Attr → Option Key → Type 0
 RepeatedKey ms kind ats result = (key : Key) → (result ≡ Some key) ↔ ((value : List ℕ) × ((key_of kind ≡ Some key) × (value_of key ats ≡ Some value) × IsAmong ms (mark kind value)))

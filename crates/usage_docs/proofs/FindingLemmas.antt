@@ -1,34 +1,34 @@
--- What a walk has found so far, with one node more, and with all.
+-- What a walk has found so far, with one more node, and at the end.
 use Rattle.std.proofs.Common.{◌≡◌, ◌≤◌, ◌<◌, ◌+◌, ◌↔◌, ◌&&◌, ℕ, suc, Bool, true, false, cond, IsTrue, List, [], ◌∷◌, ◌++◌, length, take, drop, get_or, Option, None, Some, slice_get, is_some, option_map, refl, sym, ap, ap₂, ◌∙◌, subst, inl, inr, arith, append_assoc, length-append}
 use Rattle.std.specs.Option.{ForSome}
 use Rattle.xml_tree.specs.declared.names.Attr.{Attr}
 use Rattle.doc_names.specs.declared.usages.Usage.{Usage}
-use Rattle.usage_docs.specs.declared.judging.Fault.TheVariants.{Invalid, Unformed, Repeated}
-use Rattle.usage_docs.specs.declared.findings.Found.{Found}
-use Rattle.usage_docs.specs.Judging.{Judged}
+use Rattle.usage_docs.specs.declared.validation.Fault.TheVariants.{Invalid, Unformed, Repeated}
+use Rattle.usage_docs.specs.declared.validation_result.ValidationResult.{ValidationResult}
+use Rattle.usage_docs.specs.Validation.{HasFirstFault}
 use Rattle.usage_docs.specs.Keys.{attrs_pass}
-use Rattle.usage_docs.specs.Validity.{Schema, ValidInRow}
+use Rattle.usage_docs.specs.Validity.{IsValidDocument, ValidInRow}
 use Rattle.usage_docs.proofs.Walking.{held_kept, keeps_held}
 use Rattle.std.proofs.Math.Seq.{drop-cons}
 use Rattle.std.proofs.lemmas.Bool.{cases_lt, false≢true}
 use Rattle.std.proofs.lemmas.Option.{same_Some}
-use Rattle.xml_tree.specs.Tree.{Content, last, more, note, Tree, content_height, kids, kids_of}
+use Rattle.xml_tree.specs.Tree.{Content, last, more, comment_node, Tree, content_height, child_elements, child_elements_of}
 use Rattle.xml_tree.specs.declared.tree.Node.{Node}
 use Rattle.xml_tree.specs.declared.tree.Node.TheVariants.{Elem, Chars, Comment}
 use Rattle.xml_tree.specs.Scopes.{inside}
 use Rattle.usage_docs.specs.declared.keys.Clash.{Clash}
-use Rattle.usage_docs.specs.declared.keys.Keyed.{Keyed}
-use Rattle.usage_docs.specs.declared.keys.Repeat.{Repeat}
-use Rattle.usage_docs.specs.declared.rows.Key.{Key}
-use Rattle.usage_docs.specs.declared.rows.Kind.{Kind}
-use Rattle.usage_docs.specs.declared.findings.Passed.{Passed}
-use Rattle.usage_docs.specs.Clashes.{IsFirstClash, NoLater, Repeats, RepeatsAt, mark_of}
-use Rattle.usage_docs.specs.Forms.{AllFormed, Constraints, IsNodeFormed}
-use Rattle.usage_docs.specs.Rows.{Scope, is_root, kind_of, root_kind}
-use Rattle.usage_docs.specs.readers.Findings.{IsFirstAfter, IsFirstSoFar, PassesClash, PassesKey, RepeatsBelow, RepeatsKnown, fault_of}
+use Rattle.usage_docs.specs.declared.keys.KeyedChild.{KeyedChild}
+use Rattle.usage_docs.specs.declared.keys.KeyRepeat.{KeyRepeat}
+use Rattle.usage_docs.specs.declared.schema_table.Key.{Key}
+use Rattle.usage_docs.specs.declared.schema_table.ElementKind.{ElementKind}
+use Rattle.usage_docs.specs.declared.validation_result.ChildScan.{ChildScan}
+use Rattle.usage_docs.specs.UniqueKeys.{IsFirstClash, NoLater, Repeats, RepeatsAt, mark_of}
+use Rattle.usage_docs.specs.Forms.{AllFormed, MeetsConstraints, IsNodeFormed}
+use Rattle.usage_docs.specs.SchemaTable.{Scope, is_root, kind_of, root_kind}
+use Rattle.usage_docs.specs.readers.FirstFaults.{IsFirstAfter, IsFirstSoFar, PassesClash, PassesKey, RepeatsBelow, RepeatsKnown, fault_of}
 use Rattle.usage_docs.specs.readers.Parts.{end, follows}
 use Rattle.usage_docs.specs.readers.Repeats.{Holds, IsFirstRepeat, mark_by}
-use Rattle.usage_docs.specs.readers.Siblings.{node_kids, one_more}
+use Rattle.usage_docs.specs.readers.Siblings.{node_children, one_more}
 use Rattle.usage_docs.specs.readers.Walks.{HoldsRow, IsNodeValid, part_behind}
 use Rattle.usage_docs.proofs.ClashLemmas.{count_next, kid_at, mark_within, repeats_within}
 use Rattle.usage_docs.proofs.NodesFormed.{FormedNodes}
@@ -37,11 +37,11 @@ use Rattle.usage_docs.proofs.RepeatLemmas.{held_next}
 
 -- ---- tests of all nodes
 
--- a test is true where another is and something holds
+-- a test is true where another is and a property holds
 abbrev pub And : Bool → Bool → Type 0 → Type 0
 And new old P = IsTrue new ↔ (IsTrue old × P)
 
--- what all that is left stands for, where this much is done
+-- the property of all that is left, where this much is done
 abbrev pub Stands : Bool → Type 0 → Bool → Type 0 → Type 0
 Stands now Left first All = (IsTrue now × Left) ↔ (IsTrue first × All)
 
@@ -51,15 +51,15 @@ one_done now new first here all = (
   λ h. (let two = all.1 h in (here.1 (two.0, two.1.0), two.1.1)),
 )
 
--- the same of what holds exactly where that does
+-- the same for equivalent properties
 pub and_same : {P Q : Type 0} (new old : Bool) → P ↔ Q → And new old P → And new old Q
 and_same new old exact and = (λ h. (let two = and.0 h in (two.0, exact.0 two.1)), λ h. and.1 (h.0, exact.1 h.1))
 
--- where the other is true at the beginning
+-- where the other test is true at the beginning
 pub from_start : {P : Type 0} (new old : Bool) → old ≡ true → And new old P → IsTrue new ↔ P
 from_start new old is and = (λ h. (and.0 h).1, λ p. and.1 (is, p))
 
--- nothing is looked for
+-- no property to check
 pub nothing_more : (b : Bool) → And b b (Unit {0})
 nothing_more b = (λ h. (h, tt), λ h. h.0)
 
@@ -80,18 +80,18 @@ and_equal new a b P is exact = (
   λ h. is ∙ (both_tests a b).1 (h.0, exact.1 h.1),
 )
 
--- what holds exactly where another does, beside a test
+-- equivalent properties, beside a test
 pub under_test : {P Q : Type 0} (b : Bool) → P ↔ Q → Stands b P b Q
 under_test b exact = (λ h. (h.0, exact.0 h.1), λ h. (h.0, exact.1 h.1))
 
--- both of two that are added one after the other
+-- two properties that are added one after the other
 pub and_then : {P Q : Type 0} (old now new : Bool) → And now old P → And new now Q → And new old (P × Q)
 and_then old now new one other = (
   λ h. (let two = other.0 h in let first = one.0 two.0 in (first.0, (first.1, two.1))),
   λ h. other.1 (one.1 (h.0, h.1.0), h.1.1),
 )
 
-module _ (row : Kind) (c : Scope) (ns : List Node) (n : Node) (i : ℕ) (within : i < length ns) (is : n ≡ get_or ns i n) where
+module _ (row : ElementKind) (c : Scope) (ns : List Node) (n : Node) (i : ℕ) (within : i < length ns) (is : n ≡ get_or ns i n) where
   rest : drop i ns ≡ n ∷ drop (suc i) ns
   rest = drop-cons ns i n within ∙ ap (λ (x : Node). x ∷ drop (suc i) ns) (sym is)
 
@@ -107,9 +107,9 @@ module _ (row : Kind) (c : Scope) (ns : List Node) (n : Node) (i : ℕ) (within 
       subst (λ (j : ℕ). Stands new (FormedNodes row c (drop j ns)) first All) (sym next_is)
       (one_done now new first here (subst (λ (xs : List Node). Stands now (FormedNodes row c xs) first All) rest all))
 
-  pub counts_next : (count new next : ℕ) → next ≡ suc i → new ≡ one_more n count → count ≡ length (node_kids (take i ns)) → new ≡ length (node_kids (take next ns))
+  pub counts_next : (count new next : ℕ) → next ≡ suc i → new ≡ one_more n count → count ≡ length (node_children (take i ns)) → new ≡ length (node_children (take next ns))
   counts_next count new next next_is new_is counted =
-      new_is ∙ ap (one_more n) counted ∙ sym (count_next ns i n within is) ∙ ap (λ (j : ℕ). length (node_kids (take j ns))) (sym next_is)
+      new_is ∙ ap (one_more n) counted ∙ sym (count_next ns i n within is) ∙ ap (λ (j : ℕ). length (node_children (take j ns))) (sym next_is)
 
 pub one_more_at_most : (n : Node) (count : ℕ) → one_more n count ≤ suc count
 one_more_at_most (Elem e) count = omega arith
@@ -117,48 +117,48 @@ one_more_at_most (Chars t) count = omega arith
 one_more_at_most (Comment x) count = omega arith
 
 -- at the end nothing is left
-pub formed_end : (row : Kind) (c : Scope) (ns : List Node) (now first : Bool) (All : Type 0) → ns ≡ [] → Stands now (FormedNodes row c ns) first All → And now first All
+pub formed_end : (row : ElementKind) (c : Scope) (ns : List Node) (now first : Bool) (All : Type 0) → ns ≡ [] → Stands now (FormedNodes row c ns) first All → And now first All
 formed_end row c ns now first All none all =
     let done = subst (λ (xs : List Node). Stands now (FormedNodes row c xs) first All) none all in
     (λ h. done.0 (h, tt), λ h. (done.1 h).0)
 
-pub valid_end : (row : Kind) (c : Scope) (ns : List Node) (part : ℕ) (now follow new first : Bool) (All : Type 0) → ns ≡ [] → new ≡ (now && follow) → follow ≡ follows row part end → Stands now (ValidNodes row c part ns) first All → And new first All
+pub valid_end : (row : ElementKind) (c : Scope) (ns : List Node) (part : ℕ) (now follow new first : Bool) (All : Type 0) → ns ≡ [] → new ≡ (now && follow) → follow ≡ follows row part end → Stands now (ValidNodes row c part ns) first All → And new first All
 valid_end row c ns part now follow new first All none is ends all =
     let done = subst (λ (xs : List Node). Stands now (ValidNodes row c part xs) first All) none all in
     (λ h. (let two = both_of now follow (sym is ∙ h) in done.0 (two.0, sym ends ∙ two.1)), λ h. (let two = done.1 h in is ∙ true_both now follow two.0 (ends ∙ two.1)))
 
 -- ---- an element that may have a kind
 
-module _ (o : Option Kind) (none : o ≡ None) where
-  pub none_known : (P : Kind → Type 0) (b : Bool) → And b b (ForSome o P)
+module _ (o : Option ElementKind) (none : o ≡ None) where
+  pub none_known : (P : ElementKind → Type 0) (b : Bool) → And b b (ForSome o P)
   none_known P b = (λ h. (h, λ x is. (let e : None ≡ Some x = sym none ∙ is in cc)), λ h. h.0)
 
   pub none_clash : (c : Scope) (e : Tree) (base : List ℕ) (old : Option Clash) → IsFirstAfter old (RepeatsKnown o c e) base old
   none_clash c e base (Some clash) = refl
-  none_clash c e base None = λ p key r. subst (λ (k : Option Kind). RepeatsKnown k c e p key) none r
+  none_clash c e base None = λ p key r. subst (λ (k : Option ElementKind). RepeatsKnown k c e p key) none r
 
-module _ (o : Option Kind) (kind : Kind) (some : o ≡ Some kind) where
-  pub some_known : (P : Kind → Type 0) → P kind ↔ ForSome o P
+module _ (o : Option ElementKind) (kind : ElementKind) (some : o ≡ Some kind) where
+  pub some_known : (P : ElementKind → Type 0) → P kind ↔ ForSome o P
   some_known P = (λ p x is. subst P (same_Some kind x (sym some ∙ is)) p, λ f. f kind some)
 
-pub valid_in_row : (kind : Kind) (c : Scope) (e : Tree) → (IsTrue (attrs_pass kind c e.attrs) × HoldsRow kind c e.content) ↔ ValidInRow kind c e
+pub valid_in_row : (kind : ElementKind) (c : Scope) (e : Tree) → (IsTrue (attrs_pass kind c e.attrs) × HoldsRow kind c e.content) ↔ ValidInRow kind c e
 valid_in_row kind c e = (λ h. keeps_held kind c e.attrs e.content h.0 h.1, λ v. (v.0.attributes, held_kept kind c e.attrs e.content v))
 
 pub and_both : {P Q R : Type 0} → P ↔ Q → Q ↔ R → P ↔ R
 and_both one other = (λ p. other.0 (one.0 p), λ r. one.1 (other.1 r))
 
--- what a test tells, by what it is
+-- the meaning of a test, by its result
 pub same_test : (r s : Bool) → r ≡ s → IsTrue r ↔ IsTrue s
 same_test r s is = (λ h. sym is ∙ h, λ h. is ∙ h)
 
-pub marked_by : (row : Kind) (c : Scope) (e : Tree) (o : Option Kind) (ats : List Attr) → kind_of row (inside c e) e.name ≡ o → ats ≡ e.attrs → mark_by o ats ≡ mark_of row c e
+pub marked_by : (row : ElementKind) (c : Scope) (e : Tree) (o : Option ElementKind) (ats : List Attr) → kind_of row (inside c e) e.name ≡ o → ats ≡ e.attrs → mark_by o ats ≡ mark_of row c e
 unfolding mark_of
 marked_by row c e o ats of_kind is = ap₂ mark_by (sym of_kind) is
 
--- ---- the judgement of a root
+-- ---- the first fault of a root
 
 module _ (usage : Usage) (t : Tree) where
-  pub valid_root : (scope : Scope) (new a b : Bool) → scope ≡ t.decls ∷ [] → a ≡ is_root usage scope t.name → b ≡ attrs_pass (root_kind usage) scope t.attrs → And new (a && b) (HoldsRow (root_kind usage) scope t.content) → IsTrue new ↔ Schema usage t
+  pub valid_root : (scope : Scope) (new a b : Bool) → scope ≡ t.decls ∷ [] → a ≡ is_root usage scope t.name → b ≡ attrs_pass (root_kind usage) scope t.attrs → And new (a && b) (HoldsRow (root_kind usage) scope t.content) → IsTrue new ↔ IsValidDocument usage t
   valid_root scope new a b is root attrs and =
       let there = subst (λ (s : Scope). And new (is_root usage s t.name && attrs_pass (root_kind usage) s t.attrs) (HoldsRow (root_kind usage) s t.content)) is
       (subst (λ (x : Bool). And new (x && attrs_pass (root_kind usage) scope t.attrs) (HoldsRow (root_kind usage) scope t.content)) root
@@ -171,17 +171,17 @@ module _ (usage : Usage) (t : Tree) where
         λ s. there.1 (true_both (is_root usage top t.name) (attrs_pass (root_kind usage) top t.attrs) s.root s.valid.0.attributes, held_kept (root_kind usage) top t.attrs t.content s.valid),
       )
 
-  pub formed_root : (scope : Scope) (new old : Bool) → scope ≡ t.decls ∷ [] → old ≡ true → And new old (AllFormed (root_kind usage) scope t.content) → IsTrue new ↔ Constraints usage t
+  pub formed_root : (scope : Scope) (new old : Bool) → scope ≡ t.decls ∷ [] → old ≡ true → And new old (AllFormed (root_kind usage) scope t.content) → IsTrue new ↔ MeetsConstraints usage t
   formed_root scope new old is start and = from_start new old start (subst (λ (s : Scope). And new old (AllFormed (root_kind usage) s t.content)) is and)
 
-  judged_as : (v f : Bool) (clash : Option Clash) → IsTrue v ↔ Schema usage t → IsTrue f ↔ Constraints usage t → IsFirstClash usage t clash → Judged usage t (cond v (cond f (option_map (λ x. Repeated x) clash) (Some Unformed)) (Some Invalid))
+  judged_as : (v f : Bool) (clash : Option Clash) → IsTrue v ↔ IsValidDocument usage t → IsTrue f ↔ MeetsConstraints usage t → IsFirstClash usage t clash → HasFirstFault usage t (cond v (cond f (option_map (λ x. Repeated x) clash) (Some Unformed)) (Some Invalid))
   judged_as false f clash valid formed first = λ s. false≢true (valid.1 s)
   judged_as true false clash valid formed first = (valid.0 refl, λ s. false≢true (formed.1 s))
   judged_as true true None valid formed first = (valid.0 refl, formed.0 refl, first)
   judged_as true true (Some clash) valid formed first = (valid.0 refl, formed.0 refl, first)
 
-  -- the first fault is that of what is found
-  pub judged_by : (found : Found) → IsTrue found.valid ↔ Schema usage t → IsTrue found.formed ↔ Constraints usage t → IsFirstClash usage t found.clash → Judged usage t (fault_of found)
+  -- the first fault by what is found
+  pub judged_by : (found : ValidationResult) → IsTrue found.valid ↔ IsValidDocument usage t → IsTrue found.formed ↔ MeetsConstraints usage t → IsFirstClash usage t found.clash → HasFirstFault usage t (fault_of found)
   judged_by found = judged_as found.valid found.formed found.clash
 
 -- ---- clashes below children
@@ -189,49 +189,49 @@ module _ (usage : Usage) (t : Tree) where
 none_is_some : (x : Clash) → None ≡ Some x → ⊥
 none_is_some x e = cc
 
-known_to : (o : Option Kind) (c : Scope) (e : Tree) (p : List ℕ) (key : Key) → RepeatsKnown o c e p key → (kind : Kind) × ((o ≡ Some kind) × RepeatsAt kind c (kids_of e) p key)
+known_to : (o : Option ElementKind) (c : Scope) (e : Tree) (p : List ℕ) (key : Key) → RepeatsKnown o c e p key → (kind : ElementKind) × ((o ≡ Some kind) × RepeatsAt kind c (child_elements_of e) p key)
 known_to None c e p key r = absurd r
 known_to (Some kind) c e p key r = (kind, (refl, r))
 
-known_from : (o : Option Kind) (kind : Kind) (c : Scope) (e : Tree) (p : List ℕ) (key : Key) → o ≡ Some kind → RepeatsAt kind c (kids_of e) p key → RepeatsKnown o c e p key
-known_from o kind c e p key is r = subst (λ (k : Option Kind). RepeatsKnown k c e p key) (sym is) r
+known_from : (o : Option ElementKind) (kind : ElementKind) (c : Scope) (e : Tree) (p : List ℕ) (key : Key) → o ≡ Some kind → RepeatsAt kind c (child_elements_of e) p key → RepeatsKnown o c e p key
+known_from o kind c e p key is r = subst (λ (k : Option ElementKind). RepeatsKnown k c e p key) (sym is) r
 
 -- of two places the one that isn't later begins with a number that isn't greater
 front_least : (i j : ℕ) (p q : List ℕ) → NoLater (i ∷ p) (j ∷ q) → i ≤ j
 front_least i j p q (inl less) = omega (arith, less)
 front_least i j p q (inr same) = let e = same.0 in omega (arith, e)
 
--- a place that isn't behind another by its number is not later
+-- a place whose number isn't greater is not later
 no_later_front : (i j : ℕ) (q : List ℕ) → i ≤ j → NoLater (i ∷ []) (j ∷ q)
 no_later_front i j q upto = elim (cases_lt i j) [ inl less ↦ inl less | inr reached ↦ (let same : i ≡ j = omega (arith, upto, reached) in inr (same, tt)) ]
 
--- what has elements is not the lowest
-some_kids : (content : Content) (i : ℕ) → i < length (kids content) → 1 ≤ content_height content
+-- an element with child elements has more than one level
+some_kids : (content : Content) (i : ℕ) → i < length (child_elements content) → 1 ≤ content_height content
 some_kids (last t) i less = absurd (omega (arith, less))
-some_kids (note t x rest) i less = some_kids rest i less
+some_kids (comment_node t x rest) i less = some_kids rest i less
 some_kids (more t n ds ats k rest) i less = omega arith
 
-module _ (row : Kind) (c : Scope) (xs : List Tree) (base : List ℕ) where
+module _ (row : ElementKind) (c : Scope) (xs : List Tree) (base : List ℕ) where
   abbrev Below : List ℕ → Key → Type 0
   Below p key = RepeatsBelow row c xs p key
 
-  module _ (i : ℕ) (kid : Tree) (there : slice_get xs i ≡ Some kid) where
+  module _ (i : ℕ) (child_element : Tree) (there : slice_get xs i ≡ Some child_element) where
     abbrev Known : List ℕ → Key → Type 0
-    Known p key = RepeatsKnown (kind_of row (inside c kid) kid.name) (inside c kid) kid p key
+    Known p key = RepeatsKnown (kind_of row (inside c child_element) child_element.name) (inside c child_element) child_element p key
 
     below_to : (p : List ℕ) (key : Key) → Below (i ∷ p) key → Known p key
     below_to [] key r = absurd r
     below_to (n ∷ p) key (other, (kind, (at, of_kind, r))) =
-        let same = same_Some other kid (sym at ∙ there) in
-        known_from (kind_of row (inside c kid) kid.name) kind (inside c kid) kid (n ∷ p) key
+        let same = same_Some other child_element (sym at ∙ there) in
+        known_from (kind_of row (inside c child_element) child_element.name) kind (inside c child_element) child_element (n ∷ p) key
         (subst (λ (x : Tree). kind_of row (inside c x) x.name ≡ Some kind) same of_kind)
-        (subst (λ (x : Tree). RepeatsAt kind (inside c x) (kids_of x) (n ∷ p) key) same r)
+        (subst (λ (x : Tree). RepeatsAt kind (inside c x) (child_elements_of x) (n ∷ p) key) same r)
 
     below_from : (p : List ℕ) (key : Key) → Known p key → Below (i ∷ p) key
-    below_from [] key r = let k = known_to (kind_of row (inside c kid) kid.name) (inside c kid) kid [] key r in absurd k.1.1
-    below_from (n ∷ p) key r = let k = known_to (kind_of row (inside c kid) kid.name) (inside c kid) kid (n ∷ p) key r in (kid, (k.0, (there, k.1.0, k.1.1)))
+    below_from [] key r = let k = known_to (kind_of row (inside c child_element) child_element.name) (inside c child_element) child_element [] key r in absurd k.1.1
+    below_from (n ∷ p) key r = let k = known_to (kind_of row (inside c child_element) child_element.name) (inside c child_element) child_element (n ∷ p) key r in (child_element, (k.0, (there, k.1.0, k.1.1)))
 
-    -- none is below it either
+    -- there is none below it either
     none_next : (next : ℕ) → next ≡ suc i → ((j : ℕ) (p : List ℕ) (key : Key) → j < i → Below (j ∷ p) key → ⊥) → ((p : List ℕ) (key : Key) → Known p key → ⊥) → (j : ℕ) (p : List ℕ) (key : Key) → j < next → Below (j ∷ p) key → ⊥
     none_next next is none here j p key less r =
         elim (cases_lt j i) [
@@ -239,7 +239,7 @@ module _ (row : Kind) (c : Scope) (xs : List Tree) (base : List ℕ) where
           | inr reached ↦ (let same : j ≡ i = omega (arith, is, less, reached) in here p key (below_to p key (subst (λ (k : ℕ). Below (k ∷ p) key) same r)))
         ]
 
-    -- the first below it is the first of all
+    -- the first clash below it is the first of all
     first_next : (p : List ℕ) → ((j : ℕ) (q : List ℕ) (key : Key) → j < i → Below (j ∷ q) key → ⊥) → ((q : List ℕ) (key : Key) → Known q key → NoLater p q) → (q : List ℕ) (key : Key) → Below q key → NoLater (i ∷ p) q
     first_next p none first [] key r = absurd r
     first_next p none first (j ∷ q) key r =
@@ -254,7 +254,7 @@ module _ (row : Kind) (c : Scope) (xs : List Tree) (base : List ℕ) where
     abbrev Next : ℕ → ℕ → Option Clash → Option Clash → Type 0
     Next next clear before new = IsFirstSoFar row c xs base next clear before new
 
-    found_next : (next clear new_clear : ℕ) (before old new : Option Clash) → next ≡ suc i → IsFirstAfter old (RepeatsKnown (kind_of row (inside c kid) kid.name) (inside c kid) kid) (base ++ i ∷ []) new → new_clear ≡ cond (is_some new) clear (suc clear) → IsFirstSoFar row c xs base i clear before old → Next next new_clear before new
+    found_next : (next clear new_clear : ℕ) (before old new : Option Clash) → next ≡ suc i → IsFirstAfter old (RepeatsKnown (kind_of row (inside c child_element) child_element.name) (inside c child_element) child_element) (base ++ i ∷ []) new → new_clear ≡ cond (is_some new) clear (suc clear) → IsFirstSoFar row c xs base i clear before old → Next next new_clear before new
     found_next next clear new_clear (Some b) None new is at counts so = absurd (none_is_some b so.0)
     found_next next clear new_clear (Some b) (Some o) new is at counts so = (at ∙ so.0, counts ∙ ap (λ (x : Option Clash). cond (is_some x) clear (suc clear)) at ∙ so.1)
     found_next next clear new_clear None (Some o) None is at counts so = absurd (none_is_some o at)
@@ -265,7 +265,7 @@ module _ (row : Kind) (c : Scope) (xs : List Tree) (base : List ℕ) where
         subst (λ (k : ℕ). Next next k None (Some n)) (sym (counts ∙ so.0))
         (at.0, (at.1.0 ∙ append_assoc base (i ∷ []) at.0, below_from at.0 n.key at.1.1, first_next at.0 so.1 at.1.2))
 
-  -- a node that is no element changes nothing
+  -- a node that isn't an element changes nothing
   same_next : (i next clear new_clear : ℕ) (before old new : Option Clash) → next ≡ i → new ≡ old → new_clear ≡ clear → IsFirstSoFar row c xs base i clear before old → IsFirstSoFar row c xs base next new_clear before new
   same_next i next clear new_clear before old new is same clear_is so =
       subst (λ (j : ℕ). IsFirstSoFar row c xs base j new_clear before new) (sym is)
@@ -276,22 +276,22 @@ module _ (row : Kind) (c : Scope) (xs : List Tree) (base : List ℕ) where
   none_found_yet None = (refl, λ i p key less r. absurd (omega (arith, less)))
   none_found_yet (Some b) = (refl, refl)
 
-  module _ (ns : List Node) (kids_is : xs ≡ node_kids ns) (i : ℕ) (count : ℕ) (counted : count ≡ length (node_kids (take i ns))) where
-    kid_here : (n : Node) (kid : Tree) → i < length ns → n ≡ get_or ns i n → n ≡ Elem kid → slice_get xs count ≡ Some kid
-    kid_here n kid within is elem = ap (λ (ks : List Tree). slice_get ks count) kids_is ∙ ap (slice_get (node_kids ns)) counted ∙ kid_at ns i n kid within is elem
+  module _ (ns : List Node) (kids_is : xs ≡ node_children ns) (i : ℕ) (count : ℕ) (counted : count ≡ length (node_children (take i ns))) where
+    kid_here : (n : Node) (child_element : Tree) → i < length ns → n ≡ get_or ns i n → n ≡ Elem child_element → slice_get xs count ≡ Some child_element
+    kid_here n child_element within is elem = ap (λ (ks : List Tree). slice_get ks count) kids_is ∙ ap (slice_get (node_children ns)) counted ∙ kid_at ns i n child_element within is elem
 
-    pub key_next : (n : Node) (old new : Passed) → i < length ns → n ≡ get_or ns i n → old.count ≡ count → new.count ≡ one_more n old.count → PassesKey row c n old new → (old.holds_all ≡ true → Holds row c xs old.count old.keys.items)
+    pub key_next : (n : Node) (old new : ChildScan) → i < length ns → n ≡ get_or ns i n → old.count ≡ count → new.count ≡ one_more n old.count → PassesKey row c n old new → (old.holds_all ≡ true → Holds row c xs old.count old.keys.items)
         → new.holds_all ≡ true → Holds row c xs new.count new.keys.items
-    key_next (Elem kid) old new within is from next passes held all =
+    key_next (Elem child_element) old new within is from next passes held all =
         let entered = passes all in
-        held_next row c xs kid old.count new.count (subst (λ (k : ℕ). slice_get xs k ≡ Some kid) (sym from) (kid_here (Elem kid) kid within is refl)) next old.keys.items new.keys.items (held entered.0) entered.1
-    key_next (Chars t) old new within is from next passes held all = subst (λ (k : ℕ). Holds row c xs k new.keys.items) (sym next) (subst (λ (ks : List Keyed). Holds row c xs old.count ks) (sym passes.1) (held (sym passes.0 ∙ all)))
-    key_next (Comment x) old new within is from next passes held all = subst (λ (k : ℕ). Holds row c xs k new.keys.items) (sym next) (subst (λ (ks : List Keyed). Holds row c xs old.count ks) (sym passes.1) (held (sym passes.0 ∙ all)))
+        held_next row c xs child_element old.count new.count (subst (λ (k : ℕ). slice_get xs k ≡ Some child_element) (sym from) (kid_here (Elem child_element) child_element within is refl)) next old.keys.items new.keys.items (held entered.0) entered.1
+    key_next (Chars t) old new within is from next passes held all = subst (λ (k : ℕ). Holds row c xs k new.keys.items) (sym next) (subst (λ (ks : List KeyedChild). Holds row c xs old.count ks) (sym passes.1) (held (sym passes.0 ∙ all)))
+    key_next (Comment x) old new within is from next passes held all = subst (λ (k : ℕ). Holds row c xs k new.keys.items) (sym next) (subst (λ (ks : List KeyedChild). Holds row c xs old.count ks) (sym passes.1) (held (sym passes.0 ∙ all)))
 
-    pub clash_next : (n : Node) (old new : Passed) (before found found_new : Option Clash) → i < length ns → n ≡ get_or ns i n → old.count ≡ count → new.count ≡ one_more n old.count → PassesClash row c base n old found new found_new
+    pub clash_next : (n : Node) (old new : ChildScan) (before found found_new : Option Clash) → i < length ns → n ≡ get_or ns i n → old.count ≡ count → new.count ≡ one_more n old.count → PassesClash row c base n old found new found_new
         → IsFirstSoFar row c xs base old.count old.clear before found → IsFirstSoFar row c xs base new.count new.clear before found_new
-    clash_next (Elem kid) old new before found found_new within is from next passes so =
-        found_next old.count kid (subst (λ (k : ℕ). slice_get xs k ≡ Some kid) (sym from) (kid_here (Elem kid) kid within is refl)) new.count old.clear new.clear before found found_new next passes.0 passes.1 so
+    clash_next (Elem child_element) old new before found found_new within is from next passes so =
+        found_next old.count child_element (subst (λ (k : ℕ). slice_get xs k ≡ Some child_element) (sym from) (kid_here (Elem child_element) child_element within is refl)) new.count old.clear new.clear before found found_new next passes.0 passes.1 so
     clash_next (Chars t) old new before found found_new within is from next passes so = same_next old.count new.count old.clear new.clear before found found_new next passes.0 passes.1 so
     clash_next (Comment x) old new before found found_new within is from next passes so = same_next old.count new.count old.clear new.clear before found found_new next passes.0 passes.1 so
 
@@ -302,7 +302,7 @@ module _ (row : Kind) (c : Scope) (xs : List Tree) (base : List ℕ) where
   below_clashes (i ∷ []) key r = absurd r
   below_clashes (i ∷ n ∷ p) key r = r
 
-  -- a clash is at a child, or below one
+  -- a clash is at a child, or below a child
   clash_cases : (P : List ℕ → Type 0) → ((i : ℕ) (key : Key) → Repeats row c xs i key → P (i ∷ [])) → ((i : ℕ) (p : List ℕ) (key : Key) → i < length xs → Below (i ∷ p) key → P (i ∷ p)) → (p : List ℕ) (key : Key) → RepeatsAt row c xs p key → P p
   clash_cases P at below [] key r = absurd r
   clash_cases P at below (i ∷ []) key r = at i key r
@@ -321,8 +321,8 @@ module _ (row : Kind) (c : Scope) (xs : List Tree) (base : List ℕ) where
   none_repeats clear None (Some clash) none so =
       (clear ∷ so.0, (so.1.0, below_clashes (clear ∷ so.0) clash.key so.1.1, clash_cases (λ q. NoLater (clear ∷ so.0) q) (λ i key r. absurd (none i key r)) (λ i q key within r. so.1.2 (i ∷ q) key r)))
 
-  module _ (repeat : Repeat) (first : IsFirstRepeat row c xs (Some repeat)) where
-    -- the first child that repeats one stands behind a clash
+  module _ (repeat : KeyRepeat) (first : IsFirstRepeat row c xs (Some repeat)) where
+    -- the first child that repeats one is after a clash
     pub repeats_later : (clear : ℕ) (before old : Option Clash) → clear < repeat.child → SoFar clear before old → After before old
     repeats_later clear (Some b) old less so = so.0
     repeats_later clear None None less so = let within = mark_within row c first.0.shared xs repeat.child first.0.this in let all = so.0 in absurd (omega (arith, less, within, all))
@@ -340,14 +340,14 @@ module _ (row : Kind) (c : Scope) (xs : List Tree) (base : List ℕ) where
     later_below clear None upto so i q key within r = absurd (so.1 i q key within r)
     later_below clear (Some clash) upto so i q key within r = no_later_front repeat.child i q (let least = front_least clear i so.0 q (so.1.2 (i ∷ q) key r) in omega (arith, upto, least))
 
-    -- it stands before each clash that was found
+    -- it comes before each clash that was found
     pub repeats_first : (clear : ℕ) (before old : Option Clash) (path : List ℕ) → repeat.child ≤ clear → path ≡ base ++ repeat.child ∷ [] → SoFar clear before old → After before (Some (record { path = path; key = repeat.key }))
     repeats_first clear (Some b) old path upto is so = let behind = first.0.comes_first in let none = so.1 in absurd (omega (arith, upto, behind, none))
     repeats_first clear None old path upto is so =
         (repeat.child ∷ [], (is, first.0, clash_cases (λ q. NoLater (repeat.child ∷ []) q) (λ i key r. no_later_front repeat.child i [] (first.1 i key r)) (later_below clear old upto so)))
 
-    -- where it stands there is room for a path
-    pub repeats_low : (content : Content) → xs ≡ kids content → length base + content_height content ≤ 64 → length (base ++ repeat.child ∷ []) ≤ 64
+    -- there is room for its path
+    pub repeats_low : (content : Content) → xs ≡ child_elements content → length base + content_height content ≤ 64 → length (base ++ repeat.child ∷ []) ≤ 64
     repeats_low content is low =
         let within = subst (λ (ks : List Tree). repeat.child < length ks) is (mark_within row c first.0.shared xs repeat.child first.0.this) in
         let high = some_kids content repeat.child within in

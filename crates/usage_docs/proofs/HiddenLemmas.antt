@@ -1,4 +1,5 @@
--- The bindings that declarations hide: their length, in which each prefix counts once, and the search for the binding of a prefix.
+-- The bindings that declarations hide: their length, in which each prefix counts once, and the
+-- search for the binding of a prefix.
 use Rattle.std.proofs.Common.{◌≡◌, ◌≢◌, Ordering, Less, Equal, Greater, ◌⊎◌, inl, inr, ℕ, zero, suc, ◌+◌, ◌-◌, ◌<◌, ◌≤◌, min, Bool, true, false, cond, not, List, [], ◌∷◌, ◌++◌, length, get_or, Option, Some, None, is_some, is_none, Bor, bytes_eq, refl, sym, ap, ◌∙◌, subst, add-one, arith}
 use Rattle.std.proofs.lemmas.List.Sorted.{searchable_from_sorted}
 use Rattle.std.specs.BTreeSet.{BTreeSet, IsEmpty, Updates, contains}
@@ -19,11 +20,11 @@ use Rattle.usage_docs.specs.Services.{listed_as}
 use Rattle.usage_docs.specs.readers.Lengths.{binding_of, decls_len, hidden}
 use Rattle.usage_docs.proofs.LengthLemmas.{first_more, kept, own_service, unlike, with_decls}
 
--- the greatest length that is told
+-- the greatest length that is reported
 abbrev most : ℕ
 most = 18446744073709551615
 
--- ---- what is hidden and what is kept are all
+-- ---- the hidden and the kept bindings are all bindings
 pub shared : (own bs : List Decl) → decls_len bs ≡ decls_len (hidden own bs) + decls_len (kept own bs)
 shared own [] = refl
 shared own (b ∷ bs) = by (declared own b.prefix) (shared own bs)
@@ -38,7 +39,7 @@ pub none_hidden : (bs : List Decl) → hidden [] bs ≡ []
 none_hidden [] = refl
 none_hidden (b ∷ bs) = none_hidden bs
 
--- ---- one declaration more
+-- ---- one more declaration
 module _ (xs : List Decl) (d : Decl) where
   abbrev all : List Decl
   all = xs ++ d ∷ []
@@ -50,13 +51,13 @@ module _ (xs : List Decl) (d : Decl) where
       by true = refl
       by false = refl
 
-  -- a binding more, by whether all hide it, the others do, and the one does
+  -- one more binding, by whether all declarations hide it, the others do, and the one does
   abbrev Adds : Decl → List Decl → Bool → Bool → Bool → Type 0
   Adds b bs t s e =
       decls_len (cond t (b ∷ hidden all bs) (hidden all bs))
       ≡ decls_len (cond s (b ∷ hidden xs bs) (hidden xs bs)) + decls_len (cond e (b ∷ binding_of d.prefix bs) (binding_of d.prefix bs))
 
-  -- of a prefix that isn't declared before
+  -- for a prefix that isn't declared before
   pub hides_more : is_some (declared xs d.prefix) ≡ false → (bs : List Decl) → decls_len (hidden all bs) ≡ decls_len (hidden xs bs) + decls_len (binding_of d.prefix bs)
   hides_more new [] = refl
   hides_more new (b ∷ bs) =
@@ -71,7 +72,7 @@ module _ (xs : List Decl) (d : Decl) where
       by false true apart rest = omega (arith, first_more b (hidden all bs), first_more b (hidden xs bs))
       by false false apart rest = rest
 
-  -- of one that is
+  -- for a prefix that is
   pub hides_same : is_some (declared xs d.prefix) ≡ true → (bs : List Decl) → hidden all bs ≡ hidden xs bs
   hides_same seen [] = refl
   hides_same seen (b ∷ bs) =
@@ -85,11 +86,11 @@ module _ (xs : List Decl) (d : Decl) where
 
 -- ---- the prefixes seen so far
 
--- the order of lent prefixes
+-- the order of borrowed prefixes
 abbrev pub by_prefix : Bor (List ℕ) → Bor (List ℕ) → Ordering
 by_prefix x y = order x.now y.now
 
--- a prefix, lent from anywhere
+-- a prefix, borrowed from anywhere
 abbrev pub lent : List ℕ → Bor (List ℕ)
 lent p = record { ref_ptr = (0, 0); now = p }
 
@@ -105,7 +106,7 @@ seen_more xs d old new before up k =
     let same = sym (texts_ties d.prefix k.now) in
     up.0 k ∙ (λ i. cond (same i) true (before k i)) ∙ sym (declares_more xs d k.now)
 
--- whether a prefix was new says whether it was declared before
+-- whether a prefix was new shows whether it was declared before
 pub was_new : (new before declares : Bool) → new ≡ not before → before ≡ declares → new ≡ true → declares ≡ false
 was_new new true declares is same h = let both : false ≡ true = sym is ∙ h in cc
 was_new new false declares is same h = sym same
@@ -165,7 +166,7 @@ module _ (p : List ℕ) where
   side : (k i : ℕ) → (k < i) ⊎ (i ≤ k)
   side k i = grind arith
 
-  -- a search that ends between the lesser and the greater found none
+  -- a search that ends between the lesser and the greater ones found none
   pub not_found : (ds : List Decl) → AreInOrder ds → (i : ℕ)
       → (IsNonDecreasingBy (λ x. ordering_index (to_prefix x)) ds → IsPartitionPoint (λ x. to_prefix x ≡ Less) (λ x. to_prefix x ≡ Greater) ds i) → binding_of p ds ≡ []
   not_found ds h i parts = missing ds (λ k d short is.
@@ -175,9 +176,11 @@ module _ (p : List ℕ) where
         | inr behind ↦ let both : Greater ≡ Equal = sym (halves.1 k d behind short) ∙ is in cc
       ])
 
--- ---- a service with declarations of its own, whose length and that of what the root binds fit together
+-- ---- a service with its own declarations: its length and the length of the root's bindings add
+-- up
 
--- the same of numbers: the service has these bytes beside its declarations, and of what the root binds these are kept
+-- the sum in numbers: the service has these bytes beside its declarations, and these of the
+-- root's bindings are kept
 module _ (bare kept hides declares : ℕ) (printed around whole hid : ℕ) (printed_is : printed ≡ min (bare + declares) most) (around_is : around ≡ min (hides + kept) most) (sum : whole ≡ min (printed + around) most) (fits : whole ≡ most → ⊥)
     (hid_is : hid ≡ min hides most) where
   first_off : hid ≤ whole

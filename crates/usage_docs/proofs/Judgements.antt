@@ -1,31 +1,31 @@
--- A tree has one judgement: a first fault, or none.
+-- Each tree has exactly one result: a first fault, or none.
 use Rattle.std.proofs.Common.{◌≡◌, ◌⊎◌, ℕ, suc, Bool, true, false, List, [], ◌∷◌, ◌++◌, length, slice_get, take, Option, None, Some, IsTrue, inl, inr, refl, sym, ap, ap₂, subst, ◌∙◌, arith, append_assoc, append-nil}
 use Rattle.std.specs.Option.{ForSome}
 use Rattle.std.specs.Str.{bytes_eq}
 use Rattle.std.proofs.lemmas.Option.{same_Some}
 use Rattle.std.specs.Cmp.Lexicographic.{bytes_decides}
-use Rattle.xml_tree.specs.Tree.{Content, Tree, kids, kids_of, last, more, note, tree_of}
+use Rattle.xml_tree.specs.Tree.{Content, Tree, child_elements, child_elements_of, last, more, comment_node, tree_of}
 use Rattle.xml_tree.specs.declared.names.Attr.{Attr}
 use Rattle.xml_tree.specs.Scopes.{inside}
-use Rattle.usage_docs.specs.Clashes.{Clashes, IsFirstClash, Mark, NoLater, Repeats, RepeatsAt, mark}
-use Rattle.usage_docs.specs.Forms.{AllFormed, Constraints, is_formed}
+use Rattle.usage_docs.specs.UniqueKeys.{Clashes, IsFirstClash, Mark, NoLater, Repeats, RepeatsAt, mark}
+use Rattle.usage_docs.specs.Forms.{AllFormed, MeetsConstraints, is_formed}
 use Rattle.usage_docs.specs.Keys.{attrs_pass, key_of, value_of}
-use Rattle.usage_docs.specs.Rows.{Scope, Child, is_root, items_in, kind_of, model_of, root_kind, MatchesModel as Matches}
+use Rattle.usage_docs.specs.SchemaTable.{Scope, Child, is_root, items_in, kind_of, content_model_of, root_kind, MatchesModel as Matches}
 use Rattle.usage_docs.specs.readers.Parts.{end, follows, part_in}
 use Rattle.usage_docs.specs.readers.Siblings.{IsFirst}
 use Rattle.usage_docs.specs.Texts.{text_of}
-use Rattle.usage_docs.specs.Validity.{AllKeep, KeepsRow, Schema, children_of, text_passes}
+use Rattle.usage_docs.specs.Validity.{AllKeep, KeepsRow, IsValidDocument, children_of, text_passes}
 use Rattle.usage_docs.proofs.KindTests.{same_kind, same_kind_exact}
 use Rattle.usage_docs.proofs.Matching.{Chain, matched}
 use Rattle.usage_docs.specs.declared.keys.Clash.{Clash}
-use Rattle.usage_docs.specs.declared.rows.Key.{Key}
-use Rattle.usage_docs.specs.declared.rows.Kind.{Kind}
+use Rattle.usage_docs.specs.declared.schema_table.Key.{Key}
+use Rattle.usage_docs.specs.declared.schema_table.ElementKind.{ElementKind}
 use Rattle.usage_docs.proofs.EarlierMarks.{IsAmong, RepeatedKey, RepeatsHere, marks_of}
 use Rattle.usage_docs.proofs.ClashLemmas.{NoneBefore, at_below, at_here, at_none, found, none_at_end, passed}
 use Rattle.doc_names.specs.declared.usages.Usage.{Usage}
-use Rattle.usage_docs.specs.Judging.{Judged}
-use Rattle.usage_docs.specs.declared.judging.Fault.{Fault}
-use Rattle.usage_docs.specs.declared.judging.Fault.TheVariants.{Invalid, Unformed, Repeated}
+use Rattle.usage_docs.specs.Validation.{HasFirstFault}
+use Rattle.usage_docs.specs.declared.validation.Fault.{Fault}
+use Rattle.usage_docs.specs.declared.validation.Fault.TheVariants.{Invalid, Unformed, Repeated}
 
 -- ---- what holds or doesn't
 
@@ -47,41 +47,41 @@ some_decided (Some y) P d = elim (d y) [ inl p ↦ inl (λ x e. subst P (same_So
 
 -- ---- the schema and the constraints
 
-chain_decided : (row : Kind) (xs : List Child) (before : ℕ) → Decided (Chain row before xs)
+chain_decided : (row : ElementKind) (xs : List Child) (before : ℕ) → Decided (Chain row before xs)
 chain_decided row [] before = test_decided (follows row before end)
 chain_decided row (x ∷ xs) before = both_decided (test_decided (follows row before (part_in row x))) (chain_decided row xs (part_in row x))
 
-matches_decided : (row : Kind) (xs : List Child) → Decided (Matches (items_in (model_of row)) xs)
+matches_decided : (row : ElementKind) (xs : List Child) → Decided (Matches (items_in (content_model_of row)) xs)
 matches_decided row xs =
     let exact = matched row xs in
     elim (chain_decided row xs 0) [ inl h ↦ inl (exact.0 h) | inr fails ↦ inr (λ m. fails (exact.1 m)) ]
 
-keeps_decided : (kind : Kind) (c : Scope) (ats : List Attr) (content : Content) → Decided (KeepsRow kind c ats content)
+keeps_decided : (kind : ElementKind) (c : Scope) (ats : List Attr) (content : Content) → Decided (KeepsRow kind c ats content)
 keeps_decided kind c ats content =
     elim (both_decided (test_decided (attrs_pass kind c ats)) (both_decided (test_decided (text_passes kind (text_of content))) (matches_decided kind (children_of kind c content)))) [
       | inl h ↦ inl (record { attributes = h.0; text = h.1.0; children = h.1.1 })
       | inr fails ↦ inr (λ k. fails (k.attributes, (k.text, k.children)))
     ]
 
-all_decided : (content : Content) (row : Kind) (c : Scope) → Decided (AllKeep row c content)
+all_decided : (content : Content) (row : ElementKind) (c : Scope) → Decided (AllKeep row c content)
 all_decided (last t) row c = inl tt
-all_decided (note t text rest) row c = all_decided rest row c
+all_decided (comment_node t text rest) row c = all_decided rest row c
 all_decided (more t n ds ats k rest) row c =
     both_decided
     (some_decided (kind_of row (c ++ ds ∷ []) n) (λ kind. KeepsRow kind (c ++ ds ∷ []) ats k × AllKeep kind (c ++ ds ∷ []) k)
     (λ kind. both_decided (keeps_decided kind (c ++ ds ∷ []) ats k) (all_decided k kind (c ++ ds ∷ []))))
     (all_decided rest row c)
 
-formed_decided : (content : Content) (row : Kind) (c : Scope) → Decided (AllFormed row c content)
+formed_decided : (content : Content) (row : ElementKind) (c : Scope) → Decided (AllFormed row c content)
 formed_decided (last t) row c = inl tt
-formed_decided (note t text rest) row c = formed_decided rest row c
+formed_decided (comment_node t text rest) row c = formed_decided rest row c
 formed_decided (more t n ds ats k rest) row c =
     both_decided
     (some_decided (kind_of row (c ++ ds ∷ []) n) (λ kind. IsTrue (is_formed kind ats k) × AllFormed kind (c ++ ds ∷ []) k)
     (λ kind. both_decided (test_decided (is_formed kind ats k)) (formed_decided k kind (c ++ ds ∷ []))))
     (formed_decided rest row c)
 
-schema_decided : (usage : Usage) (t : Tree) → Decided (Schema usage t)
+schema_decided : (usage : Usage) (t : Tree) → Decided (IsValidDocument usage t)
 schema_decided usage t =
     let scope : Scope = t.decls ∷ [] in
     elim (both_decided (test_decided (is_root usage scope t.name)) (both_decided (keeps_decided (root_kind usage) scope t.attrs t.content) (all_decided t.content (root_kind usage) scope))) [
@@ -89,9 +89,9 @@ schema_decided usage t =
       | inr fails ↦ inr (λ s. fails (s.root, s.valid))
     ]
 
--- ---- keys that repeat those of siblings
+-- ---- repeated keys among siblings
 
-kind_decided : (one other : Kind) → Decided (one ≡ other)
+kind_decided : (one other : ElementKind) → Decided (one ≡ other)
 kind_decided one other =
     let exact = same_kind_exact one other in
     elim (test_decided (same_kind one other)) [ inl h ↦ inl (exact.0 h) | inr fails ↦ inr (λ e. fails (exact.1 e)) ]
@@ -114,12 +114,12 @@ among_decided (n ∷ ns) m =
       | inr other ↦ elim (among_decided ns m) [ inl h ↦ inl (inr h) | inr fails ↦ inr (λ h. elim h [ inl e ↦ other e | inr r ↦ fails r ]) ]
     ]
 
--- what is looked for is found
-abbrev Found : {A : Type 0} → (A → Type 0) → Type 0
-Found {A} P = (x : A) × P x
+-- what exists is found
+abbrev ValidationResult : {A : Type 0} → (A → Type 0) → Type 0
+ValidationResult {A} P = (x : A) × P x
 
-module _ (ms : List Mark) (kind : Kind) (ats : List Attr) where
-  valued_key : (key : Key) (value : Option (List ℕ)) → key_of kind ≡ Some key → value_of key ats ≡ value → Found (RepeatedKey ms kind ats)
+module _ (ms : List Mark) (kind : ElementKind) (ats : List Attr) where
+  valued_key : (key : Key) (value : Option (List ℕ)) → key_of kind ≡ Some key → value_of key ats ≡ value → ValidationResult (RepeatedKey ms kind ats)
   valued_key key None of_kind written = (
     None,
     λ other. (
@@ -145,94 +145,94 @@ module _ (ms : List Mark) (kind : Kind) (ats : List Attr) where
         )
       ]
 
-  repeated_key : (key : Option Key) → key_of kind ≡ key → Found (RepeatedKey ms kind ats)
+  repeated_key : (key : Option Key) → key_of kind ≡ key → ValidationResult (RepeatedKey ms kind ats)
   repeated_key None of_kind = (None, λ other. (λ e. cc, λ h. (let e : None ≡ Some other = sym of_kind ∙ h.1.0 in cc)))
   repeated_key (Some key) of_kind = valued_key key (value_of key ats) of_kind refl
 
--- the first clash at an element behind its siblings, where that below it is found
-module _ (row : Kind) (c : Scope) (ms : List Mark) (kid : Tree) (here : List ℕ) where
-  of_kind_first : (kind : Kind) → kind_of row (inside c kid) kid.name ≡ Some kind → Found (RepeatedKey ms kind kid.attrs) → Found (IsFirst (RepeatsAt kind (inside c kid) (kids_of kid)) here)
-      → Found (IsFirst (RepeatsHere row c ms kid) here)
-  of_kind_first kind e (None, h) below = (below.0, at_below row c ms kid kind e here below.0 h below.1)
+-- the first clash at an element after its siblings, where the one below it is found
+module _ (row : ElementKind) (c : Scope) (ms : List Mark) (child_element : Tree) (here : List ℕ) where
+  of_kind_first : (kind : ElementKind) → kind_of row (inside c child_element) child_element.name ≡ Some kind → ValidationResult (RepeatedKey ms kind child_element.attrs) → ValidationResult (IsFirst (RepeatsAt kind (inside c child_element) (child_elements_of child_element)) here)
+      → ValidationResult (IsFirst (RepeatsHere row c ms child_element) here)
+  of_kind_first kind e (None, h) below = (below.0, at_below row c ms child_element kind e here below.0 h below.1)
   of_kind_first kind e (Some key, h) below =
       let clash : Clash = record { path = here; key = key } in
-      (Some clash, at_here row c ms kid kind e here clash refl h)
+      (Some clash, at_here row c ms child_element kind e here clash refl h)
 
-  first_here : (kind : Option Kind) → kind_of row (inside c kid) kid.name ≡ kind → ((k : Kind) → Found (IsFirst (RepeatsAt k (inside c kid) (kids_of kid)) here)) → Found (IsFirst (RepeatsHere row c ms kid) here)
-  first_here None e below = (None, at_none row c ms kid here e)
-  first_here (Some kind) e below = of_kind_first kind e (repeated_key ms kind kid.attrs (key_of kind) refl) (below kind)
+  first_here : (kind : Option ElementKind) → kind_of row (inside c child_element) child_element.name ≡ kind → ((k : ElementKind) → ValidationResult (IsFirst (RepeatsAt k (inside c child_element) (child_elements_of child_element)) here)) → ValidationResult (IsFirst (RepeatsHere row c ms child_element) here)
+  first_here None e below = (None, at_none row c ms child_element here e)
+  first_here (Some kind) e below = of_kind_first kind e (repeated_key ms kind child_element.attrs (key_of kind) refl) (below kind)
 
-child_behind : (front rest : List Tree) (kid : Tree) → slice_get (front ++ kid ∷ rest) (length front) ≡ Some kid
-child_behind [] rest kid = refl
-child_behind (x ∷ front) rest kid = child_behind front rest kid
+child_behind : (front rest : List Tree) (child_element : Tree) → slice_get (front ++ child_element ∷ rest) (length front) ≡ Some child_element
+child_behind [] rest child_element = refl
+child_behind (x ∷ front) rest child_element = child_behind front rest child_element
 
-one_longer : (front : List Tree) (kid : Tree) → length (front ++ kid ∷ []) ≡ suc (length front)
-one_longer [] kid = refl
-one_longer (x ∷ front) kid = ap suc (one_longer front kid)
+one_longer : (front : List Tree) (child_element : Tree) → length (front ++ child_element ∷ []) ≡ suc (length front)
+one_longer [] child_element = refl
+one_longer (x ∷ front) child_element = ap suc (one_longer front child_element)
 
--- the first is that of one relation, or else of another
-here_or_later : (R S : List ℕ → Key → Type 0) (here base : List ℕ) → Found (IsFirst R here) → ((clash : Clash) → IsFirst R here (Some clash) → IsFirst S base (Some clash)) → (IsFirst R here None → Found (IsFirst S base)) → Found (IsFirst S base)
+-- the first clash of one relation, or else of another
+here_or_later : (R S : List ℕ → Key → Type 0) (here base : List ℕ) → ValidationResult (IsFirst R here) → ((clash : Clash) → IsFirst R here (Some clash) → IsFirst S base (Some clash)) → (IsFirst R here None → ValidationResult (IsFirst S base)) → ValidationResult (IsFirst S base)
 here_or_later R S here base (None, h) is later = later h
 here_or_later R S here base (Some clash, h) is later = (Some clash, is clash h)
 
--- the first clash among the children of an element, those in front of this content passed
-first_clash : (content : Content) (row : Kind) (c : Scope) (xs front : List Tree) (base : List ℕ) → xs ≡ front ++ kids content → NoneBefore row c xs (length front) → Found (IsFirst (RepeatsAt row c xs) base)
+-- the first clash among the children of an element, after the ones before this content
+first_clash : (content : Content) (row : ElementKind) (c : Scope) (xs front : List Tree) (base : List ℕ) → xs ≡ front ++ child_elements content → NoneBefore row c xs (length front) → ValidationResult (IsFirst (RepeatsAt row c xs) base)
 first_clash (last t) row c xs front base is none = (None, none_at_end row c xs (length front) (ap length (sym (is ∙ append-nil front))) none)
-first_clash (note t text rest) row c xs front base is none = first_clash rest row c xs front base is none
+first_clash (comment_node t text rest) row c xs front base is none = first_clash rest row c xs front base is none
 first_clash (more t n ds ats k rest) row c xs front base is none =
-    let kid : Tree = tree_of n ds ats k in
+    let child_element : Tree = tree_of n ds ats k in
     let place : ℕ = length front in
     let here : List ℕ = base ++ place ∷ [] in
-    let there : slice_get xs place ≡ Some kid = ap (λ (l : List Tree). slice_get l place) is ∙ child_behind front (kids rest) kid in
-    let at_kid = first_here row c (marks_of row c (take place xs)) kid here (kind_of row (inside c kid) kid.name) refl
-    (λ kind. first_clash k kind (inside c kid) (kids k) [] here refl (λ i p key less r. absurd (omega (arith, less)))) in
-    here_or_later (RepeatsHere row c (marks_of row c (take place xs)) kid) (RepeatsAt row c xs) here base at_kid (λ clash h. found row c xs kid place there base here clash refl none h)
-    (λ h. first_clash rest row c xs (front ++ kid ∷ []) base (is ∙ sym (append_assoc front (kid ∷ []) (kids rest)))
-    (passed row c xs kid place there none h (length (front ++ kid ∷ [])) (one_longer front kid)))
+    let there : slice_get xs place ≡ Some child_element = ap (λ (l : List Tree). slice_get l place) is ∙ child_behind front (child_elements rest) child_element in
+    let at_kid = first_here row c (marks_of row c (take place xs)) child_element here (kind_of row (inside c child_element) child_element.name) refl
+    (λ kind. first_clash k kind (inside c child_element) (child_elements k) [] here refl (λ i p key less r. absurd (omega (arith, less)))) in
+    here_or_later (RepeatsHere row c (marks_of row c (take place xs)) child_element) (RepeatsAt row c xs) here base at_kid (λ clash h. found row c xs child_element place there base here clash refl none h)
+    (λ h. first_clash rest row c xs (front ++ child_element ∷ []) base (is ∙ sym (append_assoc front (child_element ∷ []) (child_elements rest)))
+    (passed row c xs child_element place there none h (length (front ++ child_element ∷ [])) (one_longer front child_element)))
 
--- ---- the judgement
+-- ---- the first fault
 
-pub from_top : (usage : Usage) (t : Tree) (o : Option Clash) → IsFirst (RepeatsAt (root_kind usage) (t.decls ∷ []) (kids_of t)) [] o → IsFirstClash usage t o
+pub from_top : (usage : Usage) (t : Tree) (o : Option Clash) → IsFirst (RepeatsAt (root_kind usage) (t.decls ∷ []) (child_elements_of t)) [] o → IsFirstClash usage t o
 from_top usage t None h = h
 from_top usage t (Some clash) h =
     (subst (λ (p : List ℕ). Clashes usage t p clash.key) (sym h.1.0) h.1.1, λ q key r. subst (λ (p : List ℕ). NoLater p q) (sym h.1.0) (h.1.2 q key r))
 
-clash_judged : (usage : Usage) (t : Tree) → Schema usage t → Constraints usage t → (o : Option Clash) → IsFirstClash usage t o → Found (Judged usage t)
+clash_judged : (usage : Usage) (t : Tree) → IsValidDocument usage t → MeetsConstraints usage t → (o : Option Clash) → IsFirstClash usage t o → ValidationResult (HasFirstFault usage t)
 clash_judged usage t valid formed None h = (None, (valid, formed, h))
 clash_judged usage t valid formed (Some clash) h = (Some (Repeated clash), (valid, formed, h))
 
-pub judgement : (usage : Usage) (t : Tree) → (fault : Option Fault) × Judged usage t fault
+pub judgement : (usage : Usage) (t : Tree) → (fault : Option Fault) × HasFirstFault usage t fault
 judgement usage t =
     elim (schema_decided usage t) [
       | inr fails ↦ (Some Invalid, fails)
       | inl valid ↦ elim (formed_decided t.content (root_kind usage) (t.decls ∷ [])) [
         | inr fails ↦ (Some Unformed, (valid, fails))
-        | inl formed ↦ (let first = first_clash t.content (root_kind usage) (t.decls ∷ []) (kids_of t) [] [] refl (λ i p key less r. absurd (omega (arith, less))) in
+        | inl formed ↦ (let first = first_clash t.content (root_kind usage) (t.decls ∷ []) (child_elements_of t) [] [] refl (λ i p key less r. absurd (omega (arith, less))) in
             clash_judged usage t valid formed first.0 (from_top usage t first.0 first.1))
       ]
     ]
 
--- ---- the first clash is one
+-- ---- there is one first clash
 
 one_some : {A : Type 0} (o : Option A) (x y : A) → o ≡ Some x → o ≡ Some y → x ≡ y
 one_some o x y p q = let both : Some x ≡ Some y = sym p ∙ q in cc
 
-repeats_one : (row : Kind) (c : Scope) (kids : List Tree) (i : ℕ) (key other : Key) → Repeats row c kids i key → Repeats row c kids i other → key ≡ other
-repeats_one row c kids i key other r s =
+repeats_one : (row : ElementKind) (c : Scope) (child_elements : List Tree) (i : ℕ) (key other : Key) → Repeats row c child_elements i key → Repeats row c child_elements i other → key ≡ other
+repeats_one row c child_elements i key other r s =
     let same = one_some _ r.shared s.shared r.this s.this in
     one_some (key_of s.shared.kind) key other (ap (λ m. key_of m.kind) (sym same) ∙ r.by_key) s.by_key
 
-key_one : (row : Kind) (c : Scope) (kids : List Tree) (p : List ℕ) (key other : Key) → RepeatsAt row c kids p key → RepeatsAt row c kids p other → key ≡ other
-key_one row c kids [] key other r s = absurd r
-key_one row c kids (i ∷ []) key other r s = repeats_one row c kids i key other r s
-key_one row c kids (i ∷ n ∷ p) key other (kid, (kind, (there, of_kind, r))) (kid', (kind', (there', of_kind', s))) =
-    let same_kid = one_some (slice_get kids i) kid' kid there' there in
-    let same_kind = one_some (kind_of row (inside c kid) kid.name) kind' kind (ap (λ (k : Tree). kind_of row (inside c k) k.name) (sym same_kid) ∙ of_kind') of_kind in
-    let s_here : RepeatsAt kind (inside c kid) (kids_of kid) (n ∷ p) other =
-    subst (λ (k : Kind). RepeatsAt k (inside c kid) (kids_of kid) (n ∷ p) other) same_kind (subst (λ (k : Tree). RepeatsAt kind' (inside c k) (kids_of k) (n ∷ p) other) same_kid s) in
-    key_one kind (inside c kid) (kids_of kid) (n ∷ p) key other r s_here
+key_one : (row : ElementKind) (c : Scope) (child_elements : List Tree) (p : List ℕ) (key other : Key) → RepeatsAt row c child_elements p key → RepeatsAt row c child_elements p other → key ≡ other
+key_one row c child_elements [] key other r s = absurd r
+key_one row c child_elements (i ∷ []) key other r s = repeats_one row c child_elements i key other r s
+key_one row c child_elements (i ∷ n ∷ p) key other (child_element, (kind, (there, of_kind, r))) (child_element', (kind', (there', of_kind', s))) =
+    let same_kid = one_some (slice_get child_elements i) child_element' child_element there' there in
+    let same_kind = one_some (kind_of row (inside c child_element) child_element.name) kind' kind (ap (λ (k : Tree). kind_of row (inside c k) k.name) (sym same_kid) ∙ of_kind') of_kind in
+    let s_here : RepeatsAt kind (inside c child_element) (child_elements_of child_element) (n ∷ p) other =
+    subst (λ (k : ElementKind). RepeatsAt k (inside c child_element) (child_elements_of child_element) (n ∷ p) other) same_kind (subst (λ (k : Tree). RepeatsAt kind' (inside c k) (child_elements_of k) (n ∷ p) other) same_kid s) in
+    key_one kind (inside c child_element) (child_elements_of child_element) (n ∷ p) key other r s_here
 
--- two paths of which neither is later are one
+-- two paths of which neither is later are equal
 path_one : (p q : List ℕ) → NoLater p q → NoLater q p → p ≡ q
 path_one [] [] h k = refl
 path_one [] (m ∷ q) h k = absurd k
@@ -246,14 +246,14 @@ clash_one : (usage : Usage) (t : Tree) (clash other : Clash) → IsFirstClash us
 clash_one usage t clash other f g =
     let path = path_one clash.path other.path (f.1 other.path other.key g.0) (g.1 clash.path clash.key f.0) in
     let here : Clashes usage t other.path clash.key = subst (λ (p : List ℕ). Clashes usage t p clash.key) path f.0 in
-    let key = key_one (root_kind usage) (t.decls ∷ []) (kids_of t) other.path clash.key other.key here g.0 in
+    let key = key_one (root_kind usage) (t.decls ∷ []) (child_elements_of t) other.path clash.key other.key here g.0 in
     let with_path : List ℕ → Clash = λ p. record { path = p; key = clash.key } in
     let with_key : Key → Clash = λ k. record { path = other.path; key = k } in
     ap with_path path ∙ ap with_key key
 
--- ---- there is one judgement
+-- ---- there is one result
 
-pub judged_one : (usage : Usage) (t : Tree) (one other : Option Fault) → Judged usage t one → Judged usage t other → one ≡ other
+pub judged_one : (usage : Usage) (t : Tree) (one other : Option Fault) → HasFirstFault usage t one → HasFirstFault usage t other → one ≡ other
 judged_one usage t (Some Invalid) (Some Invalid) j k = refl
 judged_one usage t (Some Invalid) (Some Unformed) j k = absurd (j k.0)
 judged_one usage t (Some Invalid) (Some (Repeated clash)) j k = absurd (j k.0)

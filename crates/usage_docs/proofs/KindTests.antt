@@ -1,10 +1,10 @@
--- Kinds, and what children are, are told apart.
+-- Tests of equality for kinds and for children's classes.
 use Rattle.std.proofs.Common.{◌≡◌, ◌↔◌, ◌⊎◌, Bool, true, false, ◌||◌, List, [], ◌∷◌, IsTrue, refl, ap, inl, inr}
-use Rattle.usage_docs.specs.declared.rows.Kind.{Kind}
-use Rattle.usage_docs.specs.declared.rows.Kind.TheVariants.{ResourceLists, EntryList, Entry, EntryRef, External, DisplayName, RlsServices, Service, ResourceList, Packages, Package}
-use Rattle.usage_docs.specs.Rows.{Child, known, foreign, stray, IsIn}
+use Rattle.usage_docs.specs.declared.schema_table.ElementKind.{ElementKind}
+use Rattle.usage_docs.specs.declared.schema_table.ElementKind.TheVariants.{ResourceLists, EntryList, Entry, EntryRef, External, DisplayName, RlsServices, Service, ResourceList, Packages, Package}
+use Rattle.usage_docs.specs.SchemaTable.{Child, known, foreign, stray, IsIn}
 
-abbrev pub same_kind : Kind → Kind → Bool
+abbrev pub same_kind : ElementKind → ElementKind → Bool
 same_kind ResourceLists ResourceLists = true
 same_kind EntryList EntryList = true
 same_kind Entry Entry = true
@@ -18,7 +18,7 @@ same_kind Packages Packages = true
 same_kind Package Package = true
 same_kind _ _ = false
 
-pub same_kind_exact : (one other : Kind) → IsTrue (same_kind one other) ↔ (one ≡ other)
+pub same_kind_exact : (one other : ElementKind) → IsTrue (same_kind one other) ↔ (one ≡ other)
 same_kind_exact ResourceLists ResourceLists = (λ _. refl, λ _. refl)
 same_kind_exact EntryList EntryList = (λ _. refl, λ _. refl)
 same_kind_exact Entry Entry = (λ _. refl, λ _. refl)
@@ -38,7 +38,7 @@ same_child foreign foreign = true
 same_child stray stray = true
 same_child _ _ = false
 
-known_one : (one other : Kind) → known one ≡ known other → one ≡ other
+known_one : (one other : ElementKind) → known one ≡ known other → one ≡ other
 known_one one other e = cc
 
 same_child_exact : (one other : Child) → IsTrue (same_child one other) ↔ (one ≡ other)
@@ -47,7 +47,7 @@ same_child_exact foreign foreign = (λ _. refl, λ _. refl)
 same_child_exact stray stray = (λ _. refl, λ _. refl)
 same_child_exact _ _ = (λ h. cc, λ e. cc)
 
--- one of some children is this one
+-- one of these children equals this one
 abbrev pub is_in : List Child → Child → Bool
 is_in [] x = false
 is_in (y ∷ ys) x = same_child y x || is_in ys x

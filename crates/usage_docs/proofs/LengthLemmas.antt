@@ -1,5 +1,5 @@
--- The printed length of what is bound inside an element, by that of what is bound around it and of what it binds; and of services
--- as the index shows them.
+-- The printed length of the bindings inside an element, by the length of the bindings around it
+-- and of its own; and of services as the index lists them.
 use Rattle.std.proofs.Common.{◌≡◌, Ordering, Less, Equal, Greater, ℕ, ◌+◌, ◌<◌, min, Bool, true, false, cond, List, [], ◌∷◌, ◌++◌, length, get_or, drop, filter, flat_map, Option, Some, None, is_none, bytes_eq, refl, sym, ap, ◌∙◌, append-nil, arith}
 use Rattle.std.proofs.lemmas.List.Concat.{flat_map-append}
 use Rattle.std.proofs.lemmas.List.Elements.{filter-append}
@@ -20,7 +20,7 @@ use Rattle.xml_tree.proofs.ByteOrder.{order, order_same, order_equal}
 use Rattle.xml_tree.proofs.GatheringLemmas.{gathered-append}
 use Rattle.xml_tree.proofs.PrintLengths.{byte_len-append, byte_len-opening}
 use Rattle.xml_tree.proofs.ScopeLemmas.{drop_item, option_or-none}
-use Rattle.usage_docs.specs.Rows.{Scope}
+use Rattle.usage_docs.specs.SchemaTable.{Scope}
 use Rattle.usage_docs.specs.Services.{listed_as}
 use Rattle.usage_docs.specs.readers.Listing.{elems_len, listed_nodes}
 use Rattle.usage_docs.specs.readers.Lengths.{decls_len}
@@ -39,7 +39,7 @@ turned a b = omega arith
 grouped : (a b c : ℕ) → a + (b + c) ≡ (a + b) + c
 grouped a b c = omega arith
 
--- sums that stop at the greatest number
+-- sums capped at the greatest number
 module _ (m : ℕ) where
   pub two_capped : (a b p q r w : ℕ) → p ≡ min a m → q ≡ min b m → r ≡ min (p + q) m → w ≡ a + b → r ≡ min w m
   two_capped a b p q r w first second made whole = omega arith
@@ -57,7 +57,7 @@ first_more d ds = byte_len-append (print_decl d) (flat_map print_decl ds)
 pub only_one : (d : Decl) → decls_len (d ∷ []) ≡ byte_len (print_decl d)
 only_one d = first_more d [] ∙ sym (zero_behind (byte_len (print_decl d)))
 
--- that of an element without its declarations, and of these
+-- the length of an element without its declarations, and of its declarations
 whole_opening : (w b o p e d x y : ℕ) → w ≡ o + e → b ≡ p + e → o ≡ x + (d + y) + 1 → p ≡ x + (0 + y) + 1 → w ≡ b + d
 whole_opening w b o p e d x y whole bare begins alone = omega arith
 
@@ -66,7 +66,7 @@ with_decls n ds ats k =
     let end = ending n (is_empty k) (print_content k) in
     whole_opening _ _ _ _ _ _ _ _ (byte_len-append (opening n ds ats) end) (byte_len-append (opening n [] ats) end) (byte_len-opening n ds ats) (byte_len-opening n [] ats)
 
--- ---- the bindings whose prefixes declarations leave alone
+-- ---- the bindings whose prefixes declarations don't redeclare
 abbrev pub kept : List Decl → List Decl → List Decl
 kept own bs = filter (λ b. is_none (declared own b.prefix)) bs
 
@@ -75,7 +75,8 @@ all_kept : (bs : List Decl) → kept [] bs ≡ bs
 all_kept [] = refl
 all_kept (b ∷ bs) = ap (λ (ds : List Decl). b ∷ ds) (all_kept bs)
 
--- ---- what is left of a list of declarations: those that bind, and whose prefixes others leave alone
+-- ---- what is left of a list of declarations: the ones that bind, and whose prefixes others
+-- don't redeclare
 abbrev left : List Decl → List Decl → ℕ
 left own g = decls_len (kept own (filter binds g))
 
@@ -84,7 +85,7 @@ two own a b =
     ap (λ (ds : List Decl). decls_len (kept own ds)) (filter-append binds a b)
     ∙ ap decls_len (filter-append (λ (x : Decl). is_none (declared own x.prefix)) (filter binds a) (filter binds b)) ∙ decls_two (kept own (filter binds a)) (kept own (filter binds b))
 
--- one declaration, by a test of those that others leave alone
+-- one declaration, by whether others redeclare it
 module _ (x : Decl) where
   same_test : (f g : Decl → Bool) → f x ≡ g x → decls_len (filter f (filter binds (x ∷ []))) ≡ decls_len (filter g (filter binds (x ∷ [])))
   same_test f g e = by (binds x)
@@ -100,7 +101,7 @@ module _ (x : Decl) where
       by true = ap (λ (t : Bool). decls_len (cond t (x ∷ []) [])) e
       by false = refl
 
--- one more declaration of another prefix, and of the same
+-- one more declaration of another prefix, and of the same prefix
 module _ (d : Decl) (ds : List Decl) where
   tested : (x : Decl) (b : Bool) → bytes_eq d.prefix x.prefix ≡ b → is_none (declared (d ∷ ds) x.prefix) ≡ is_none (option_or (declared ds x.prefix) (cond b (Some d.uri) None))
   tested x b e = ap (λ (t : Bool). is_none (option_or (declared ds x.prefix) (cond t (Some d.uri) None))) e
@@ -123,7 +124,7 @@ unlike p q apart = by (bytes_eq p q) refl
     by false e = refl
     by true e = let same : p ≡ q = (bytes_decides p q).0 e in absurd (apart (ap (order p) (sym same) ∙ order_same p))
 
--- what stands behind a prefix is left as it was by a declaration of it
+-- a declaration of a prefix doesn't change the ones after it
 all_left : (d : Decl) (ds g : List Decl) → Behind d.prefix g → left (d ∷ ds) g ≡ left ds g
 all_left d ds [] h = refl
 all_left d ds (x ∷ g) h =
@@ -131,7 +132,7 @@ all_left d ds (x ∷ g) h =
     let others = all_left d ds g h.1 in
     two (d ∷ ds) (x ∷ []) g ∙ (λ i. first i + others i) ∙ sym (two ds (x ∷ []) g)
 
--- one declaration more around others
+-- one more declaration around others
 one_more : (d : Decl) (ds g : List Decl) → AreInOrder g → left ds (placed d g) ≡ left (d ∷ ds) g + left ds (d ∷ [])
 one_more d ds [] h = sym (zero_before (left ds (d ∷ [])))
 one_more d ds (x ∷ g) h = by (order d.prefix x.prefix) refl (AreInOrder-placed d (x ∷ g) h) (one_more d ds g h.1)
@@ -158,7 +159,7 @@ all_more (d ∷ ds) g h =
     all_more ds (placed d g) (AreInOrder-placed d g h) ∙ ap (λ (n : ℕ). n + inner) (one_more d ds g h) ∙ sym (grouped (left (d ∷ ds) g) (left ds (d ∷ [])) inner)
     ∙ ap (λ (n : ℕ). left (d ∷ ds) g + n) (sym (all_more ds (d ∷ []) (tt, tt)))
 
--- what is gathered inside a child of a root
+-- the declarations collected inside a child of a root
 gathered_inside : (root own : List Decl) → decls_len (gathered_bindings (root ∷ own ∷ [])) ≡ decls_len (kept own (gathered_bindings (root ∷ []))) + decls_len (gathered_bindings (own ∷ []))
 gathered_inside root own =
     let inner = decls_len (gathered_bindings (own ∷ [])) in
@@ -167,19 +168,19 @@ gathered_inside root own =
     ∙ ap (λ (ds : List Decl). left ds (gathered [] root) + inner) (append-nil own)
     ∙ ap (λ (ds : List Decl). left own (gathered [] ds) + inner) (sym (append-nil root))
 
--- what is bound there
+-- the bindings there
 pub bound_inside : (root own : List Decl) → decls_len (bindings_in (root ∷ own ∷ [])) ≡ decls_len (kept own (bindings_in (root ∷ []))) + decls_len (bindings_in (own ∷ []))
 bound_inside root own =
     ap decls_len (sym (gathered_are (root ∷ own ∷ []))) ∙ gathered_inside root own
     ∙ ap (λ (ds : List Decl). decls_len (kept own ds) + decls_len (gathered_bindings (own ∷ []))) (gathered_are (root ∷ []))
     ∙ ap (λ (ds : List Decl). decls_len (kept own (bindings_in (root ∷ []))) + decls_len ds) (gathered_are (own ∷ []))
 
--- ---- a service as the index shows it
+-- ---- a service as the index lists it
 no_decls : (ds : List Decl) → length ds ≡ 0 → ds ≡ []
 no_decls [] h = refl
 no_decls (d ∷ ds) h = absurd (omega (arith, h))
 
--- one without declarations
+-- a service without declarations
 pub plain_service : (root : List Decl) (e : Tree) → length e.decls ≡ 0 → byte_len (print (listed_as (root ∷ []) e)) ≡ byte_len (print e) + decls_len (bindings_in (root ∷ []))
 plain_service root e h =
     let none = no_decls e.decls h in
@@ -187,7 +188,7 @@ plain_service root e h =
     ∙ with_decls e.name (bindings_in (root ∷ [])) e.attrs e.content
     ∙ ap (λ (ds : List Decl). byte_len (print (tree_of e.name ds e.attrs e.content)) + decls_len (bindings_in (root ∷ []))) (sym none)
 
--- one with declarations, by what it is without them
+-- a service with declarations, by its length without them
 pub own_service : (root : List Decl) (e : Tree)
     → byte_len (print (listed_as (root ∷ []) e))
     ≡ byte_len (print (tree_of e.name [] e.attrs e.content)) + (decls_len (kept e.decls (bindings_in (root ∷ []))) + decls_len (bindings_in (e.decls ∷ [])))

@@ -16,9 +16,9 @@ pub mod Neighbours
 pub mod NodesFormed
 pub mod NodesValid
 pub mod RepeatLemmas
+pub mod ScanLemmas
 pub mod Segments
 pub mod TextsRead
 pub mod UriLemmas
 pub mod Walking
 pub mod Words
-pub mod ScanLemmas

@@ -1,20 +1,20 @@
 -- The services of the index, and its printed length.
 use Rattle.std.proofs.Common.{◌≡◌, ◌≤◌, ◌<◌, ◌+◌, ◌==◌, if◌then◌else◌, ℕ, min, Bool, true, false, cond, List, [], ◌∷◌, ◌++◌, length, take, drop, map, filter, flat_map, refl, ap, sym, ◌∙◌, arith, append-nil}
-use Rattle.xml_tree.specs.Tree.{Content, Tree, tree_of, kids, kids_of}
+use Rattle.xml_tree.specs.Tree.{Content, Tree, tree_of, child_elements, child_elements_of}
 use Rattle.xml_tree.specs.Nodes.{content_of, nodes_of, exchange_nodes}
 use Rattle.xml_tree.specs.Print.{print, print_content, opening, closing, byte_len}
 use Rattle.xml_tree.proofs.PrintLengths.{byte_len-append, ascii}
 use Rattle.xml_tree.specs.declared.tree.Node.{Node}
 use Rattle.xml_tree.specs.declared.tree.Node.TheVariants.{Elem, Chars, Comment}
 use lib.Utf8.{encode}
-use Rattle.usage_docs.specs.Rows.{Scope, services_space}
-use Rattle.usage_docs.specs.declared.listing.IndexFault.TheVariants.{TooLarge}
+use Rattle.usage_docs.specs.SchemaTable.{Scope, services_namespace}
+use Rattle.usage_docs.specs.declared.service_index.IndexFault.TheVariants.{TooLarge}
 use Rattle.std.proofs.lemmas.Str.{length-le-encodes}
 use Rattle.std.proofs.lemmas.Bool.Decides.{nat_tests}
 use Rattle.usage_docs.specs.Services.{index_limit, RefusesServices, is_service, listed_as, index_name, index_decls, index_of, index_text, index_len}
 use Rattle.usage_docs.specs.readers.Listing.{listed_nodes, elems_len}
 use Rattle.usage_docs.specs.inner.Indexes.{len_with}
-use Rattle.usage_docs.specs.readers.Siblings.{node_kids}
+use Rattle.usage_docs.specs.readers.Siblings.{node_children}
 use Rattle.usage_docs.proofs.ClashLemmas.{kids_are}
 
 -- ---- the services among nodes
@@ -24,16 +24,16 @@ one_listed f true e es = refl
 one_listed f false e es = refl
 
 pub listed_step : (c : Scope) (n : Node) (ns : List Node) → listed_nodes c (n ∷ ns) ≡ listed_nodes c (n ∷ []) ++ listed_nodes c ns
-listed_step c (Elem e) ns = one_listed (listed_as c) (is_service c e) e (filter (is_service c) (node_kids ns))
+listed_step c (Elem e) ns = one_listed (listed_as c) (is_service c e) e (filter (is_service c) (node_children ns))
 listed_step c (Chars t) ns = refl
 listed_step c (Comment x) ns = refl
 
-pub all_listed : (c : Scope) (ns : List Node) (content : Content) → content_of ns ≡ content → listed_nodes c ns ≡ map Elem (map (listed_as c) (filter (is_service c) (kids content)))
+pub all_listed : (c : Scope) (ns : List Node) (content : Content) → content_of ns ≡ content → listed_nodes c ns ≡ map Elem (map (listed_as c) (filter (is_service c) (child_elements content)))
 all_listed c ns content e = ap (λ ks. map Elem (map (listed_as c) (filter (is_service c) ks))) (sym (kids_are ns content e))
 
 -- ---- its children
 
-pub kids_of_elems : (ss : List Tree) → kids (content_of (map Elem ss)) ≡ ss
+pub kids_of_elems : (ss : List Tree) → child_elements (content_of (map Elem ss)) ≡ ss
 kids_of_elems [] = refl
 kids_of_elems (s ∷ ss) = ap (λ ks. s ∷ ks) (kids_of_elems ss)
 
@@ -53,7 +53,7 @@ drop_all : (ns : List Node) → drop (length ns) ns ≡ []
 drop_all [] = refl
 drop_all (n ∷ ns) = drop_all ns
 
--- more services behind the others
+-- more services after the others
 pub more_services : (root : Tree) (ss new : List Tree) (end : ℕ) → root ≡ index_of ss → end ≡ length (nodes_of root.content) → exchange_nodes end end (map Elem new) root ≡ index_of (ss ++ new)
 more_services root ss new end is at =
     let nodes = ap (λ (t : Tree). nodes_of t.content) is ∙ nodes_of_elems ss in
@@ -79,7 +79,7 @@ inner_len (s ∷ ss) = let e = byte_len-append (print s) (print_content (content
 print_some : (s : Tree) → 0 < byte_len (print s)
 print_some s = omega (arith, length-le-encodes (print s))
 
--- the length by that of the services
+-- the length by the length of the services
 abbrev whole_len : ℕ → ℕ
 whole_len inner = if inner == 0 then 106 else (inner + 124)
 
@@ -87,7 +87,7 @@ whole_some : (n : ℕ) → 0 < n → whole_len n ≡ n + 124
 whole_some n h = grind (arith, nat_tests)
 
 index_len_is : (ss : List Tree) → index_len ss ≡ whole_len (elems_len (map Elem ss))
-unfolding index_name index_decls services_space encode
+unfolding index_name index_decls services_namespace encode
 index_len_is [] = refl
 index_len_is (s ∷ ss) =
     let p = print_content (content_of (map Elem (s ∷ ss))) in
@@ -107,7 +107,7 @@ len_at n t e = grind (arith, nat_tests)
 whole_above : (n : ℕ) → n ≤ whole_len n
 whole_above n = grind (arith, nat_tests)
 
--- what an index is to have, by the length of the services that it has and of those to be added
+-- the length of the index to be, by the length of its services and of the services to be added
 module _ (ss new : List Tree) (inner total len : ℕ) (counted : inner ≡ elems_len (map Elem ss)) (added : total ≡ min (inner + min (elems_len (map Elem new)) 18446744073709551615) 18446744073709551615) (is : len ≡ len_with total) where
   total_is : total ≡ min (elems_len (map Elem (ss ++ new))) 18446744073709551615
   total_is = let e = elems_two ss new in omega arith
@@ -133,8 +133,8 @@ module _ (ss new : List Tree) (inner total len : ℕ) (counted : inner ≡ elems
 pub grown : (root before : Tree) (nodes : List Node) (ss new : List Tree) (end : ℕ) → root ≡ exchange_nodes end end nodes before → nodes ≡ map Elem new → before ≡ index_of ss → end ≡ length (nodes_of before.content) → root ≡ index_of (ss ++ new)
 grown root before nodes ss new end made are is at = made ∙ ap (λ ns. exchange_nodes end end ns before) are ∙ more_services before ss new end is at
 
-pub kids_grown : (root : Tree) (ss : List Tree) → root ≡ index_of ss → kids_of root ≡ ss
-kids_grown root ss is = ap kids_of is ∙ kids_of_elems ss
+pub kids_grown : (root : Tree) (ss : List Tree) → root ≡ index_of ss → child_elements_of root ≡ ss
+kids_grown root ss is = ap child_elements_of is ∙ kids_of_elems ss
 
 -- ---- its print
 
@@ -143,6 +143,6 @@ prints [] = refl
 prints (s ∷ ss) = ap (λ x. print s ++ x) (prints ss)
 
 pub index_prints : (ss : List Tree) → print (index_of ss) ≡ index_text ss
-unfolding index_name index_decls services_space
+unfolding index_name index_decls services_namespace
 index_prints [] = refl
 index_prints (s ∷ ss) = ap (λ p. opening index_name index_decls [] ++ (62 ∷ (p ++ closing index_name))) (prints (s ∷ ss))

@@ -1,15 +1,16 @@
--- Children match the model of their kind exactly where each may stand behind the one before it, by their parts.
+-- Children match the content model of their parent's kind exactly when each may come after the
+-- one before it, by their parts.
 use Rattle.std.proofs.Common.{◌≡◌, ◌↔◌, ◌⊎◌, ◌<◌, ◌≤◌, ℕ, suc, nat_lt, nat_eq, nat_le, Bool, true, false, not, ◌&&◌, ◌||◌, List, [], ◌∷◌, IsTrue, refl, sym, subst, inl, inr, arith}
 use Rattle.std.proofs.lemmas.Bool.Decides.{nat_tests}
 use Rattle.std.proofs.lemmas.Bool.{cases_lt}
-use Rattle.usage_docs.specs.declared.rows.Kind.{Kind}
-use Rattle.usage_docs.specs.declared.rows.Kind.TheVariants.{ResourceLists, EntryList, Entry, EntryRef, External, DisplayName, RlsServices, Service, ResourceList, Packages, Package}
-use Rattle.usage_docs.specs.Rows.{Child, known, foreign, one, opt, any, ends, takes, may_take, takes_none, takes_more, takes_no_more, IsIn, model_of, items_in, children_in, ModelItem as Item, MatchesModel as Matches}
+use Rattle.usage_docs.specs.declared.schema_table.ElementKind.{ElementKind}
+use Rattle.usage_docs.specs.declared.schema_table.ElementKind.TheVariants.{ResourceLists, EntryList, Entry, EntryRef, External, DisplayName, RlsServices, Service, ResourceList, Packages, Package}
+use Rattle.usage_docs.specs.SchemaTable.{Child, known, foreign, one, opt, any, ends, takes, may_take, takes_none, takes_more, takes_no_more, IsIn, content_model_of, items_in, children_in, ModelItem as Item, MatchesModel as Matches}
 use Rattle.usage_docs.specs.readers.Parts.{part_named, foreign_part, single_parts, needs_first, follows, part_in, end}
 use Rattle.usage_docs.proofs.KindTests.{is_in, is_in_exact}
 
--- children behind one of the part `before`, each behind the one before it
-abbrev pub Chain : Kind → ℕ → List Child → Type 0
+-- children after one of the part `before`, each after the one before it
+abbrev pub Chain : ElementKind → ℕ → List Child → Type 0
 Chain kind before [] = IsTrue (follows kind before end)
 Chain kind before (x ∷ xs) = IsTrue (follows kind before (part_in kind x)) × Chain kind (part_in kind x) xs
 
@@ -45,9 +46,9 @@ at_most p q h = grind (arith, nat_tests)
 below : (p q : ℕ) → IsTrue (nat_lt p q) → p < q
 below p q h = grind (arith, nat_tests)
 
--- ---- what may stand behind a part
+-- ---- what may come after a part
 
-abbrev Later : Kind → ℕ → ℕ → Type 0
+abbrev Later : ElementKind → ℕ → ℕ → Type 0
 Later kind before next = (before < next) ⊎ ((before ≡ next) × (single_parts kind < next))
 
 order_to : (before next single : ℕ) (needs : Bool) → IsTrue ((nat_lt before next || (nat_eq before next && nat_lt single next)) && not (needs && nat_eq before 0 && nat_lt 1 next))
@@ -57,7 +58,7 @@ order_to before next single needs h = elim (cases_lt before next) [
   | inr m ↦ inr (grind (arith, nat_tests), grind (arith, nat_tests))
 ]
 
-behind_to : (kind : Kind) (before next : ℕ) → IsTrue (follows kind before next) → Later kind before next
+behind_to : (kind : ElementKind) (before next : ℕ) → IsTrue (follows kind before next) → Later kind before next
 unfolding follows
 behind_to kind before next h = order_to before next (single_parts kind) (needs_first kind) h
 
@@ -68,7 +69,7 @@ order_from before next single false some (inl l) = grind (arith, nat_tests)
 order_from before next single true some (inr (e, l)) = grind (arith, nat_tests)
 order_from before next single false some (inr (e, l)) = grind (arith, nat_tests)
 
-behind_from : (kind : Kind) (before next : ℕ) → 0 < before → Later kind before next → IsTrue (follows kind before next)
+behind_from : (kind : ElementKind) (before next : ℕ) → 0 < before → Later kind before next → IsTrue (follows kind before next)
 unfolding follows
 behind_from kind before next some h = order_from before next (single_parts kind) (needs_first kind) some h
 
@@ -76,8 +77,8 @@ free_order : (next single : ℕ) (needs : Bool) → needs ≡ false → 0 < next
 free_order next single true e l = cc
 free_order next single false e l = grind (arith, nat_tests)
 
--- the beginning of a kind whose first part may be missing
-begins_free : (kind : Kind) (next : ℕ) → needs_first kind ≡ false → 0 < next → IsTrue (follows kind 0 next)
+-- the beginning of a kind whose first part is optional
+begins_free : (kind : ElementKind) (next : ℕ) → needs_first kind ≡ false → 0 < next → IsTrue (follows kind 0 next)
 unfolding follows
 begins_free kind next e l = free_order next (single_parts kind) (needs_first kind) e l
 
@@ -85,29 +86,29 @@ needed_order : (next single : ℕ) (needs : Bool) → needs ≡ true → IsTrue 
 needed_order next single false e = cc
 needed_order next single true e = (λ h. grind (arith, nat_tests), λ h. grind (arith, nat_tests))
 
--- and of one whose first part has to be there
-begins_needed : (kind : Kind) (next : ℕ) → needs_first kind ≡ true → IsTrue (follows kind 0 next) ↔ (next ≡ 1)
+-- the beginning of a kind whose first part is required
+begins_needed : (kind : ElementKind) (next : ℕ) → needs_first kind ≡ true → IsTrue (follows kind 0 next) ↔ (next ≡ 1)
 unfolding follows
 begins_needed kind next e = needed_order next (single_parts kind) (needs_first kind) e
 
--- ---- items none of which has to be there
+-- ---- optional items
 
 next_or_later : (j p : ℕ) → j < p → (suc j ≡ p) ⊎ (suc j < p)
 next_or_later j p l = elim (cases_lt (suc j) p) [ inl m ↦ inr m | inr m ↦ inl (omega (arith, l, m)) ]
 
-module _ (kind : Kind) where
-  -- these are the children of the part behind the first j
+module _ (kind : ElementKind) where
+  -- these are the children of the part after the first j
   abbrev Taken : ℕ → List Child → Type 0
   Taken j ys = (x : Child) → IsIn ys x ↔ (part_in kind x ≡ suc j)
 
-  -- items behind the first j of a kind
+  -- items after the first j of a kind
   abbrev Fits : ℕ → List Item → Type 0
   Fits j [] = (x : Child) → part_in kind x ≤ j
   Fits j (one ys ∷ items) = ⊥
   Fits j (opt ys ∷ items) = Taken j ys × (suc j ≤ single_parts kind) × Fits (suc j) items
   Fits j (any ys ∷ items) = Taken j ys × (single_parts kind ≤ j) × Fits (suc j) items
 
-  -- children of later parts than the first j, each behind the one before it
+  -- children of later parts than the first j, each after the one before it
   abbrev From : ℕ → List Child → Type 0
   From j [] = Unit {0}
   From j (x ∷ xs) = (j < part_in kind x) × Chain kind (part_in kind x) xs
@@ -120,7 +121,7 @@ module _ (kind : Kind) where
   strictly j p s (inl l) = l
   strictly j p s (inr (e, l)) = omega (arith, s, e, l)
 
-  -- a part of one child at most is not repeated
+  -- a part that takes at most one child is not repeated
   behind_one_to : (j : ℕ) → suc j ≤ single_parts kind → (xs : List Child) → Chain kind (suc j) xs → From (suc j) xs
   behind_one_to j s [] c = tt
   behind_one_to j s (x ∷ xs) c = (strictly j (part_in kind x) s (behind_to kind (suc j) (part_in kind x) c.0), c.1)
@@ -136,7 +137,7 @@ module _ (kind : Kind) where
   again : (j p : ℕ) → single_parts kind ≤ j → j < p → Later kind (suc j) p
   again j p s l = elim (next_or_later j p l) [ inl e ↦ inr (e, omega (arith, s, l)) | inr m ↦ inl m ]
 
-  -- another is
+  -- another part is
   behind_any_to : (j : ℕ) → (xs : List Child) → Chain kind (suc j) xs → From j xs
   behind_any_to j [] c = tt
   behind_any_to j (x ∷ xs) c = (above j (part_in kind x) (behind_to kind (suc j) (part_in kind x) c.0), c.1)
@@ -187,7 +188,7 @@ module _ (kind : Kind) where
     matches_from (opt ys ∷ items) j f xs c = opt_from ys items j f (λ zs d. matches_from items (suc j) f.2 zs d) xs c
     matches_from (any ys ∷ items) j f xs c = any_from ys items j f (λ zs d. matches_from items (suc j) f.2 zs d) xs c
 
-    -- a kind whose first part may be missing
+    -- a kind whose first part is optional
     from_beginning : (xs : List Child) → Chain kind 0 xs → From 0 xs
     from_beginning [] c = tt
     from_beginning (x ∷ xs) c = (positive (part_in kind x) (behind_to kind 0 (part_in kind x) c.0), c.1) where
@@ -202,7 +203,7 @@ module _ (kind : Kind) where
     free_row : needs_first kind ≡ false → (items : List Item) → Fits 0 items → (xs : List Child) → Chain kind 0 xs ↔ Matches items xs
     free_row free items f xs = (λ c. matches_from items 0 f xs (from_beginning xs c), λ m. to_beginning free xs (matches_to items xs m 0 f))
 
-    -- one whose first part has to be there
+    -- a kind whose first part is required
     needed_to : needs_first kind ≡ true → (ys : List Child) (items : List Item) → Taken 0 ys → 1 ≤ single_parts kind → Fits 1 items → (xs : List Child) → Chain kind 0 xs → Matches (one ys ∷ items) xs
     needed_to needs ys items t s f [] c = let e : end ≡ 1 = (begins_needed kind end needs).0 c in absurd (omega (arith, e))
     needed_to needs ys items t s f (x ∷ xs) c =
@@ -214,25 +215,25 @@ module _ (kind : Kind) where
         let e = (t x).0 h in
         ((begins_needed kind (part_in kind x) needs).1 e, moved others 1 (part_in kind x) (sym e) (behind_one_from 0 (omega arith) others (matches_to items others m 1 f)))
 
--- ---- the rows of the table
+-- ---- the kinds of the table
 
 -- a child of this part is taken by the item of that number alone
 agree : ℕ → List Item → ℕ → Child → Bool
 agree j [] p x = nat_le p j
 agree j (item ∷ items) p x = same (nat_eq p (suc j)) (is_in (children_in item) x) && agree (suc j) items p x
 
--- the items of one child at most are the first ones, and none has to be there
+-- the items that take at most one child are the first ones, and none is required
 free : ℕ → List Item → ℕ → Bool
 free j [] single = true
 free j (one ys ∷ items) single = false
 free j (opt ys ∷ items) single = nat_le (suc j) single && free (suc j) items single
 free j (any ys ∷ items) single = nat_le single j && free (suc j) items single
 
-is_placed : Kind → Child → Bool
-is_placed kind x = nat_lt (part_in kind x) end && agree 0 (items_in (model_of kind)) (part_in kind x) x
+is_placed : ElementKind → Child → Bool
+is_placed kind x = nat_lt (part_in kind x) end && agree 0 (items_in (content_model_of kind)) (part_in kind x) x
 
-placed : (kind : Kind) (x : Child) → IsTrue (is_placed kind x)
-unfolding is_placed agree same model_of part_named foreign_part
+placed : (kind : ElementKind) (x : Child) → IsTrue (is_placed kind x)
+unfolding is_placed agree same content_model_of part_named foreign_part
 placed ResourceLists (known ResourceLists) = refl
 placed EntryList (known ResourceLists) = refl
 placed Entry (known ResourceLists) = refl
@@ -246,11 +247,11 @@ placed Packages (known ResourceLists) = refl
 placed Package (known ResourceLists) = refl
 placed _ _ = refl
 
-low : (kind : Kind) (x : Child) → part_in kind x < end
+low : (kind : ElementKind) (x : Child) → part_in kind x < end
 unfolding is_placed
 low kind x = below (part_in kind x) end (and_first _ _ (placed kind x))
 
-agreed : (kind : Kind) (x : Child) → IsTrue (agree 0 (items_in (model_of kind)) (part_in kind x) x)
+agreed : (kind : ElementKind) (x : Child) → IsTrue (agree 0 (items_in (content_model_of kind)) (part_in kind x) x)
 unfolding is_placed
 agreed kind x = and_second _ _ (placed kind x)
 
@@ -259,7 +260,7 @@ taken p j ys x h =
     let both = same_exact (nat_eq p (suc j)) (is_in ys x) h in
     (λ i. equal p (suc j) (both.1 ((is_in_exact ys x).1 i)), λ e. (is_in_exact ys x).0 (both.0 (equal_of p (suc j) e)))
 
-fits : (kind : Kind) (items : List Item) (j : ℕ) → ((x : Child) → IsTrue (agree j items (part_in kind x) x)) → IsTrue (free j items (single_parts kind)) → Fits kind j items
+fits : (kind : ElementKind) (items : List Item) (j : ℕ) → ((x : Child) → IsTrue (agree j items (part_in kind x) x)) → IsTrue (free j items (single_parts kind)) → Fits kind j items
 unfolding agree free
 fits kind [] j a s = λ x. at_most (part_in kind x) j (a x)
 fits kind (one ys ∷ items) j a s = cc
@@ -274,11 +275,11 @@ fits kind (any ys ∷ items) j a s = (
   fits kind items (suc j) (λ x. and_second _ _ (a x)) (and_second _ _ s),
 )
 
-matched_free : (kind : Kind) → needs_first kind ≡ false → IsTrue (free 0 (items_in (model_of kind)) (single_parts kind)) → (xs : List Child) → Chain kind 0 xs ↔ Matches (items_in (model_of kind)) xs
-matched_free kind first s xs = free_row kind (low kind) first (items_in (model_of kind)) (fits kind (items_in (model_of kind)) 0 (agreed kind) s) xs
+matched_free : (kind : ElementKind) → needs_first kind ≡ false → IsTrue (free 0 (items_in (content_model_of kind)) (single_parts kind)) → (xs : List Child) → Chain kind 0 xs ↔ Matches (items_in (content_model_of kind)) xs
+matched_free kind first s xs = free_row kind (low kind) first (items_in (content_model_of kind)) (fits kind (items_in (content_model_of kind)) 0 (agreed kind) s) xs
 
-matched_needed : (kind : Kind) (ys : List Child) (items : List Item) → items_in (model_of kind) ≡ one ys ∷ items → needs_first kind ≡ true → 1 ≤ single_parts kind → IsTrue (free 1 items (single_parts kind)) → (xs : List Child)
-    → Chain kind 0 xs ↔ Matches (items_in (model_of kind)) xs
+matched_needed : (kind : ElementKind) (ys : List Child) (items : List Item) → items_in (content_model_of kind) ≡ one ys ∷ items → needs_first kind ≡ true → 1 ≤ single_parts kind → IsTrue (free 1 items (single_parts kind)) → (xs : List Child)
+    → Chain kind 0 xs ↔ Matches (items_in (content_model_of kind)) xs
 unfolding agree
 matched_needed kind ys items is needs s rest xs =
     let a : (x : Child) → IsTrue (agree 0 (one ys ∷ items) (part_in kind x) x) = λ x. subst (λ (l : List Item). IsTrue (agree 0 l (part_in kind x) x)) is (agreed kind x) in
@@ -288,8 +289,8 @@ matched_needed kind ys items is needs s rest xs =
       λ m. needed_from kind (low kind) needs ys items t f xs (subst (λ (l : List Item). Matches l xs) is m),
     )
 
-pub matched : (kind : Kind) (xs : List Child) → Chain kind 0 xs ↔ Matches (items_in (model_of kind)) xs
-unfolding model_of needs_first single_parts free
+pub matched : (kind : ElementKind) (xs : List Child) → Chain kind 0 xs ↔ Matches (items_in (content_model_of kind)) xs
+unfolding content_model_of needs_first single_parts free
 matched Service xs = matched_needed Service (known ResourceList ∷ known EntryList ∷ []) (opt (known Packages ∷ []) ∷ any (foreign ∷ []) ∷ []) refl refl (omega arith) refl xs
 matched ResourceLists xs = matched_free ResourceLists refl refl xs
 matched kind xs = matched_free kind refl refl xs

@@ -1,13 +1,14 @@
--- In a valid content a new element may stand between its neighbours by the model exactly where it may by their parts.
+-- In a valid content a new element may come between its neighbours by the content model exactly
+-- when it may by their parts.
 use Rattle.std.proofs.Common.{◌≡◌, ◌↔◌, ◌≤◌, ◌<◌, ℕ, zero, suc, List, [], ◌∷◌, ◌++◌, length, Option, None, Some, slice_get, IsTrue, refl, ap, sym, ◌∙◌, subst, arith}
 use Rattle.std.proofs.lemmas.Option.{same_Some}
-use Rattle.xml_tree.specs.Tree.{Content, last, more, note, Tree, kids}
+use Rattle.xml_tree.specs.Tree.{Content, last, more, comment_node, Tree, child_elements}
 use Rattle.xml_tree.specs.Edits.{put, put_in}
 use Rattle.doc_names.specs.declared.usages.Usage.{Usage}
-use Rattle.usage_docs.specs.declared.rows.Kind.{Kind}
-use Rattle.usage_docs.specs.Rows.{Scope, Child, child_of, root_kind, items_in, model_of, MatchesModel as Matches}
+use Rattle.usage_docs.specs.declared.schema_table.ElementKind.{ElementKind}
+use Rattle.usage_docs.specs.SchemaTable.{Scope, Child, child_class_of, root_kind, items_in, content_model_of, MatchesModel as Matches}
 use Rattle.xml_tree.specs.Scopes.{inside}
-use Rattle.usage_docs.specs.Validity.{Schema, children_of}
+use Rattle.usage_docs.specs.Validity.{IsValidDocument, children_of}
 use Rattle.usage_docs.specs.Gaps.{last_of, child_before, child_behind, FitsGap, FitsBelow, GapThere}
 use Rattle.usage_docs.specs.readers.Gaps.{part_before, part_after, FollowsGap, FollowsBelow}
 use Rattle.usage_docs.specs.readers.Parts.{part_in, part_of, follows, end}
@@ -16,13 +17,13 @@ use Rattle.usage_docs.proofs.Matching.{Chain, matched}
 use Rattle.usage_docs.proofs.Walking.{followed, walk_kept}
 use Rattle.usage_docs.proofs.GapLemmas.{insertion_by_parts, kid_valid, put_from}
 
-abbrev part_or : Kind → ℕ → Option Child → ℕ
+abbrev part_or : ElementKind → ℕ → Option Child → ℕ
 part_or row n None = n
 part_or row n (Some x) = part_in row x
 
 -- ---- some children in order
 
-module _ (row : Kind) where
+module _ (row : ElementKind) where
   found_part : (xs : List Child) (i : ℕ) → i < length xs → (n m : ℕ) → part_or row n (slice_get xs i) ≡ part_or row m (slice_get xs i)
   found_part [] i l n m = absurd (omega (arith, l))
   found_part (x ∷ xs) zero l n m = refl
@@ -55,36 +56,36 @@ last_none [] e = refl
 last_none (x ∷ []) e = cc
 last_none (x ∷ y ∷ xs) e = (let h : y ∷ xs ≡ [] = last_none (y ∷ xs) e in cc)
 
-module _ (row : Kind) (c : Scope) where
-  count : (content : Content) → length (children_of row c content) ≡ length (kids content)
+module _ (row : ElementKind) (c : Scope) where
+  count : (content : Content) → length (children_of row c content) ≡ length (child_elements content)
   count (last t) = refl
   count (more t n ds ats k rest) = ap (λ (n : ℕ). suc n) (count rest)
-  count (note t x rest) = count rest
+  count (comment_node t x rest) = count rest
 
-  before_is : (content : Content) (j b : ℕ) → j ≤ length (kids content) → part_before row c b j content ≡ part_or row b (child_before j (children_of row c content))
+  before_is : (content : Content) (j b : ℕ) → j ≤ length (child_elements content) → part_before row c b j content ≡ part_or row b (child_before j (children_of row c content))
   unfolding part_of
   before_is (last t) zero b l = refl
   before_is (more t n ds ats k rest) zero b l = refl
-  before_is (note t x rest) zero b l = refl
+  before_is (comment_node t x rest) zero b l = refl
   before_is (last t) (suc j) b l = absurd (omega arith)
   before_is (more t n ds ats k rest) (suc zero) b l = before_is rest zero (part_of row (c ++ ds ∷ []) n) (omega arith)
   before_is (more t n ds ats k rest) (suc (suc j)) b l =
       before_is rest (suc j) (part_of row (c ++ ds ∷ []) n) (omega arith)
       ∙ found_part row (children_of row c rest) j (omega (arith, count rest)) (part_of row (c ++ ds ∷ []) n) b
-  before_is (note t x rest) (suc j) b l = before_is rest (suc j) b l
+  before_is (comment_node t x rest) (suc j) b l = before_is rest (suc j) b l
 
   after_is : (content : Content) (j : ℕ) → part_after row c j content ≡ part_or row end (child_behind j (children_of row c content))
   unfolding part_of
   after_is (last t) j = refl
   after_is (more t n ds ats k rest) zero = refl
   after_is (more t n ds ats k rest) (suc j) = after_is rest j
-  after_is (note t x rest) j = after_is rest j
+  after_is (comment_node t x rest) j = after_is rest j
 
   module _ (new : Tree) where
     abbrev it : Child
-    it = child_of row (inside c new) new.name
+    it = child_class_of row (inside c new) new.name
 
-    -- the children with the new one among them
+    -- the children including the new one
     record Parted (content : Content) (j : ℕ) : Type 0 where
       front : List Child
       back : List Child
@@ -98,14 +99,14 @@ module _ (row : Kind) (c : Scope) where
     first_behind y [] ys (suc j) l e = absurd (child_at ys j (omega (arith, l)) (sym e))
     first_behind y (z ∷ zs) ys (suc j) l e = e
 
-    parted : (content : Content) (j : ℕ) → j ≤ length (kids content) → Parted content j
+    parted : (content : Content) (j : ℕ) → j ≤ length (child_elements content) → Parted content j
     parted (last t) zero l = record { front = []; back = []; ends = refl; begins = refl; all = refl }
     parted (more t n ds ats k rest) zero l = record { front = []; back = children_of row c (more t n ds ats k rest); ends = refl; begins = refl; all = refl }
-    parted (note t x rest) zero l = record { front = []; back = children_of row c rest; ends = refl; begins = refl; all = refl }
+    parted (comment_node t x rest) zero l = record { front = []; back = children_of row c rest; ends = refl; begins = refl; all = refl }
     parted (last t) (suc j) l = absurd (omega arith)
     parted (more t n ds ats k rest) (suc j) l =
         let r = parted rest j (omega arith) in
-        let y : Child = child_of row (c ++ ds ∷ []) n in
+        let y : Child = child_class_of row (c ++ ds ∷ []) n in
         record {
           front = y ∷ r.front;
           back = r.back;
@@ -113,11 +114,11 @@ module _ (row : Kind) (c : Scope) where
           begins = r.begins;
           all = ap (λ (xs : List Child). y ∷ xs) r.all;
         }
-    parted (note t x rest) (suc j) l =
+    parted (comment_node t x rest) (suc j) l =
         let r = parted rest (suc j) l in
         record { front = r.front; back = r.back; ends = r.ends; begins = r.begins; all = r.all }
 
-    gap_exact : (content : Content) (j : ℕ) → j ≤ length (kids content) → Walks row c 0 content → FitsGap row c content new j ↔ FollowsGap row c content new j
+    gap_exact : (content : Content) (j : ℕ) → j ≤ length (child_elements content) → Walks row c 0 content → FitsGap row c content new j ↔ FollowsGap row c content new j
     unfolding part_of
     gap_exact content j l w = (
       λ f.
@@ -136,28 +137,28 @@ module _ (row : Kind) (c : Scope) where
               back = r.back;
               ends = r.ends;
               begins = r.begins;
-              fits = subst (λ (xs : List Child). Matches (items_in (model_of row)) xs) r.all ((matched row (children_of row c (put j new content))).0 chain);
+              fits = subst (λ (xs : List Child). Matches (items_in (content_model_of row)) xs) r.all ((matched row (children_of row c (put j new content))).0 chain);
             },
           )),
     )
 
 -- ---- at a path
 
-below_to : (j : ℕ) (new : Tree) (q : List ℕ) (row : Kind) (c : Scope) (e : Tree) → GapThere e q j → Walks row c 0 e.content → FitsBelow row c e q new j → FollowsBelow row c e q new j
+below_to : (j : ℕ) (new : Tree) (q : List ℕ) (row : ElementKind) (c : Scope) (e : Tree) → GapThere e q j → Walks row c 0 e.content → FitsBelow row c e q new j → FollowsBelow row c e q new j
 below_to j new [] row c e there w f = (gap_exact row c new e.content j there w).0 f
-below_to j new (n ∷ q) row c e there w (kid, (at, f)) =
+below_to j new (n ∷ q) row c e there w (child_element, (at, f)) =
     let below = subst (λ (x : Tree). GapThere x q j) (same_Some _ _ (sym there.1.0 ∙ at)) there.1.1 in
-    let old = kid_valid row c e.content n kid 0 at w in
-    (kid, (at, λ kind is. below_to j new q kind (inside c kid) kid below (walk_kept kind (inside c kid) kid.attrs kid.content (old kind is)) (f kind is)))
+    let old = kid_valid row c e.content n child_element 0 at w in
+    (child_element, (at, λ kind is. below_to j new q kind (inside c child_element) child_element below (walk_kept kind (inside c child_element) child_element.attrs child_element.content (old kind is)) (f kind is)))
 
-below_from : (j : ℕ) (new : Tree) (q : List ℕ) (row : Kind) (c : Scope) (e : Tree) → GapThere e q j → Walks row c 0 e.content → FollowsBelow row c e q new j → FitsBelow row c e q new j
+below_from : (j : ℕ) (new : Tree) (q : List ℕ) (row : ElementKind) (c : Scope) (e : Tree) → GapThere e q j → Walks row c 0 e.content → FollowsBelow row c e q new j → FitsBelow row c e q new j
 below_from j new [] row c e there w f = (gap_exact row c new e.content j there w).1 f
-below_from j new (n ∷ q) row c e there w (kid, (at, f)) =
+below_from j new (n ∷ q) row c e there w (child_element, (at, f)) =
     let below = subst (λ (x : Tree). GapThere x q j) (same_Some _ _ (sym there.1.0 ∙ at)) there.1.1 in
-    let old = kid_valid row c e.content n kid 0 at w in
-    (kid, (at, λ kind is. below_from j new q kind (inside c kid) kid below (walk_kept kind (inside c kid) kid.attrs kid.content (old kind is)) (f kind is)))
+    let old = kid_valid row c e.content n child_element 0 at w in
+    (child_element, (at, λ kind is. below_from j new q kind (inside c child_element) child_element below (walk_kept kind (inside c child_element) child_element.attrs child_element.content (old kind is)) (f kind is)))
 
-pub insertion : (u : Usage) (t new : Tree) (q : List ℕ) (j : ℕ) → GapThere t q j → Schema u t → Schema u (put_in q j new t) ↔ FitsBelow (root_kind u) (t.decls ∷ []) t q new j
+pub insertion : (u : Usage) (t new : Tree) (q : List ℕ) (j : ℕ) → GapThere t q j → IsValidDocument u t → IsValidDocument u (put_in q j new t) ↔ FitsBelow (root_kind u) (t.decls ∷ []) t q new j
 insertion u t new q j there k =
     let w = walk_kept (root_kind u) (t.decls ∷ []) t.attrs t.content k.valid in
     let by_parts = insertion_by_parts u t new q j there k in (

@@ -2,11 +2,11 @@
 use Rattle.std.proofs.Common.{◌≡◌, ℕ, Bool, true, false, List, [], ◌∷◌, ◌&&◌, not, fold, bytes_eq, refl, sym, ◌∙◌}
 use Rattle.std.specs.Prelude.{◌==◌, if◌then◌else◌}
 use Rattle.std.specs.List.{list_all}
-use Rattle.usage_docs.specs.declared.letters.Segment.TheVariants.{Empty, Begun, Ended, Wrong}
-use Rattle.usage_docs.specs.readers.Letters.{segment_after, is_segment}
+use Rattle.usage_docs.specs.declared.address_states.SegmentState.TheVariants.{Empty, Begun, Ended, Wrong}
+use Rattle.usage_docs.specs.readers.AddressStates.{segment_after, is_segment}
 use Rattle.usage_docs.specs.Forms.{first_segment, is_reference}
 
--- a letter that is no colon
+-- a letter that isn't a colon
 abbrev passes : ℕ → Bool
 passes c = not (c == 58)
 

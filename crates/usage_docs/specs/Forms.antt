@@ -1,77 +1,79 @@
--- The form of references. RFC 4826, sections 3.4.5 and 4.4.5 (additional constraints: ref, anchor, resource-list); RFC 3986, 4.2.
+-- The form of references. RFC 4826, sections 3.4.5 and 4.4.5 (additional constraints: ref,
+-- anchor, resource-list); RFC 3986, 4.2.
 use Rattle.std.specs.Prelude.{ℕ, Bool, true, false, List, [], ◌∷◌, ◌++◌, codes, if◌then◌else◌, ◌&&◌, ◌||◌, ◌==◌, not, IsTrue}
 use Rattle.std.specs.Str.{bytes_eq}
 use Rattle.std.specs.List.{list_all}
 use Rattle.std.specs.Option.{ForSome, option_map_or}
 use Rattle.xml_tree.specs.Characters.{is_space}
-use Rattle.xml_tree.specs.Tree.{Content, last, more, note, Tree}
+use Rattle.xml_tree.specs.Tree.{Content, last, more, comment_node, Tree}
 use Rattle.xml_tree.specs.declared.names.Attr.{Attr}
 use Rattle.xml_tree.specs.declared.tree.Node.{Node}
 use Rattle.xml_tree.specs.declared.tree.Node.TheVariants.{Elem, Chars, Comment}
 use Rattle.doc_names.specs.declared.usages.Usage.{Usage}
-use Rattle.usage_docs.specs.declared.rows.Kind.{Kind}
-use Rattle.usage_docs.specs.declared.rows.Kind.TheVariants.{EntryRef, External, ResourceList}
-use Rattle.usage_docs.specs.declared.rows.Key.TheVariants.{Ref, Anchor}
-use Rattle.usage_docs.specs.Rows.{Scope, kind_of, root_kind}
+use Rattle.usage_docs.specs.declared.schema_table.ElementKind.{ElementKind}
+use Rattle.usage_docs.specs.declared.schema_table.ElementKind.TheVariants.{EntryRef, External, ResourceList}
+use Rattle.usage_docs.specs.declared.schema_table.Key.TheVariants.{Ref, Anchor}
+use Rattle.usage_docs.specs.SchemaTable.{Scope, kind_of, root_kind}
 use Rattle.usage_docs.specs.Keys.{value_of}
 use Rattle.usage_docs.specs.Texts.{text_of}
 
--- what stands before the first `/` (47), or the whole where there is none
+-- the text before the first `/` (47), or the whole text where there is none
 abbrev pub first_segment : List ℕ → List ℕ
 first_segment [] = []
 first_segment (c ∷ cs) = if c == 47 then [] else (c ∷ first_segment cs)
 
--- a relative reference that begins with a segment: it is not empty, doesn't begin with `/`, and has no `:` (58) before its first `/`
+-- a relative reference that begins with a segment: it is not empty, doesn't begin with `/`, and
+-- has no `:` (58) before its first `/`
 unfoldable pub is_reference : List ℕ → Bool
 is_reference s = not (bytes_eq (first_segment s) []) && list_all (λ c. not (c == 58)) (first_segment s)
 
--- a text begins with a word and goes on
+-- a text begins with a word and is longer
 abbrev pub goes_on : List ℕ → List ℕ → Bool
 goes_on [] [] = false
 goes_on [] (c ∷ cs) = true
 goes_on (w ∷ ws) [] = false
 goes_on (w ∷ ws) (c ∷ cs) = (c == w) && goes_on ws cs
 
--- an address of HTTP: `http://` or `https://`, and something behind it
+-- an address of HTTP: `http://` or `https://`, and at least one more character
 unfoldable pub is_http : List ℕ → Bool
 is_http s = goes_on (codes "http://") s || goes_on (codes "https://") s
 
--- a text without the white space before it
+-- a text without leading white space
 abbrev pub trim_front : (ℕ → Bool) → List ℕ → List ℕ
 trim_front white [] = []
 trim_front white (c ∷ cs) = if white c then trim_front white cs else (c ∷ cs)
 
--- a text without the white space behind it
+-- a text without trailing white space
 abbrev pub trim_back : (ℕ → Bool) → List ℕ → List ℕ
 trim_back white [] = []
 trim_back white (c ∷ cs) = if white c && bytes_eq (trim_back white cs) [] then [] else (c ∷ trim_back white cs)
 
--- a text without the white space at its ends
-unfoldable pub trimmed : List ℕ → List ℕ
-trimmed s = trim_back is_space (trim_front is_space s)
+-- a text without leading and trailing white space
+unfoldable pub trim_text : List ℕ → List ℕ
+trim_text s = trim_back is_space (trim_front is_space s)
 
 -- the references of an element of some kind have their form
-unfoldable pub is_formed : Kind → List Attr → Content → Bool
+unfoldable pub is_formed : ElementKind → List Attr → Content → Bool
 is_formed EntryRef ats k = option_map_or is_reference (value_of Ref ats) true
 is_formed External ats k = option_map_or is_http (value_of Anchor ats) true
-is_formed ResourceList ats k = is_http (trimmed (text_of k))
+is_formed ResourceList ats k = is_http (trim_text (text_of k))
 is_formed _ ats k = true
 
--- so do those of all elements of a kind in a content
-abbrev pub AllFormed : Kind → Scope → Content → Type 0
+-- the references of all elements in a content that have a kind have their form
+abbrev pub AllFormed : ElementKind → Scope → Content → Type 0
 AllFormed row c (last t) = Unit {0}
-AllFormed row c (note t inside rest) = AllFormed row c rest
+AllFormed row c (comment_node t inside rest) = AllFormed row c rest
 AllFormed row c (more t n ds ats k rest) =
     ForSome (kind_of row (c ++ ds ∷ []) n) (λ kind. IsTrue (is_formed kind ats k) × AllFormed kind (c ++ ds ∷ []) k)
     × AllFormed row c rest
 
 -- every `ref`, `anchor` and `resource-list` of a document has its form
-abbrev pub Constraints : Usage → Tree → Type 0
-Constraints u t = AllFormed (root_kind u) (t.decls ∷ []) t.content
+abbrev pub MeetsConstraints : Usage → Tree → Type 0
+MeetsConstraints u t = AllFormed (root_kind u) (t.decls ∷ []) t.content
 
--- ---- the same node by node
+-- ---- forms, node by node
 
-abbrev pub IsNodeFormed : Kind → Scope → Node → Type 0
+abbrev pub IsNodeFormed : ElementKind → Scope → Node → Type 0
 IsNodeFormed row c (Elem e) = ForSome (kind_of row (c ++ e.decls ∷ []) e.name) (λ kind. IsTrue (is_formed kind e.attrs e.content) × AllFormed kind (c ++ e.decls ∷ []) e.content)
 IsNodeFormed row c (Chars t) = Unit {0}
 IsNodeFormed row c (Comment x) = Unit {0}

@@ -1,16 +1,17 @@
--- The attributes without a namespace (RFC 4826, sections 3.2 and 4.2), which are also the keys of elements (sections 3.4.5 and 4.4.5).
+-- The attributes without a namespace (RFC 4826, sections 3.2 and 4.2), which are also the keys of
+-- elements (sections 3.4.5 and 4.4.5).
 use Rattle.std.specs.Prelude.{ℕ, Bool, true, false, List, [], Option, None, Some, codes, if◌then◌else◌, ◌&&◌, not, find, is_some, option_map, option_and_then}
 use Rattle.std.specs.Str.{bytes_eq}
 use Rattle.std.specs.List.{list_all}
 use Rattle.std.specs.Option.{option_map_or}
 use Rattle.xml_tree.specs.declared.names.Attr.{Attr}
-use Rattle.usage_docs.specs.declared.rows.Kind.{Kind}
-use Rattle.usage_docs.specs.declared.rows.Kind.TheVariants.{EntryList, Entry, EntryRef, External, Service}
-use Rattle.usage_docs.specs.declared.rows.Attribute.{Attribute}
-use Rattle.usage_docs.specs.declared.rows.Attribute.TheVariants.{Nothing, May, Must}
-use Rattle.usage_docs.specs.declared.rows.Key.{Key}
-use Rattle.usage_docs.specs.declared.rows.Key.TheVariants.{Name, Uri, Ref, Anchor}
-use Rattle.usage_docs.specs.Rows.{Scope, lists_space, services_space, space_of}
+use Rattle.usage_docs.specs.declared.schema_table.ElementKind.{ElementKind}
+use Rattle.usage_docs.specs.declared.schema_table.ElementKind.TheVariants.{EntryList, Entry, EntryRef, External, Service}
+use Rattle.usage_docs.specs.declared.schema_table.Attribute.{Attribute}
+use Rattle.usage_docs.specs.declared.schema_table.Attribute.TheVariants.{Nothing, May, Must}
+use Rattle.usage_docs.specs.declared.schema_table.Key.{Key}
+use Rattle.usage_docs.specs.declared.schema_table.Key.TheVariants.{Name, Uri, Ref, Anchor}
+use Rattle.usage_docs.specs.SchemaTable.{Scope, lists_namespace, services_namespace, element_namespace}
 
 -- the local name of the attribute
 unfoldable pub word : Key → List ℕ
@@ -19,9 +20,9 @@ word Uri = codes "uri"
 word Ref = codes "ref"
 word Anchor = codes "anchor"
 
--- the attributes without a namespace that an element of a kind may have: none; or one, which may be there (`use="optional"`) or has to be
--- (`use="required"`)
-unfoldable pub attribute_of : Kind → Attribute
+-- the attributes without a namespace that an element of a kind may have: none; or one, which is
+-- optional (`use="optional"`) or required (`use="required"`)
+unfoldable pub attribute_of : ElementKind → Attribute
 attribute_of EntryList = May Name
 attribute_of Entry = Must Uri
 attribute_of EntryRef = Must Ref
@@ -35,7 +36,7 @@ key_in (May key) = Some key
 key_in (Must key) = Some key
 
 -- it is the key of the element
-unfoldable pub key_of : Kind → Option Key
+unfoldable pub key_of : ElementKind → Option Key
 key_of kind = key_in (attribute_of kind)
 
 -- an unprefixed attribute with this name
@@ -47,22 +48,24 @@ unfoldable pub value_of : Key → List Attr → Option (List ℕ)
 value_of key ats = option_map (λ a. a.value) (find (is_key key) ats)
 
 -- the value of an element's own key
-unfoldable pub key_value : Kind → List Attr → Option (List ℕ)
+unfoldable pub key_value : ElementKind → List Attr → Option (List ℕ)
 key_value kind ats = option_and_then (λ key. value_of key ats) (key_of kind)
 
--- an unprefixed attribute is the row's own; a prefixed one is of a namespace of neither document type
-unfoldable pub attr_passes : Kind → Scope → Attr → Bool
+-- an unprefixed attribute is the kind's own; a prefixed one has a namespace of neither document
+-- type
+unfoldable pub attr_passes : ElementKind → Scope → Attr → Bool
 attr_passes row c a =
     if bytes_eq a.name.prefix []
     then option_map_or (λ key. bytes_eq a.name.local (word key)) (key_of row) false
-    else (not (bytes_eq (space_of c a.name) lists_space) && not (bytes_eq (space_of c a.name) services_space))
+    else (not (bytes_eq (element_namespace c a.name) lists_namespace) && not (bytes_eq (element_namespace c a.name) services_namespace))
 
--- an attribute that has to be there is
+-- a required attribute is present
 abbrev pub is_met : Attribute → List Attr → Bool
 is_met Nothing ats = true
 is_met (May key) ats = true
 is_met (Must key) ats = is_some (value_of key ats)
 
--- the attributes of an element of this row, in the scope that ends with its own declarations
-unfoldable pub attrs_pass : Kind → Scope → List Attr → Bool
+-- the attributes of an element of this kind are allowed, in the scope that ends with its own
+-- declarations
+unfoldable pub attrs_pass : ElementKind → Scope → List Attr → Bool
 attrs_pass row c ats = list_all (attr_passes row c) ats && is_met (attribute_of row) ats

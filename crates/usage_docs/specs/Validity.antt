@@ -1,14 +1,15 @@
--- Which documents are valid: every element of a kind has the attributes and holds the texts and children that its row says.
--- RFC 4826, sections 3.2 and 4.2 (the schemas). What stands inside a foreign element is not looked at.
+-- Which documents are valid: every element of a kind has the attributes, the texts and the
+-- children that its kind allows. RFC 4826, sections 3.2 and 4.2 (the schemas). The content of
+-- foreign elements isn't checked.
 use Rattle.std.specs.Prelude.{ℕ, Bool, true, false, List, [], ◌∷◌, ◌++◌, map, ◌||◌, IsTrue}
 use Rattle.std.specs.List.{list_all}
 use Rattle.std.specs.Option.{ForSome}
 use Rattle.xml_tree.specs.Characters.{is_space}
-use Rattle.xml_tree.specs.Tree.{Content, last, more, note, Tree, kids}
+use Rattle.xml_tree.specs.Tree.{Content, last, more, comment_node, Tree, child_elements}
 use Rattle.xml_tree.specs.declared.names.Attr.{Attr}
 use Rattle.doc_names.specs.declared.usages.Usage.{Usage}
-use Rattle.usage_docs.specs.declared.rows.Kind.{Kind}
-use Rattle.usage_docs.specs.Rows.{Scope, Child, Model, text_alone, sequence, model_of, items_in, kind_of, child_of, root_kind, is_root, MatchesModel}
+use Rattle.usage_docs.specs.declared.schema_table.ElementKind.{ElementKind}
+use Rattle.usage_docs.specs.SchemaTable.{Scope, Child, Model, text_alone, sequence, content_model_of, items_in, kind_of, child_class_of, root_kind, is_root, MatchesModel}
 use Rattle.usage_docs.specs.Keys.{attrs_pass}
 use Rattle.usage_docs.specs.Texts.{text_of}
 
@@ -17,37 +18,41 @@ abbrev pub is_text_model : Model → Bool
 is_text_model text_alone = true
 is_text_model (sequence items) = false
 
--- a text in an element of this row: any where the model is text, else white space alone
-unfoldable pub text_passes : Kind → List ℕ → Bool
-text_passes row t = is_text_model (model_of row) || list_all is_space t
+-- a text is allowed in an element of this kind: any text where the model is text, else white
+-- space alone
+unfoldable pub text_passes : ElementKind → List ℕ → Bool
+text_passes row t = is_text_model (content_model_of row) || list_all is_space t
 
--- what the children of an element of this row are, in order, in the scope inside it
-abbrev pub children_of : Kind → Scope → Content → List Child
-children_of row c content = map (λ e. child_of row (c ++ e.decls ∷ []) e.name) (kids content)
+-- the children of an element of this kind, in order, as the content model sees them, in the scope
+-- inside it
+abbrev pub children_of : ElementKind → Scope → Content → List Child
+children_of row c content = map (λ e. child_class_of row (c ++ e.decls ∷ []) e.name) (child_elements content)
 
--- an element of this kind has the attributes, the text and the children of its row, in the scope that ends with its own declarations
-pub record KeepsRow (kind : Kind) (c : Scope) (ats : List Attr) (content : Content) : Type 0 where
+-- an element of this kind has the attributes, the text and the children of the kind, in the scope
+-- that ends with its own declarations
+pub record KeepsRow (kind : ElementKind) (c : Scope) (ats : List Attr) (content : Content) : Type 0 where
   pub attributes : IsTrue (attrs_pass kind c ats)
   pub text : IsTrue (text_passes kind (text_of content))
-  pub children : MatchesModel (items_in (model_of kind)) (children_of kind c content)
+  pub children : MatchesModel (items_in (content_model_of kind)) (children_of kind c content)
 
--- so does each element of a kind in the content of an element of this row, however deep
-abbrev pub AllKeep : Kind → Scope → Content → Type 0
+-- each element of a kind in the content of an element of this kind has what its kind allows,
+-- however deep
+abbrev pub AllKeep : ElementKind → Scope → Content → Type 0
 AllKeep row c (last t) = Unit {0}
-AllKeep row c (note t inside rest) = AllKeep row c rest
+AllKeep row c (comment_node t inside rest) = AllKeep row c rest
 AllKeep row c (more t n ds ats k rest) =
     ForSome (kind_of row (c ++ ds ∷ []) n) (λ kind. KeepsRow kind (c ++ ds ∷ []) ats k × AllKeep kind (c ++ ds ∷ []) k)
     × AllKeep row c rest
 
 -- an element of some kind is valid by itself, in the scope that ends with its own declarations
-abbrev pub ValidInRow : Kind → Scope → Tree → Type 0
+abbrev pub ValidInRow : ElementKind → Scope → Tree → Type 0
 ValidInRow kind c e = KeepsRow kind c e.attrs e.content × AllKeep kind c e.content
 
--- a child is valid by itself: it has no kind, or is valid by its own row
-abbrev pub ValidChild : Kind → Scope → Tree → Type 0
+-- a child is valid by itself: it has no kind, or is valid by its kind
+abbrev pub ValidChild : ElementKind → Scope → Tree → Type 0
 ValidChild row c e = ForSome (kind_of row (c ++ e.decls ∷ []) e.name) (λ kind. ValidInRow kind (c ++ e.decls ∷ []) e)
 
 -- a document of the usage
-pub record Schema (u : Usage) (t : Tree) : Type 0 where
+pub record IsValidDocument (u : Usage) (t : Tree) : Type 0 where
   pub root : IsTrue (is_root u (t.decls ∷ []) t.name)
   pub valid : ValidInRow (root_kind u) (t.decls ∷ []) t

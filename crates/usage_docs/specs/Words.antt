@@ -1,4 +1,4 @@
--- Words of ASCII, which have one byte a character.
+-- ASCII words, which have one byte for each character.
 use Rattle.std.specs.Prelude.{ℕ, Bool, List, nat_lt}
 use Rattle.std.specs.List.{list_all}
 

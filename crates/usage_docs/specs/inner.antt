@@ -1,4 +1,4 @@
--- What private functions and proofs speak of. No clause of a public call needs it.
+-- Definitions for private functions and proofs; no public clause needs them.
 pub mod Indexes
-pub mod Trails
 pub mod Kinds
+pub mod PathTrails

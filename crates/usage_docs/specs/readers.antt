@@ -1,9 +1,10 @@
--- How a document is gone through: words of private functions and proofs, and in public clauses of `services`, of the calls that look at the
--- neighbours of a change alone (`part_of`, `follows`, `clash_below`), and of laws.
-pub mod Findings
+-- Walking a document from left to right: definitions for private functions and proofs; the only
+-- public clauses that need them are clauses of `services`, of the calls that check only the
+-- neighbours of a change (`part_of`, `follows`, `clash_below`), and of laws.
+pub mod AddressStates
+pub mod FirstFaults
 pub mod Gaps
 pub mod Lengths
-pub mod Letters
 pub mod Listing
 pub mod Parts
 pub mod Repeats

@@ -3,14 +3,19 @@ ghost use Rattle.std.specs.Prelude.{ℕ, List, [], ◌∷◌, ◌↔◌};
 ghost use Rattle.xml_tree.specs.Tree.{Tree};
 ghost use Rattle.xml_tree.specs.Edits.{put_in};
 ghost use Rattle.doc_names.specs.declared.usages.Usage.{Usage};
-ghost use Rattle.usage_docs.specs.Rows.{root_kind};
-ghost use Rattle.usage_docs.specs.Validity.{Schema};
+ghost use Rattle.usage_docs.specs.SchemaTable.{root_kind};
+ghost use Rattle.usage_docs.specs.Validity.{IsValidDocument};
 ghost use Rattle.usage_docs.specs.Gaps.{FitsBelow, GapThere};
 ghost use Rattle.usage_docs.specs.readers.Gaps.{FollowsBelow};
 
-/// A law: a valid document with a new element in a gap is valid exactly where the element is valid by itself and may stand
-/// between its two neighbours; that is, where its part follows theirs.
+/// A valid document with a new element in a gap is valid exactly when the element is valid by
+/// itself and may come between its two neighbours; that is, where its part follows theirs.
 pub fn insertion_is_local()
-    ensures by_the_model { (u : Usage) (t new : Tree) (q : List ℕ) (j : ℕ) → GapThere t q j → Schema u t → Schema u (put_in q j new t) ↔ FitsBelow (root_kind u) (t.decls ∷ []) t q new j }
-    ensures by_parts { (u : Usage) (t new : Tree) (q : List ℕ) (j : ℕ) → GapThere t q j → Schema u t → Schema u (put_in q j new t) ↔ FollowsBelow (root_kind u) (t.decls ∷ []) t q new j }
+    ensures by_model { (u : Usage) (t new : Tree) (q : List ℕ) (j : ℕ) → GapThere t q j
+        → IsValidDocument u t
+        → IsValidDocument u (put_in q j new t) ↔ FitsBelow (root_kind u) (t.decls ∷ []) t q new j }
+    ensures by_parts { (u : Usage) (t new : Tree) (q : List ℕ) (j : ℕ) → GapThere t q j
+        → IsValidDocument u t
+        → IsValidDocument u (put_in q j new t)
+        ↔ FollowsBelow (root_kind u) (t.decls ∷ []) t q new j }
 {}

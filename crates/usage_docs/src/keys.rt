@@ -1,15 +1,15 @@
-//! Keys that repeat those of siblings (RFC 4826, sections 3.4.5 and 4.4.5).
+//! Repeated keys among siblings (RFC 4826, sections 3.4.5 and 4.4.5).
 ghost use Rattle.std.specs.Prelude.{◌≡◌, ◌↔◌, List, IsTrue, OnOk, length};
 ghost use Rattle.xml_tree.specs.Tree.{Tree};
-ghost use Rattle.usage_docs.specs.declared.rows.Kind.{Kind};
-ghost use Rattle.usage_docs.specs.Rows.{Scope};
+ghost use Rattle.usage_docs.specs.declared.schema_table.ElementKind.{ElementKind};
+ghost use Rattle.usage_docs.specs.SchemaTable.{Scope};
 ghost use Rattle.usage_docs.specs.readers.Repeats.{Enters, Holds, IsFirstRepeat, IsLeastPair, IsPair, lesser, mark_by};
 
 use crate::attributes::{key_of, key_text};
-use crate::rows::{Key, Kind};
+use crate::schema_table::{ElementKind, Key};
 use xml_tree::{Attr, NoMemory, Path, Text};
 
-/// An element whose key equals that of an earlier sibling of its kind.
+/// An element whose key equals the key of an earlier sibling of its kind.
 #[derive(Debug, Drop)]
 pub struct Clash {
     /// Where the element is.
@@ -18,34 +18,37 @@ pub struct Clash {
     pub key: Key,
 }
 
-/// What has to be distinct among siblings, a kind and the value of its key, and the number of the child that has it.
+/// What has to be unique among siblings, a kind and the value of its key, and the number of the
+/// child that has it.
 #[derive(Drop, PartialEq, Eq, PartialOrd, Ord)]
-pub(crate) struct Keyed<'a> {
-    kind: Kind,
+pub(crate) struct KeyedChild<'a> {
+    kind: ElementKind,
     value: &'a Text,
     child: usize,
 }
 
-/// A child whose key an earlier one of its kind has too.
+/// A child that has the kind and the key of an earlier one.
 #[derive(Clone, Copy, Drop)]
-pub(crate) struct Repeat {
+pub(crate) struct KeyRepeat {
     /// The number of the child.
     pub child: usize,
     /// The name of the key.
     pub key: Key,
 }
 
-/// Enters the key of a child that has this kind and these attributes among those of its siblings, if it has one.
+/// Adds the key of a child that has this kind and these attributes to the keys of its siblings,
+/// if it has one.
 ///
 /// # Errors
-/// `NoMemory` for want of memory.
+/// `NoMemory` when out of memory.
 pub(crate) fn enter<'a>(
-    seen: &mut Vec<Keyed<'a>>,
-    kind: Option<Kind>,
+    seen: &mut Vec<KeyedChild<'a>>,
+    kind: Option<ElementKind>,
     attrs: &'a [Attr],
     child: usize,
 ) -> Result<(), NoMemory>
-    ensures enters_the_key { OnOk result (Enters (mark_by kind attrs.now) child seen.old.items seen.new.items) }
+    ensures enters_key { OnOk result
+        (Enters (mark_by kind attrs.now) child seen.old.items seen.new.items) }
 {
     let Some(kind) = kind else {
         return Ok(());
@@ -53,20 +56,21 @@ pub(crate) fn enter<'a>(
     let Some(value) = key_text(kind, attrs) else {
         return Ok(());
     };
-    seen.push(Keyed { kind, value, child })?;
+    seen.push(KeyedChild { kind, value, child })?;
     Ok(())
 }
 
-// Whether two have the same kind and the same value of its key, and the second stands behind the first.
-fn is_pair(one: &Keyed<'_>, other: &Keyed<'_>) -> bool
-    ensures tells_whether_the_key_is_repeated { IsTrue result ↔ IsPair one.now other.now }
+// Whether two entries have the same kind and the same value of its key, and the second child
+// comes after the first.
+fn is_pair(one: &KeyedChild<'_>, other: &KeyedChild<'_>) -> bool
+    ensures exact { IsTrue result ↔ IsPair one.now other.now }
 {
     one.kind == other.kind && one.value == other.value && one.child < other.child
 }
 
-// The child that stands first: this one, or that found so far.
-fn lesser(child: (usize, Kind), found: Option<(usize, Kind)>) -> (usize, Kind)
-    ensures first_of_the_two { result ≡ lesser child found }
+// The earlier child: this one, or the one found so far.
+fn lesser(child: (usize, ElementKind), found: Option<(usize, ElementKind)>) -> (usize, ElementKind)
+    ensures exact { result ≡ lesser child found }
 {
     match found {
         Some(least) if least.0 <= child.0 => least,
@@ -74,9 +78,10 @@ fn lesser(child: (usize, Kind), found: Option<(usize, Kind)>) -> (usize, Kind)
     }
 }
 
-// Of the neighbours in such a list that have the same key, the second that stands first among the siblings, with its kind.
-fn least_pair(keys: &[Keyed<'_>]) -> Option<(usize, Kind)>
-    ensures finds_the_least { IsLeastPair keys.now (length keys.now) result }
+// Of neighbours in a sorted list that have the same key, the second child; of these the earliest,
+// with its kind.
+fn least_pair(keys: &[KeyedChild<'_>]) -> Option<(usize, ElementKind)>
+    ensures is_least_pair { IsLeastPair keys.now (length keys.now) result }
 {
     let mut found = None;
     for at in 1..keys.len() {
@@ -88,10 +93,11 @@ fn least_pair(keys: &[Keyed<'_>]) -> Option<(usize, Kind)>
     found
 }
 
-/// The first child whose key an earlier one of its kind has too, by the keys of all: they are put in order, so that equal ones are neighbours.
-/// Takes no memory.
-pub(crate) fn first_repeat(mut keys: Vec<Keyed<'_>>) -> Option<Repeat>
-    ensures finds_the_first { (row : Kind) (c : Scope) (xs : List Tree) → Holds row c xs (length xs) keys.entry.items → IsFirstRepeat row c xs result }
+/// The first child that has the kind and the key of an earlier one, by the keys of all: they are
+/// sorted, so that equal ones are neighbours. Does not allocate.
+pub(crate) fn first_repeat(mut keys: Vec<KeyedChild<'_>>) -> Option<KeyRepeat>
+    ensures is_first_repeat { (row : ElementKind) (c : Scope) (xs : List Tree)
+        → Holds row c xs (length xs) keys.entry.items → IsFirstRepeat row c xs result }
 {
     keys.sort_unstable();
     let Some(least) = least_pair(&keys) else {
@@ -100,7 +106,7 @@ pub(crate) fn first_repeat(mut keys: Vec<Keyed<'_>>) -> Option<Repeat>
     let Some(key) = key_of(least.1) else {
         return None;
     };
-    Some(Repeat {
+    Some(KeyRepeat {
         child: least.0,
         key,
     })

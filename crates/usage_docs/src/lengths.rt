@@ -1,17 +1,17 @@
-//! The length of services as the index shows them, which is counted before they are made.
+//! The printed length of services as the index lists them, counted before they are made.
 ghost use Rattle.std.specs.Prelude.{◌≡◌, [], ◌∷◌, map, min, IfOk};
 ghost use Rattle.xml_tree.specs.Print.{print, byte_len};
 ghost use Rattle.xml_tree.specs.Scopes.{AreInOrder, bindings_in};
 ghost use Rattle.xml_tree.specs.declared.tree.Node.TheVariants.{Elem};
-ghost use Rattle.usage_docs.specs.Services.{listed, listed_as};
+ghost use Rattle.usage_docs.specs.Services.{service_elements, listed_as};
 ghost use Rattle.usage_docs.specs.readers.Listing.{elems_len, listed_nodes};
 ghost use Rattle.usage_docs.specs.readers.Lengths.{CountsFrom, binding_of, decls_len, hidden};
 
-use crate::listing::{is_service, listed_as};
+use crate::service_index::{is_service, listed_as};
 use std::alloc::Global;
 use std::collections::BTreeSet;
 use xml_tree::{
-    Around, Decl, Declared, Element, NoMemory, Node, Prefix, Scope, decl_len, decls_len,
+    Decl, Element, IndexedDecls, LinkedScope, NoMemory, Node, Prefix, Scope, decl_len, decls_len,
     printed_len,
 };
 
@@ -27,10 +27,10 @@ struct Outer<'a> {
 }
 
 impl<'a> Outer<'a> {
-    // What the services of a root with these declarations are counted from.
+    // The root with these declarations, for counting its services.
     fn new(alloc: Global, decls: &'a [Decl]) -> Result<Outer<'a>, NoMemory>
-        ensures counts_from_these { IfOk result CountsFrom }
-        ensures counts_in_these_declarations { IfOk result (λ made. made.decls.now ≡ decls.now) }
+        ensures counts_from { IfOk result CountsFrom }
+        ensures given_decls { IfOk result (λ made. made.decls.now ≡ decls.now) }
     {
         let bindings = Scope::empty().with(decls).bindings(alloc)?;
         let len = decls_len(&bindings);
@@ -45,7 +45,7 @@ impl<'a> Outer<'a> {
 // The printed length of the binding of a prefix, if there is one; else 0.
 fn binding_len(bindings: &[Decl], prefix: &Prefix) -> usize
     requires { AreInOrder bindings.now }
-    ensures counts_the_binding { result ≡ min (decls_len (binding_of prefix.now bindings.now)) usize.MAX }
+    ensures exact { result ≡ min (decls_len (binding_of prefix.now bindings.now)) usize.MAX }
 {
     match bindings.binary_search_by(|binding| binding.prefix.cmp(prefix)) {
         Ok(place) => decl_len(&bindings[place]),
@@ -53,10 +53,12 @@ fn binding_len(bindings: &[Decl], prefix: &Prefix) -> usize
     }
 }
 
-// The printed length of those bindings whose prefixes these declarations declare anew. Each prefix is looked up once.
+// The printed length of the bindings whose prefixes these declarations redeclare. Each prefix is
+// looked up once.
 fn hidden_len(alloc: Global, bindings: &[Decl], own: &[Decl]) -> Result<usize, NoMemory>
     requires { AreInOrder bindings.now }
-    ensures counts_what_is_hidden { IfOk result (λ len. len ≡ min (decls_len (hidden own.now bindings.now)) usize.MAX) }
+    ensures ok { IfOk result
+        (λ len. len ≡ min (decls_len (hidden own.now bindings.now)) usize.MAX) }
 {
     let mut seen = BTreeSet::new(alloc);
     let mut total = 0usize;
@@ -70,54 +72,59 @@ fn hidden_len(alloc: Global, bindings: &[Decl], own: &[Decl]) -> Result<usize, N
 
 // The printed length of all that these declarations bind.
 fn bindings_len(alloc: Global, own: &[Decl]) -> Result<usize, NoMemory>
-    ensures counts_the_bindings { IfOk result (λ len. len ≡ min (decls_len (bindings_in (own.now ∷ []))) usize.MAX) }
+    ensures ok { IfOk result (λ len. len ≡ min (decls_len (bindings_in (own.now ∷ []))) usize.MAX) }
 {
     let bindings = Scope::empty().with(own).bindings(alloc)?;
     Ok(decls_len(&bindings))
 }
 
-// The printed length of a service as the index shows it, which is made for that.
-fn made_len(alloc: Global, outer: &Outer<'_>, kid: &Element) -> Result<usize, NoMemory>
-    ensures counts_the_listed_service { IfOk result (λ len. len ≡ min (byte_len (print (listed_as (outer.now.decls.now ∷ []) kid.now))) usize.MAX) }
+// The printed length of a service as the index lists it, which is made for that.
+fn made_len(alloc: Global, outer: &Outer<'_>, child_element: &Element) -> Result<usize, NoMemory>
+    ensures ok { IfOk result
+        (λ len. len ≡ min (byte_len
+        (print (listed_as (outer.now.decls.now ∷ []) child_element.now))) usize.MAX) }
 {
-    let made = listed_as(alloc, outer.decls, kid)?;
+    let made = listed_as(alloc, outer.decls, child_element)?;
     Ok(printed_len(&made))
 }
 
-// The printed length of a service as the index shows it: what the root binds is added, what the service hides of it is taken off, and its own
-// bindings stand for its declarations.
-fn service_len(alloc: Global, outer: &Outer<'_>, kid: &Element) -> Result<usize, NoMemory>
+// The printed length of a service as the index lists it: the root's bindings are added, the ones
+// that the service hides are subtracted, and its own bindings replace its declarations.
+fn service_len(alloc: Global, outer: &Outer<'_>, child_element: &Element) -> Result<usize, NoMemory>
     requires { CountsFrom outer.now }
-    ensures counts_the_listed_service { IfOk result (λ len. len ≡ min (byte_len (print (listed_as (outer.now.decls.now ∷ []) kid.now))) usize.MAX) }
+    ensures ok { IfOk result
+        (λ len. len ≡ min (byte_len
+        (print (listed_as (outer.now.decls.now ∷ []) child_element.now))) usize.MAX) }
 {
-    let own = kid.decls();
-    let whole = printed_len(kid).saturating_add(outer.len);
+    let own = child_element.decls();
+    let whole = printed_len(child_element).saturating_add(outer.len);
     if own.is_empty() {
         return Ok(whole);
     }
-    // Nothing can be taken off a sum that is cut off.
+    // Nothing can be subtracted from a saturated sum.
     if whole == usize::MAX {
-        return made_len(alloc, outer, kid);
+        return made_len(alloc, outer, child_element);
     }
     let hidden = hidden_len(alloc, &outer.bindings, own)?;
     let shown = bindings_len(alloc, own)?;
     Ok((whole - hidden - decls_len(own)).saturating_add(shown))
 }
 
-// The printed length of a node as the index shows it, if it is a service; else 0.
+// The printed length of a node as the index lists it, if it is a service; else 0.
 fn node_len(
     alloc: Global,
-    scope: &Around<'_>,
+    scope: &LinkedScope<'_>,
     outer: &Outer<'_>,
     node: &Node,
 ) -> Result<usize, NoMemory>
-    requires counts { CountsFrom outer.now }
-    requires inside { scope.now ≡ outer.now.decls.now ∷ [] }
-    ensures counts_the_listed_node { IfOk result (λ len. len ≡ min (elems_len (listed_nodes scope.now (node.now ∷ []))) usize.MAX) }
+    requires counts_from { CountsFrom outer.now }
+    requires scope_is_outer { scope.now ≡ outer.now.decls.now ∷ [] }
+    ensures ok { IfOk result
+        (λ len. len ≡ min (elems_len (listed_nodes scope.now (node.now ∷ []))) usize.MAX) }
 {
-    if let Node::Elem(kid) = node {
-        if is_service(alloc, scope, kid) {
-            return service_len(alloc, outer, kid);
+    if let Node::Elem(child_element) = node {
+        if is_service(alloc, scope, child_element) {
+            return service_len(alloc, outer, child_element);
         }
     }
     Ok(0)
@@ -126,14 +133,14 @@ fn node_len(
 // The printed length of the services of a root, in the scope inside it.
 fn nodes_len(
     alloc: Global,
-    scope: &Around<'_>,
+    scope: &LinkedScope<'_>,
     outer: &Outer<'_>,
     root: &Element,
 ) -> Result<usize, NoMemory>
-    requires counts { CountsFrom outer.now }
-    requires root { outer.now.decls.now ≡ root.now.decls }
-    requires inside { scope.now ≡ outer.now.decls.now ∷ [] }
-    ensures counts_the_listed_nodes { IfOk result (λ len. len ≡ min (elems_len (map Elem (listed root.now))) usize.MAX) }
+    requires counts_from { CountsFrom outer.now }
+    requires same_declarations { outer.now.decls.now ≡ root.now.decls }
+    requires scope_is_outer { scope.now ≡ outer.now.decls.now ∷ [] }
+    ensures ok { IfOk result (λ len. len ≡ min (elems_len (map Elem (service_elements root.now))) usize.MAX) }
 {
     let mut total = 0usize;
     for node in root.nodes() {
@@ -142,15 +149,15 @@ fn nodes_len(
     Ok(total)
 }
 
-/// The printed length of a document's services as the index shows them; the greatest number where it is longer. What each has in common with
-/// the others is counted once.
+/// The printed length of a document's services as the index lists them; `usize::MAX` if it is
+/// longer. What all services have in common is counted once.
 ///
 /// # Errors
-/// `NoMemory` for want of memory.
+/// `NoMemory` when out of memory.
 pub(crate) fn listed_len(alloc: Global, root: &Element) -> Result<usize, NoMemory>
-    ensures counts_the_listed_services { IfOk result (λ len. len ≡ min (elems_len (map Elem (listed root.now))) usize.MAX) }
+    ensures ok { IfOk result (λ len. len ≡ min (elems_len (map Elem (service_elements root.now))) usize.MAX) }
 {
-    let declared = Declared::indexed(alloc, root.decls())?;
+    let declared = IndexedDecls::with_index(alloc, root.decls())?;
     let outer = Outer::new(alloc, root.decls())?;
-    nodes_len(alloc, &Around::empty().inside(&declared), &outer, root)
+    nodes_len(alloc, &LinkedScope::empty().inside(&declared), &outer, root)
 }

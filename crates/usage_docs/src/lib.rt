@@ -1,37 +1,44 @@
-//! The documents resource-lists and rls-services as one table, with their keys and references, the index of services and the
-//! capabilities document. Promises upward: validity, the first clash, constraints and computed documents, each exactly.
-//! The standard is RFC 4826; the capabilities are those of RFC 4825, section 12.
+//! The document types resource-lists and rls-services as one table of element kinds, with their
+//! keys and references, and the computed documents: the index of services and the capabilities
+//! document.
+//! Promises upward the exact validity of a document (`IsValidDocument`), the form of its
+//! references (`MeetsConstraints`), its first clash of keys (`IsFirstClash`), its first fault
+//! (`HasFirstFault`), and the exact computed documents.
+//! The standards are RFC 4826, and RFC 4825, section 12 for the capabilities.
+//! The first attribute of a name counts. `constraints` and `first_clash` don't need a valid
+//! document: elements without a kind are passed over.
 #![tactic(auto)]
 
+mod address_states;
 mod attributes;
 mod capabilities;
-mod findings;
-mod forms;
+mod child_scan;
+mod content_parts;
+mod element_maker;
 mod insertions;
-mod judging;
 mod keys;
 mod laws;
 mod lengths;
-mod letters;
-mod listing;
-mod making;
-mod parts;
-mod rows;
-mod scanning;
-mod trails;
-mod uris;
+mod path_trail;
+mod reference_forms;
+mod schema_table;
+mod service_index;
+mod service_uris;
+mod validation;
+mod validation_result;
 mod validity;
 
 pub use attributes::{attrs_pass, key_of, key_value, value_of};
-pub use capabilities::caps;
-pub use forms::is_formed;
+pub use capabilities::capabilities_document;
+pub use content_parts::{END, follows, part_of};
 pub use insertions::insertion_is_local;
-pub use judging::{
-    Fault, clash_below, constraints, first_clash, is_formed_child, is_valid_child, judge, schema,
-};
 pub use keys::Clash;
 pub use laws::each_tree_has_one_judgement;
-pub use listing::{INDEX_LIMIT, IndexFault, IndexMaker};
-pub use parts::{END, follows, part_of};
-pub use rows::{Key, Kind, is_root, kind_of, root_kind};
-pub use uris::{ServiceUris, services};
+pub use reference_forms::is_formed;
+pub use schema_table::{ElementKind, Key, is_root, kind_of, root_kind};
+pub use service_index::{INDEX_LIMIT, IndexBuilder, IndexFault};
+pub use service_uris::{ServiceUris, services};
+pub use validation::{
+    Fault, clash_below, constraints, first_clash, first_fault, is_formed_child, is_valid_child,
+    schema,
+};

@@ -26,7 +26,7 @@ in_three n a b c d some first second third =
     ∙ append_assoc a (encode_utf8_all n.prefix ++ 58 ∷ []) (encode_utf8_all n.local)
     ∙ ap (λ (l : List ℕ). a ++ l) (append_assoc (encode_utf8_all n.prefix) (58 ∷ []) (encode_utf8_all n.local) ∙ sym (prefixed_name n some))
 
--- the selector of a place, and one step more
+-- the selector of a place, and one more step
 abbrev pub step_text : ℕ → List ℕ
 step_text n = codes "/*[" ++ (decimal (suc n) ++ codes "]")
 

@@ -1,12 +1,12 @@
--- Watchers told in turn of one change.
+-- Watchers notified in turn of one change.
 use Rattle.std.proofs.Common.{◌≡◌, ℕ, ◌+◌, ◌<◌, ◌≤◌, List, [], ◌∷◌, ◌++◌, take, drop, length, get_or, set, remove, Option, inl, inr, refl, ap, sym, subst, ◌∙◌, arith}
 use Rattle.std.proofs.lemmas.Grind.{common_steps}
-use Rattle.notes.specs.declared.edit.Edit.{Edit}
+use Rattle.edit_ops.specs.declared.edit.Edit.{Edit}
 use Rattle.watchers.specs.declared.watcher.Told.{Told}
-use Rattle.watchers.specs.Telling.{HasKept, HasLeft, AreTold}
-use Rattle.watchers.specs.inner.Telling.{AreToldAsFarAs}
+use Rattle.watchers.specs.Notifications.{HasKept, HasLeft, AreNotified}
+use Rattle.watchers.specs.inner.Notifications.{AreNotifiedUpTo}
 
--- ---- the item at a place, and the lists before and behind it
+-- ---- the item at an index, and the lists before and after it
 
 module _ {B : Type 0} where
   from_here : (xs : List B) (i : ℕ) (d : B) → i < length xs → drop i xs ≡ get_or xs i d ∷ drop (i + 1) xs
@@ -27,14 +27,14 @@ module _ {B : Type 0} where
   up_to_removed : (xs : List B) (i : ℕ) → i < length xs → take i (remove xs i) ≡ take i xs
   up_to_removed xs i lt = grind (arith, common_steps)
 
--- ---- the loop that tells them
+-- ---- the loop that notifies them
 
 module _ {B : Type 0} (told_list : B → Option (List Edit)) (faults : B → ℕ) (never_refuses : B → Type 0) (answers : B → Edit → Told → Type 0) (written : B → Option (List ℕ)) (edit : Edit) where
   abbrev Tells : List B → List B → ℕ → Type 0
-  Tells = AreTold told_list faults never_refuses answers written edit
+  Tells = AreNotified told_list faults never_refuses answers written edit
 
   abbrev SoFar : List B → List B → ℕ → ℕ → Type 0
-  SoFar = AreToldAsFarAs told_list faults never_refuses answers written edit
+  SoFar = AreNotifiedUpTo told_list faults never_refuses answers written edit
 
   abbrev Keeps : B → B → Type 0
   Keeps = HasKept told_list faults never_refuses answers written edit

@@ -1,8 +1,8 @@
-pub mod Held
-pub mod Telling
-pub mod Writing
 pub mod Answers
-pub mod Mirrors
-pub mod Lines
 pub mod Audits
+pub mod Lines
+pub mod MirrorContents
+pub mod Mirrors
+pub mod Notifications
+pub mod WrittenLines
 pub mod inner

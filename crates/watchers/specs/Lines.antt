@@ -6,17 +6,18 @@ use Rattle.xml_tree.specs.PathTexts.{path_text}
 use Rattle.doc_names.specs.Ids.{id_text}
 use Rattle.edit_ops.specs.declared.change.Change.{Change}
 use Rattle.edit_ops.specs.declared.change.Change.TheVariants.{CreateDocument, Insert, Replace, Remove, SetAttr, DropAttr, RemoveDocument}
-use Rattle.notes.specs.declared.edit.Edit.{Edit}
+use Rattle.edit_ops.specs.declared.edit.Edit.{Edit}
 
 -- a word and a place as a positional selector
 abbrev pub place_bytes : List ℕ → List ℕ → List ℕ
 place_bytes word p = word ++ (codes " " ++ encode_utf8_all (path_text p))
 
--- an attribute of the element there
+-- an attribute of the element at this place
 abbrev pub attr_bytes : Name → List ℕ
 attr_bytes name = codes "/@" ++ encode_utf8_all (print_name name)
 
--- the word and the place of a change: of an insertion that of the new element, which is the child of the number of its gap
+-- the word and the place of a change: of an insertion the place of the new element, the child
+-- whose number is the insertion point
 abbrev pub change_bytes : Change → List ℕ
 change_bytes (CreateDocument root) = codes "create"
 change_bytes (Insert parent gap element) = place_bytes (codes "insert") (parent ++ gap ∷ [])

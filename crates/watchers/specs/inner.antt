@@ -1,3 +1,3 @@
--- What private functions and proofs speak of. No clause of a public call needs it.
+-- Definitions for private functions and proofs. No clause of a public call needs them.
+pub mod Notifications
 pub mod Rounds
-pub mod Telling

@@ -5,13 +5,14 @@ ghost use Rattle.watchers.specs.Audits.{Audits};
 use crate::line::line_of;
 use crate::watcher::{Told, Watcher};
 use doc_names::DocId;
-use notes::EditNote;
+use edit_ops::EditNote;
 use std::alloc::Global;
 use xcap_io::{Failed, Line, Sink, write_all};
 use xml_tree::Element;
 
-/// A sink that gets one line for each change: the change's number, the document's printed id, a word, and for all but a
-/// document that is made or removed the place of the change as a selector.
+/// A sink that gets one line for each change: the change's number, the document's printed id, a
+/// word, and for all changes but the creation and the removal of a document the place of the
+/// change as a selector.
 #[derive(Drop)]
 pub struct Audit<S: Sink> {
     alloc: Global,
@@ -19,16 +20,16 @@ pub struct Audit<S: Sink> {
 }
 
 impl<S: Sink> Audit<S> {
-    /// Writes to this sink. Takes no memory; each line takes it from `alloc`.
+    /// Writes to this sink. Does not allocate; each line is allocated by `alloc`.
     pub fn new(alloc: Global, sink: S) -> Audit<S>
-        ensures writes_to_the_sink { result.sink ≡ sink }
+        ensures same_sink { result.sink ≡ sink }
     {
         Audit { alloc, sink }
     }
 
-    /// The sink, lent. Takes no memory.
+    /// Borrows the sink. Does not allocate.
     pub fn sink(&self) -> &S
-        ensures lends_the_sink { result.now ≡ self.now.sink }
+        ensures exact { result.now ≡ self.now.sink }
     {
         &self.sink
     }
@@ -48,7 +49,8 @@ impl<S: Sink + Drop> Watcher for Audit<S> {
     ghost holds = { λ _ _. None };
 
     fn told(&mut self, doc: &DocId, note: &EditNote) -> Told
-        ensures audits_the_change { Audits (S.state self.old.sink) (record { doc = doc.now; note = note.now }) result (S.state self.new.sink) }
+        ensures audits_change { Audits (S.state self.old.sink)
+            (record { doc = doc.now; note = note.now }) result (S.state self.new.sink) }
     {
         let line = match line_of(self.alloc, doc, note) {
             Ok(line) => line,

@@ -1,23 +1,24 @@
-//! Watchers, which are told of each accepted change: one that keeps every change, one that keeps every document, one that
-//! writes a line.
-//! Upward: each watcher is told each change once and in order, and exactly those that don't keep one leave.
-//! The model is the project's own; no standard defines it.
+//! Watchers, which are notified of each accepted change: `Recorder` keeps every change, `Mirror`
+//! every document as it is now, `Audit` writes a line about each. Upward: each watcher is notified
+//! of each change once and in order, and exactly those that don't return `Kept` leave (`AreNotified`,
+//! `AreKept`). The model is this project's own; no standard defines it.
+//! A mirror drops a document rather than hold a wrong tree.
 #![tactic(auto)]
 
 mod audit;
-mod fits;
-mod holding;
+mod change_fits;
 mod line;
 mod mirror;
+mod mirror_entry;
+mod notify_all;
 mod recorder;
-mod tell;
 mod watcher;
 mod watchers;
 
 pub use audit::Audit;
 pub use mirror::Mirror;
+pub use notify_all::tell_all;
 pub use recorder::Recorder;
 pub use std::alloc::AllocError as NoMemory;
-pub use tell::tell_all;
 pub use watcher::{Told, Watcher};
 pub use watchers::Watchers;

@@ -4,14 +4,14 @@ ghost use Rattle.xml_tree.specs.Print.{print_name};
 ghost use Rattle.watchers.specs.Lines.{attr_bytes, change_bytes, line_bytes, place_bytes};
 
 use doc_names::{DocId, print_doc_id};
-use edit_ops::Change;
-use notes::EditNote;
+use edit_ops::{Change, EditNote};
 use std::alloc::{AllocError, Global};
 use xml_tree::{Name, Path, print_path};
 
-// Adds a name as it is written.
+// Appends a name as it is written.
 fn push_name(line: &mut String, name: &Name) -> Result<(), AllocError>
-    ensures adds_the_name { OnOk result (string_bytes line.new ≡ string_bytes line.old ++ encode_utf8_all (print_name name.now)) }
+    ensures appended { OnOk result
+        (string_bytes line.new ≡ string_bytes line.old ++ encode_utf8_all (print_name name.now)) }
 {
     if name.prefix.is_empty() {
         return line.push_str(name.local.as_str());
@@ -22,9 +22,10 @@ fn push_name(line: &mut String, name: &Name) -> Result<(), AllocError>
     Ok(())
 }
 
-// Adds a word, a space and the selector of a place.
+// Appends a word, a space and the selector of a place.
 fn push_place(alloc: Global, line: &mut String, word: &str, path: &Path) -> Result<(), AllocError>
-    ensures adds_the_place { OnOk result (string_bytes line.new ≡ string_bytes line.old ++ place_bytes word.now path.now) }
+    ensures adds_place { OnOk result
+        (string_bytes line.new ≡ string_bytes line.old ++ place_bytes word.now path.now) }
 {
     let place = print_path(alloc, path)?;
     line.push_str(word)?;
@@ -32,14 +33,17 @@ fn push_place(alloc: Global, line: &mut String, word: &str, path: &Path) -> Resu
     line.push_str(place.as_str())
 }
 
-// Adds the same of an element that was put in: the selector of its parent, and one step more.
+// Appends a word, a space and the place of an inserted element: the selector of its parent, and
+// one more step.
 fn push_new_place(
     alloc: Global,
     line: &mut String,
     parent: &Path,
     gap: usize,
 ) -> Result<(), AllocError>
-    ensures adds_the_new_place { OnOk result (string_bytes line.new ≡ string_bytes line.old ++ place_bytes (codes "insert") (parent.now ++ gap ∷ [])) }
+    ensures appended { OnOk result
+        (string_bytes line.new
+        ≡ string_bytes line.old ++ place_bytes (codes "insert") (parent.now ++ gap ∷ [])) }
 {
     push_place(alloc, line, "insert", parent)?;
     let step = format!(in alloc; "/*[{}]", gap as u128 + 1)?;
@@ -47,17 +51,19 @@ fn push_new_place(
     Ok(())
 }
 
-// Adds `/@` and the name of an attribute.
+// Appends `/@` and the name of an attribute.
 fn push_attr(line: &mut String, name: &Name) -> Result<(), AllocError>
-    ensures adds_the_attribute { OnOk result (string_bytes line.new ≡ string_bytes line.old ++ attr_bytes name.now) }
+    ensures adds_attribute { OnOk result
+        (string_bytes line.new ≡ string_bytes line.old ++ attr_bytes name.now) }
 {
     line.push_str("/@")?;
     push_name(line, name)
 }
 
-// Adds the word and the place of a change.
+// Appends the word and the place of a change.
 fn push_change(alloc: Global, line: &mut String, change: &Change) -> Result<(), AllocError>
-    ensures adds_the_change { OnOk result (string_bytes line.new ≡ string_bytes line.old ++ change_bytes change.now) }
+    ensures appended { OnOk result
+        (string_bytes line.new ≡ string_bytes line.old ++ change_bytes change.now) }
 {
     match change {
         Change::CreateDocument { .. } => line.push_str("create"),
@@ -76,10 +82,11 @@ fn push_change(alloc: Global, line: &mut String, change: &Change) -> Result<(), 
     }
 }
 
-/// The line about a change: its number, the document's printed id, a word, and for all but a document that is made or
-/// removed the place of the change as a selector.
+/// The line about a change: its number, the document's printed id, a word, and for all changes but
+/// the creation and the removal of a document the place of the change as a selector.
 pub(crate) fn line_of(alloc: Global, doc: &DocId, note: &EditNote) -> Result<String, AllocError>
-    ensures line_of_the_change { IfOk result (λ line. string_bytes line ≡ line_bytes (record { doc = doc.now; note = note.now })) }
+    ensures ok { IfOk result
+        (λ line. string_bytes line ≡ line_bytes (record { doc = doc.now; note = note.now })) }
 {
     let id = print_doc_id(alloc, doc)?;
     let mut line = format!(in alloc; "{} ", note.next())?;

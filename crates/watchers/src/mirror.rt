@@ -2,32 +2,31 @@
 ghost use Rattle.std.specs.Prelude.{◌≡◌, [], None, Some, IfOk, OnErr, OnOk, if◌then◌else◌};
 ghost use Rattle.std.specs.Option.{option_map};
 ghost use Rattle.watchers.specs.Answers.{NeverFails};
-ghost use Rattle.watchers.specs.Mirrors.{HoldsAfter, HoldsEdited, HoldsLow, HoldsSame, Mirrors, OthersStay, held_in, held_of};
+ghost use Rattle.watchers.specs.Mirrors.{HoldsAfter, HoldsEdited, HoldsLow, HoldsSame, Mirrors, OthersStay, stored_in, stored_of};
 
-use crate::fits::fits;
-use crate::holding::Holding;
+use crate::change_fits::fits;
+use crate::mirror_entry::MirrorEntry;
 use crate::watcher::{Told, Watcher};
 use doc_names::DocId;
-use edit_ops::{Change, apply_change};
+use edit_ops::{Change, EditNote, apply_change};
 use indexmap::IndexMap;
-use notes::EditNote;
 use std::alloc::{AllocError, Global};
 use std::marker::Model;
 use xml_tree::{Element, MAX_LEVELS, copy_tree, depth};
 
-/// Every document of which it was told, as it is now.
+/// Every document of which it was notified, as it is now.
 #[derive(Drop)]
 pub struct Mirror {
     alloc: Global,
-    held: IndexMap<DocId, Holding>,
+    held: IndexMap<DocId, MirrorEntry>,
 }
 
 impl Model for Mirror {
     ghost use Rattle.std.specs.Prelude.{List};
     ghost use Rattle.std.specs.Coded.{codes};
     ghost use Rattle.doc_names.specs.declared.doc_id.DocId.{DocId as TheDocId};
-    ghost use Rattle.watchers.specs.contracts.holding.Holding as h;
-    ghost use Rattle.watchers.specs.declared.holding.Holding.{Holding as TheHolding};
+    ghost use Rattle.watchers.specs.contracts.mirror_entry.MirrorEntry as h;
+    ghost use Rattle.watchers.specs.declared.mirror_entry.MirrorEntry.{MirrorEntry as TheHolding};
 
     ghost Value = { List (TheDocId × TheHolding) };
 
@@ -36,16 +35,17 @@ impl Model for Mirror {
     ghost view = { λ m. m.held.entries };
 }
 
-// Makes a change of a tree that is held, and answers whether it is still held.
+// Makes a change of a kept tree, and returns whether it is still kept.
 fn follow(
     alloc: Global,
-    held: &mut Holding,
+    held: &mut MirrorEntry,
     change: &Change,
     number: u64,
 ) -> Result<bool, AllocError>
-    ensures holds_the_edited_tree { IfOk result (λ stays. HoldsEdited change.now number (Some (held_of held.old))
-        (if stays then Some (held_of held.new) else None)) }
-    ensures failure_changes_nothing { OnErr result (held.new ≡ held.old) }
+    ensures holds_edited { IfOk result
+        (λ stays. HoldsEdited change.now number (Some (stored_of held.old))
+        (if stays then Some (stored_of held.new) else None)) }
+    ensures err_unchanged { OnErr result (held.new ≡ held.old) }
 {
     if !fits(&held.tree, change) {
         return Ok(false);
@@ -56,7 +56,7 @@ fn follow(
 }
 
 impl Mirror {
-    /// A mirror that holds nothing. Takes no memory; what it holds later takes it from `alloc`.
+    /// An empty mirror. Does not allocate; documents are allocated by `alloc` later.
     pub fn new(alloc: Global) -> Mirror
         ensures holds_no_documents { result ≡ [] }
     {
@@ -66,27 +66,28 @@ impl Mirror {
         }
     }
 
-    /// The tree that it holds of a document, and the number of the change that made it. Takes no memory.
+    /// The kept tree of a document, and the number of the change that made it. Does not allocate.
     pub fn get(&self, doc: &DocId) -> Option<(&Element, u64)>
-        ensures lends_what_is_held { option_map (λ held. (held.0.now, held.1)) result ≡ held_in self.now doc.now }
+        ensures exact { option_map (λ held. (held.0.now, held.1)) result
+            ≡ stored_in self.now doc.now }
     {
         let held = self.held.get(doc)?;
         Some((&held.tree, held.number))
     }
 
-    // Holds nothing of a document.
+    // Removes a document.
     fn forget(&mut self, doc: &DocId)
-        ensures document_is_forgotten { held_in self.new doc.now ≡ None }
+        ensures document_is_forgotten { stored_in self.new doc.now ≡ None }
         ensures other_documents_stay { OthersStay self.old doc.now self.new }
     {
         self.held.swap_remove(doc);
     }
 
-    // Holds a document that was made; nothing of it, where its tree is too deep.
+    // Keeps a new document; not if its tree is too deep.
     fn begin(&mut self, doc: &DocId, root: &Element, number: u64) -> Result<(), AllocError>
-        ensures holds_the_new_tree { OnOk result (HoldsLow root.now number (held_in self.new doc.now)) }
+        ensures holds_new { OnOk result (HoldsLow root.now number (stored_in self.new doc.now)) }
         ensures other_documents_stay { OthersStay self.old doc.now self.new }
-        ensures failure_changes_nothing { OnErr result (HoldsSame self.old self.new) }
+        ensures err_unchanged { OnErr result (HoldsSame self.old self.new) }
     {
         if depth(root) > MAX_LEVELS {
             self.forget(doc);
@@ -94,16 +95,18 @@ impl Mirror {
         }
         let tree = copy_tree(self.alloc, root)?;
         let doc = doc.copy(self.alloc)?;
-        self.held.insert(doc, Holding { tree, number })?;
+        self.held.insert(doc, MirrorEntry { tree, number })?;
         Ok(())
     }
 
-    // Makes a change of what is held of a document; nothing is held of it where there is nothing to change, or where the
-    // change doesn't fit or makes the tree too deep.
+    // Makes a change of a kept document; the document is removed where the change doesn't fit or
+    // makes the tree too deep.
     fn go_on(&mut self, doc: &DocId, change: &Change, number: u64) -> Result<(), AllocError>
-        ensures holds_the_edited_tree { OnOk result (HoldsEdited change.now number (held_in self.old doc.now) (held_in self.new doc.now)) }
+        ensures holds_edited { OnOk result
+            (HoldsEdited change.now number (stored_in self.old doc.now)
+            (stored_in self.new doc.now)) }
         ensures other_documents_stay { OthersStay self.old doc.now self.new }
-        ensures failure_changes_nothing { OnErr result (HoldsSame self.old self.new) }
+        ensures err_unchanged { OnErr result (HoldsSame self.old self.new) }
     {
         let alloc = self.alloc;
         let Some(held) = self.held.get_mut(doc) else {
@@ -117,11 +120,13 @@ impl Mirror {
         Ok(())
     }
 
-    // Holds what a change leaves of a document.
+    // Keeps what a change leaves of a document.
     fn hold_after(&mut self, doc: &DocId, change: &Change, number: u64) -> Result<(), AllocError>
-        ensures holds_the_tree_after { OnOk result (HoldsAfter change.now number (held_in self.old doc.now) (held_in self.new doc.now)) }
+        ensures holds_after { OnOk result
+            (HoldsAfter change.now number (stored_in self.old doc.now)
+            (stored_in self.new doc.now)) }
         ensures other_documents_stay { OthersStay self.old doc.now self.new }
-        ensures failure_changes_nothing { OnErr result (HoldsSame self.old self.new) }
+        ensures err_unchanged { OnErr result (HoldsSame self.old self.new) }
     {
         match change {
             Change::CreateDocument { root } => self.begin(doc, root, number),
@@ -130,9 +135,11 @@ impl Mirror {
     }
 
     fn mirror(&mut self, doc: &DocId, note: &EditNote) -> Result<(), AllocError>
-        ensures holds_the_tree_after { OnOk result (HoldsAfter note.now.change note.now.next (held_in self.old doc.now) (held_in self.new doc.now)) }
+        ensures holds_after { OnOk result
+            (HoldsAfter note.now.change note.now.next (stored_in self.old doc.now)
+            (stored_in self.new doc.now)) }
         ensures other_documents_stay { OthersStay self.old doc.now self.new }
-        ensures failure_changes_nothing { OnErr result (HoldsSame self.old self.new) }
+        ensures err_unchanged { OnErr result (HoldsSame self.old self.new) }
     {
         self.hold_after(doc, note.change(), note.next())
     }
@@ -149,11 +156,12 @@ impl Watcher for Mirror {
 
     ghost written = { λ _. None };
 
-    ghost holds = { held_in };
+    ghost holds = { stored_in };
 
     fn told(&mut self, doc: &DocId, note: &EditNote) -> Told
         ensures never_fails { NeverFails result }
-        ensures mirrors_the_edit { Mirrors self.old (record { doc = doc.now; note = note.now }) result self.new }
+        ensures mirrors_edit { Mirrors self.old
+            (record { doc = doc.now; note = note.now }) result self.new }
     {
         match self.mirror(doc, note) {
             Ok(()) => Told::Kept,

@@ -4,12 +4,12 @@ ghost use Rattle.watchers.specs.Answers.{NeverFails};
 
 use crate::watcher::{Told, Watcher};
 use doc_names::DocId;
-use notes::{Edit, EditNote};
+use edit_ops::{Edit, EditNote};
 use std::alloc::{AllocError, Global};
 use std::marker::Model;
 use xml_tree::Element;
 
-/// The changes that it was told, in order.
+/// The changes of which it was notified, in order.
 #[derive(Drop)]
 pub struct Recorder {
     alloc: Global,
@@ -19,8 +19,8 @@ pub struct Recorder {
 impl Model for Recorder {
     ghost use Rattle.std.specs.Prelude.{List};
     ghost use Rattle.std.specs.Coded.{codes};
-    ghost use Rattle.notes.specs.contracts.edit.Edit as e;
-    ghost use Rattle.notes.specs.declared.edit.Edit.{Edit as TheEdit};
+    ghost use Rattle.edit_ops.specs.contracts.edit.Edit as e;
+    ghost use Rattle.edit_ops.specs.declared.edit.Edit.{Edit as TheEdit};
 
     ghost Value = { List TheEdit };
 
@@ -30,9 +30,9 @@ impl Model for Recorder {
 }
 
 impl Recorder {
-    /// A recorder that was told nothing. Takes no memory; what it keeps later takes it from `alloc`.
+    /// An empty recorder. Does not allocate; changes are allocated by `alloc` later.
     pub fn new(alloc: Global) -> Recorder
-        ensures was_told_nothing { result ≡ [] }
+        ensures exact { result ≡ [] }
     {
         Recorder {
             alloc,
@@ -40,16 +40,17 @@ impl Recorder {
         }
     }
 
-    /// The changes, lent. Takes no memory.
+    /// Borrows the changes. Does not allocate.
     pub fn edits(&self) -> &[Edit]
-        ensures lends_the_changes { result.now ≡ self.now }
+        ensures exact { result.now ≡ self.now }
     {
         &self.edits
     }
 
     fn keep(&mut self, doc: &DocId, note: &EditNote) -> Result<(), AllocError>
-        ensures keeps_the_edit { OnOk result (self.new ≡ self.old ++ record { doc = doc.now; note = note.now } ∷ []) }
-        ensures failure_changes_nothing { OnErr result (self.new ≡ self.old) }
+        ensures appended { OnOk result
+            (self.new ≡ self.old ++ record { doc = doc.now; note = note.now } ∷ []) }
+        ensures err_unchanged { OnErr result (self.new ≡ self.old) }
     {
         let doc = doc.copy(self.alloc)?;
         let note = note.copy()?;
@@ -72,8 +73,10 @@ impl Watcher for Recorder {
     ghost holds = { λ _ _. None };
 
     fn told(&mut self, doc: &DocId, note: &EditNote) -> Told
-        ensures kept_edit_is_listed { result ≡ Told.Kept → self.new ≡ self.old ++ record { doc = doc.now; note = note.now } ∷ [] }
-        ensures not_kept_for_want_of_memory { result ≢ Told.Kept → (result ≡ Told.NoMemory) × (self.new ≡ self.old) }
+        ensures kept_is_listed { result ≡ Told.Kept
+            → self.new ≡ self.old ++ record { doc = doc.now; note = note.now } ∷ [] }
+        ensures unkept_no_memory { result ≢ Told.Kept → (result ≡ Told.NoMemory)
+            × (self.new ≡ self.old) }
         ensures never_fails { NeverFails result }
     {
         match self.keep(doc, note) {

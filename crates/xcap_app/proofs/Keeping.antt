@@ -3,34 +3,34 @@ use Rattle.std.proofs.Common.{◌≡◌, ℕ, ◌<◌, ◌≤◌, ◌⊎◌, inl
 use Rattle.std.proofs.lemmas.Bool.Decides.{nat_tests}
 use Rattle.std.proofs.lemmas.List.{length-take, take_all}
 use Rattle.std.specs.Bool.{MatchBool}
-use Rattle.notes.specs.declared.edit.Edit.{Edit}
+use Rattle.edit_ops.specs.declared.edit.Edit.{Edit}
 use Rattle.http_wire.specs.declared.request.Request.{Request}
-use Rattle.xcap_io.specs.Causes.{LineState, Rose, RoseBy}
+use Rattle.xcap_io.specs.Causes.{StreamState, CountRises, RoseBy}
 use Rattle.xcap_io.specs.Connections.{listening_at}
 use Rattle.edit_journal.specs.Journals.{IsFirstOf, JournalState}
 use Rattle.edit_journal.specs.Logs.{Fits, LogState}
 use Rattle.edit_journal.specs.Records.{IsRecordable, record_of}
-use Rattle.edit_journal.specs.Limits.{most_journal_bytes}
+use Rattle.edit_journal.specs.Limits.{max_journal_bytes}
 use Rattle.edit_journal.specs.Restarts.{Restarts}
-use Rattle.edit_journal.specs.Texts.{IsTold, text}
-use Rattle.edit_journal.specs.declared.restarting.RestartFault.{RestartFault}
-use Rattle.edit_journal.specs.declared.restarting.RestartFault.TheVariants as faults
+use Rattle.edit_journal.specs.Texts.{IsRecordedRequest, text}
+use Rattle.edit_journal.specs.declared.journal_restart.RestartFault.{RestartFault}
+use Rattle.edit_journal.specs.declared.journal_restart.RestartFault.TheVariants as faults
 use Rattle.http_serve.specs.Ports.{ServesPort}
-use Rattle.http_serve.specs.Written.{InBytes}
-use Rattle.http_serve.specs.declared.port.Served.{Served}
-use Rattle.http_serve.specs.declared.port.Stop.TheVariants.{PortFailed}
-use Rattle.logged_serve.specs.Books.{Booked, HoldsLog, LoggedStep}
-use Rattle.logged_serve.specs.Logging.{Accepts}
-use Rattle.store_core.specs.Held.{Stock, stock_of}
+use Rattle.http_serve.specs.ReplyBytes.{InBytes}
+use Rattle.http_serve.specs.declared.accept_loop.ServeSummary.{ServeSummary}
+use Rattle.http_serve.specs.declared.accept_loop.StopReason.TheVariants.{PortFailed}
+use Rattle.edit_journal.specs.LoggedMachines.{Booked, HoldsLog, LoggedStep}
+use Rattle.edit_journal.specs.LoggedRequests.{Accepts}
+use Rattle.store_core.specs.Contents.{StoreContents, stock_of}
 use Rattle.store_core.specs.State.{State, first_state}
 use Rattle.store_core.proofs.KeptAfter.{kept-first}
-use Rattle.machine_words.specs.Answers.{unchanged}
-use Rattle.machine_words.specs.Requests.{IsAnswer}
-use Rattle.feed_laws.specs.Holding.{FollowedStep}
-use Rattle.xcap_server.specs.Logged.{ServesPortLogged}
-use Rattle.xcap_server.specs.Redoing.{Redoing, Refuses, StandsFor}
+use Rattle.xcap_machine.specs.Answers.{unchanged}
+use Rattle.xcap_machine.specs.Requests.{IsAnswer}
+use Rattle.xcap_machine.specs.SubscriberVersions.{FollowedStep}
+use Rattle.xcap_server.specs.LoggedServers.{ServesPortLogged}
+use Rattle.xcap_server.specs.ReplayedRequests.{Redoing, Refuses, ResultsFrom}
 use Rattle.xcap_server.specs.Servers.{ServerState}
-use Rattle.xcap_app.specs.Keeping.{DoesntReadJournal, KeepsOn, ReadsJournal, ReadsRecords, ServesKept, StopsReading}
+use Rattle.xcap_app.specs.KeepCommand.{DoesntReadJournal, KeepsOn, ReadsJournal, ReadsRecords, ServesKept, StopsReading}
 use Rattle.xcap_app.specs.Serves.{IsComplete}
 use Rattle.xcap_app.specs.declared.exit.Exit.{Exit}
 use Rattle.xcap_app.specs.declared.exit.Exit.TheVariants.{Done, Usage, InputFailed, OutputFailed, NetworkFailed, Refused, Client, BadJournal, OutOfMemory}
@@ -40,17 +40,17 @@ use Rattle.xcap_app.proofs.Streams.{adds_some, wrote}
 -- ---- the old journal
 
 -- a server without documents stands for no requests
-pub stands_for_none : (s : ServerState) → s.content ≡ record { documents = []; next = 1 } → StandsFor s []
+pub stands_for_none : (s : ServerState) → s.content ≡ record { documents = []; next = 1 } → ResultsFrom s []
 stands_for_none s empty = record { state = first_state 1; kept = kept-first 1 (omega arith); redone = refl; stands = empty }
 
-module _ (input input' : LineState) (journal journal' : JournalState) (s s' : ServerState) (empty : s.content ≡ record { documents = []; next = 1 }) (about : s'.root ≡ s.root) where
+module _ (input input' : StreamState) (journal journal' : JournalState) (s s' : ServerState) (empty : s.content ≡ record { documents = []; next = 1 }) (about : s'.root ≡ s.root) where
   abbrev Restarted : Result LogState RestartFault → Type 0
-  Restarted result = Restarts StandsFor Refuses input input' journal journal' s s' result
+  Restarted result = Restarts ResultsFrom Refuses input input' journal journal' s s' result
 
   -- the records that were read
-  records_read : (result : Result LogState RestartFault) (r : Restarted result) → (stood : StandsFor s' r.requests) × ReadsRecords s.root input input' r.bytes r.requests r.rest stood.state
+  records_read : (result : Result LogState RestartFault) (r : Restarted result) → (stood : ResultsFrom s' r.requests) × ReadsRecords s.root input input' r.bytes r.requests r.rest stood.state
   records_read result r =
-      let stood : StandsFor s' r.requests = r.stood [] (stands_for_none s empty) in (
+      let stood : ResultsFrom s' r.requests = r.stood [] (stands_for_none s empty) in (
         stood,
         record {
           given = r.given;
@@ -63,7 +63,7 @@ module _ (input input' : LineState) (journal journal' : JournalState) (s s' : Se
       )
 
   -- all of them
-  pub journal_read : (log : LogState) (r : Restarted (Ok log)) → (stood : StandsFor s' r.requests) × ReadsJournal s.root input input' r.requests stood.state
+  pub journal_read : (log : LogState) (r : Restarted (Ok log)) → (stood : ResultsFrom s' r.requests) × ReadsJournal s.root input input' r.requests stood.state
   journal_read log r =
       let records = records_read (Ok log) r in (
         records.0,
@@ -73,18 +73,18 @@ module _ (input input' : LineState) (journal journal' : JournalState) (s s' : Se
           records = records.1;
           ended = r.ending.0;
           short = r.ending.1;
-          whole = record { told = r.told; split = sym (take_all most_journal_bytes r.bytes r.ending.1) ∙ r.split; no_more = r.ending.2 };
+          whole = record { told = r.told; split = sym (take_all max_journal_bytes r.bytes r.ending.1) ∙ r.split; no_more = r.ending.2 };
           torn = r.ending.3;
           no_fault = r.faults.0;
         },
       )
 
-  module _ (output output' : LineState) (none : journal.faults ≡ 0) (streams : Streams output output' journal') where
+  module _ (output output' : StreamState) (none : journal.faults ≡ 0) (streams : Streams output output' journal') where
     -- the new journal failed
-    failed : Rose journal.faults journal'.faults → Rose output.write_faults output'.write_faults
+    failed : CountRises journal.faults journal'.faults → CountRises output.write_faults output'.write_faults
     failed rose = streams.cause (omega (arith, rose, none))
 
-    stops_so : (fault : RestartFault) (r : Restarted (Err fault)) (stood : StandsFor s' r.requests) → StopsReading s.root fault input input' output output' r.bytes r.requests r.rest stood.state
+    stops_so : (fault : RestartFault) (r : Restarted (Err fault)) (stood : ResultsFrom s' r.requests) → StopsReading s.root fault input input' output output' r.bytes r.requests r.rest stood.state
     stops_so faults.ReadFailed r stood = (wrote output output' journal' (text r.requests) streams r.ending.0, r.ending.1, r.ending.2, r.faults.0)
     stops_so faults.AppendFailed r stood =
         let e = r.ending in
@@ -94,12 +94,12 @@ module _ (input input' : LineState) (journal journal' : JournalState) (s s' : Se
         let e = r.ending in
         let refused = e.1.3 in
         let answer : IsAnswer s.root (stock_of stood.state) e.1.0 (unchanged refused.0) =
-        subst (λ (c : Stock). IsAnswer s.root c e.1.0 (unchanged refused.0)) stood.stands (subst (λ (root : List ℕ). IsAnswer root s'.content e.1.0 (unchanged refused.0)) about refused.1) in
+        subst (λ (c : StoreContents). IsAnswer s.root c e.1.0 (unchanged refused.0)) stood.stands (subst (λ (root : List ℕ). IsAnswer root s'.content e.1.0 (unchanged refused.0)) about refused.1) in
         (wrote output output' journal' (text r.requests) streams e.0, e.2, (e.1.0, e.1.1, refused.0, e.1.2, answer))
     stops_so faults.TooLong r stood = (wrote output output' journal' (text r.requests) streams r.ending.0, r.ending.1, r.ending.2, r.ending.3)
     stops_so faults.NoMemory r stood = let e = r.ending in (e.0, e.1, e.2, wrote output output' journal' (text e.0) streams e.3)
 
-    -- it wasn't read to its end
+    -- the old journal wasn't read to its end
     pub breaks_off : (fault : RestartFault) → Restarted (Err fault) → DoesntReadJournal s.root fault input input' output output'
     breaks_off fault r =
         let records = records_read (Err fault) r in
@@ -115,7 +115,7 @@ module _ (input input' : LineState) (journal journal' : JournalState) (s s' : Se
 
 -- ---- what was served
 
--- what stands behind the whole records
+-- the bytes after the whole records
 behind_by : (P : Type 0) (rest : List ℕ) (is_torn : Bool) → MatchBool is_torn P (rest ≡ []) → (rest ≡ []) ⊎ P
 behind_by P rest true b = inr b
 behind_by P rest false b = inl b
@@ -133,7 +133,7 @@ not_failed faults h = grind (arith, nat_tests)
 has_failed : (faults : ℕ) → nat_lt 0 faults ≡ true → 0 < faults
 has_failed faults h = grind (arith, nat_tests)
 
-module _ {W : Type 0} (Keeps : List Edit → W → W → Type 0) (address : List ℕ) (count : ℕ) (served : Served) (requests : List Request) (s s' : ServerState) (m : State) (log' : LogState) (journal journal' : JournalState) (port listening port' : LineState) (watchers watchers' : W)
+module _ {W : Type 0} (Keeps : List Edit → W → W → Type 0) (address : List ℕ) (count : ℕ) (served : ServeSummary) (requests : List Request) (s s' : ServerState) (m : State) (log' : LogState) (journal journal' : JournalState) (port listening port' : StreamState) (watchers watchers' : W)
     (none : journal.faults ≡ 0) (fits : Fits log' journal') (redone : Redoing s.root (first_state 1) requests m) (listens : listening ≡ listening_at port address)
     (v : ServesPortLogged Keeps count served requests s s' m log' journal journal' listening port' watchers watchers') where
   abbrev IsWritten : List ℕ → Type 0
@@ -152,7 +152,7 @@ module _ {W : Type 0} (Keeps : List Edit → W → W → Type 0) (address : List
     next = v.next;
     kept = v.kept;
     serves =
-        subst (λ (l : LineState). ServesPort (InBytes (LoggedStep (FollowedStep s.root))) Keeps count served (booked m requests 0) (booked v.next v.serves.accepted failures) l port' watchers watchers') listens
+        subst (λ (l : StreamState). ServesPort (InBytes (LoggedStep (FollowedStep s.root))) Keeps count served (booked m requests 0) (booked v.next v.serves.accepted failures) l port' watchers watchers') listens
         (subst (λ (n : ℕ). ServesPort (InBytes (LoggedStep (FollowedStep s.root))) Keeps count served (booked m requests 0) (booked v.next v.serves.accepted n) listening port' watchers watchers') so v.serves.serves);
     redone = v.redone (first_state 1) redone;
     told = v.serves.holds.told;
@@ -166,7 +166,7 @@ module _ {W : Type 0} (Keeps : List Edit → W → W → Type 0) (address : List
   pub kept_failed : nat_lt 0 journal'.faults ≡ true → KeepsOn Keeps IsWritten HasFailed address s.root count OutputFailed requests m port port' watchers watchers'
   kept_failed failed = (served, v.serves.holds.rest, v.serves.failures, served_kept v.serves.holds.rest v.serves.failures refl refl, has_failed journal'.faults failed)
 
-  -- it didn't
+  -- writing didn't fail
   kept_whole : nat_lt 0 journal'.faults ≡ false → ServesKept Keeps IsWritten HasFailed address s.root count served requests m port port' watchers watchers' [] 0
   kept_whole well =
       let now : journal'.faults ≡ 0 = not_failed journal'.faults well in
@@ -179,11 +179,11 @@ module _ {W : Type 0} (Keeps : List Edit → W → W → Type 0) (address : List
   pub kept_port_failed : nat_lt 0 journal'.faults ≡ false → served.stop ≡ PortFailed → KeepsOn Keeps IsWritten HasFailed address s.root count NetworkFailed requests m port port' watchers watchers'
   kept_port_failed well stopped = inr (served, kept_whole well, stopped)
 
--- ---- both
+-- ---- old journal and service
 
 module _ {W : Type 0} (Keeps : List Edit → W → W → Type 0) (P Q : List ℕ → Type 0) (F G : Type 0) (so : (bytes : List ℕ) → P bytes → Q bytes) (cause : F → G)
-    (address root : List ℕ) (count : ℕ) (requests : List Request) (state : State) (port port' : LineState) (watchers watchers' : W) where
-  kept_so : (served : Served) (rest : List ℕ) (failures : ℕ) → ServesKept Keeps P F address root count served requests state port port' watchers watchers' rest failures
+    (address root : List ℕ) (count : ℕ) (requests : List Request) (state : State) (port port' : StreamState) (watchers watchers' : W) where
+  kept_so : (served : ServeSummary) (rest : List ℕ) (failures : ℕ) → ServesKept Keeps P F address root count served requests state port port' watchers watchers' rest failures
       → ServesKept Keeps Q G address root count served requests state port port' watchers watchers' rest failures
   kept_so served rest failures k = record {
     accepted = k.accepted;
@@ -214,7 +214,7 @@ module _ {W : Type 0} (Keeps : List Edit → W → W → Type 0) (P Q : List ℕ
 pub fits_whole : (log : LogState) (journal : JournalState) → log.is_torn ≡ false → length journal.held ≡ log.len → Fits log journal
 fits_whole log journal whole len = subst (λ (b : Bool). MatchBool b ((log.len ≤ length journal.held) × (0 < journal.faults)) (length journal.held ≡ log.len)) (sym whole) len
 
-pub holds_whole : (Accepted : Request → Type 0) (log : LogState) (requests : List Request) (bytes : List ℕ) → log.is_torn ≡ false → length bytes ≡ log.len → All IsTold requests → bytes ≡ text requests → HoldsLog Accepted log requests bytes
+pub holds_whole : (Accepted : Request → Type 0) (log : LogState) (requests : List Request) (bytes : List ℕ) → log.is_torn ≡ false → length bytes ≡ log.len → All IsRecordedRequest requests → bytes ≡ text requests → HoldsLog Accepted log requests bytes
 holds_whole Accepted log requests bytes whole len told held = record {
   rest = [];
   told = told;
@@ -223,6 +223,6 @@ holds_whole Accepted log requests bytes whole len told held = record {
   behind = subst (λ (b : Bool). MatchBool b ((request : Request) × IsRecordable request × Accepted request × IsFirstOf [] (record_of request)) (◌≡◌ {A = List ℕ} [] [])) (sym whole) refl;
 }
 
--- the records at the front of what is taken are no longer than that
-pub short_text : (bytes rest all : List ℕ) → take most_journal_bytes bytes ≡ all ++ rest → length all ≤ most_journal_bytes
-short_text bytes rest all split = omega (arith, ap length split, length-take most_journal_bytes bytes, length-append all rest)
+-- the records at the front of the accepted bytes are no longer than these
+pub short_text : (bytes rest all : List ℕ) → take max_journal_bytes bytes ≡ all ++ rest → length all ≤ max_journal_bytes
+short_text bytes rest all split = omega (arith, ap length split, length-take max_journal_bytes bytes, length-append all rest)

@@ -1,20 +1,20 @@
--- What was served on a pair was served from its input to its output.
+-- What was served over a pair was served from its input to its output.
 use Rattle.std.proofs.Common.{◌≡◌, ℕ, List, [], ◌∷◌, ap, subst}
 use Rattle.std.specs.Borrow.{GName}
-use Rattle.store_core.specs.Keeping.{Kept}
+use Rattle.store_core.specs.ValidStates.{IsValidState}
 use Rattle.store_core.specs.State.{State}
-use Rattle.feed_laws.specs.Holding.{FollowedStep}
-use Rattle.notes.specs.declared.edit.Edit.{Edit}
-use Rattle.xcap_io.specs.Causes.{Aside, LineState}
+use Rattle.xcap_machine.specs.SubscriberVersions.{FollowedStep}
+use Rattle.edit_ops.specs.declared.edit.Edit.{Edit}
+use Rattle.xcap_io.specs.Causes.{Aside, StreamState}
 use Rattle.xcap_io.specs.Pairs.{pair_state}
 use Rattle.xcap_io.proofs.Pairing.{Through, through}
-use Rattle.http_serve.specs.Connections.{ServesLine}
-use Rattle.http_serve.specs.Written.{InBytes}
-use Rattle.http_wire.specs.declared.ended.Ended.{Ended}
+use Rattle.http_serve.specs.Connections.{ServesStream}
+use Rattle.http_serve.specs.ReplyBytes.{InBytes}
+use Rattle.http_wire.specs.declared.close_reason.CloseReason.{CloseReason}
 use Rattle.xcap_app.specs.Frames.{JustRead, JustWritten}
 use Rattle.xcap_app.specs.Replays.{ServesInput}
 
-just_read : (input output input' output' : LineState) → Through input output input' output' → JustRead input input'
+just_read : (input output input' output' : StreamState) → Through input output input' output' → JustRead input input'
 just_read input output input' output' t = record {
   same_taken = ap (λ (m : Aside). m.taken) t.same_unread;
   same_write_faults = ap (λ (m : Aside). m.faults) t.same_unread;
@@ -24,7 +24,7 @@ just_read input output input' output' t = record {
   same_peer = ap (λ (m : Aside). m.peer) t.same_unread;
 }
 
-just_written : (input output input' output' : LineState) → Through input output input' output' → JustWritten output output'
+just_written : (input output input' output' : StreamState) → Through input output input' output' → JustWritten output output'
 just_written input output input' output' t = record {
   same_inward = ap (λ (m : Aside). m.inward) t.same_unwritten;
   same_read_faults = ap (λ (m : Aside). m.faults) t.same_unwritten;
@@ -35,13 +35,13 @@ just_written input output input' output' t = record {
 }
 
 module _ {W : Type 0} (Keeps : List Edit → W → W → Type 0) where
-  pub by_pair : (root : List ℕ) (ended : Ended) (m m' : State) (input output input' output' made : LineState) (a o a' o' : GName) (w w' : W)
-      → made ≡ pair_state input output (a ∷ o ∷ []) → Kept m'
-      → ServesLine (InBytes (FollowedStep root)) Keeps ended m m' made (pair_state input' output' (a' ∷ o' ∷ [])) w w'
+  pub by_pair : (root : List ℕ) (ended : CloseReason) (m m' : State) (input output input' output' made : StreamState) (a o a' o' : GName) (w w' : W)
+      → made ≡ pair_state input output (a ∷ o ∷ []) → IsValidState m'
+      → ServesStream (InBytes (FollowedStep root)) Keeps ended m m' made (pair_state input' output' (a' ∷ o' ∷ [])) w w'
       → ServesInput Keeps root m ended input input' output output' w w'
   by_pair root ended m m' input output input' output' made a o a' o' w w' was kept s =
-      let on : ServesLine (InBytes (FollowedStep root)) Keeps ended m m' (pair_state input output (a ∷ o ∷ [])) (pair_state input' output' (a' ∷ o' ∷ [])) w w' =
-      subst (λ (l : LineState). ServesLine (InBytes (FollowedStep root)) Keeps ended m m' l (pair_state input' output' (a' ∷ o' ∷ [])) w w') was s in
+      let on : ServesStream (InBytes (FollowedStep root)) Keeps ended m m' (pair_state input output (a ∷ o ∷ [])) (pair_state input' output' (a' ∷ o' ∷ [])) w w' =
+      subst (λ (l : StreamState). ServesStream (InBytes (FollowedStep root)) Keeps ended m m' l (pair_state input' output' (a' ∷ o' ∷ [])) w w') was s in
       let t : Through input output input' output' = through input output input' output' on.exchanges.same_holds on.exchanges.same_aside in
       record {
         state = m';

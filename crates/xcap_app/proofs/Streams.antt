@@ -1,17 +1,17 @@
--- A journal over a stream holds what the stream took since it was made.
+-- A journal over a stream has the bytes that the stream took since it was made.
 use Rattle.std.proofs.Common.{◌≡◌, ℕ, ◌-◌, ◌<◌, inl, inr, List, ◌∷◌, ◌++◌, length, sym, ap, subst, ◌∙◌, arith, append_assoc, take-append-drop}
 use Rattle.std.specs.Borrow.{GName}
-use Rattle.xcap_io.specs.Causes.{Aside, LineState, Rose}
+use Rattle.xcap_io.specs.Causes.{Aside, StreamState, CountRises}
 use Rattle.xcap_io.specs.Pairs.{unwritten}
-use Rattle.edit_journal.specs.Journals.{AddsSome, Goes, JournalState}
+use Rattle.edit_journal.specs.Journals.{AddsSome, IsJournalProgress, JournalState}
 use Rattle.edit_journal.specs.Streams.{stream_state}
-use Rattle.xcap_io.specs.Passing.{Took}
+use Rattle.xcap_io.specs.StreamTraffic.{Took}
 use Rattle.xcap_app.specs.inner.Streams.{Streams}
 
-rose_by : (old new : JournalState) → old.faults ≡ 0 → Goes old new → 0 < new.faults → Rose old.beneath new.beneath
+rose_by : (old new : JournalState) → old.faults ≡ 0 → IsJournalProgress old new → 0 < new.faults → CountRises old.beneath new.beneath
 rose_by old new none goes some = elim (goes.cause none) [ inl zero ↦ absurd (omega (arith, zero, some)) | inr rose ↦ rose ]
 
-pub streams : (output output' : LineState) (name name' : GName) (made : JournalState) (len' faults' : ℕ) → made ≡ stream_state output name 0 0 → made.before ≡ output.taken → Goes made (stream_state output' name' len' faults') → Streams output output' (stream_state output' name' len' faults')
+pub streams : (output output' : StreamState) (name name' : GName) (made : JournalState) (len' faults' : ℕ) → made ≡ stream_state output name 0 0 → made.before ≡ output.taken → IsJournalProgress made (stream_state output' name' len' faults') → Streams output output' (stream_state output' name' len' faults')
 streams output output' name name' made len' faults' is behind goes =
     let new : JournalState = stream_state output' name' len' faults' in
     let parts : new.before ++ new.held ≡ output'.taken = take-append-drop (length output'.taken - len') output'.taken in
@@ -29,18 +29,18 @@ streams output output' name name' made len' faults' is behind goes =
         same_port = ap (λ (a : Aside). a.port) same;
         same_peer = ap (λ (a : Aside). a.peer) same;
       };
-      cause = λ some. subst (λ (n : ℕ). Rose n output'.write_faults) (ap (λ (j : JournalState). j.beneath) is) (rose_by made new (ap (λ (j : JournalState). j.faults) is) goes some);
+      cause = λ some. subst (λ (n : ℕ). CountRises n output'.write_faults) (ap (λ (j : JournalState). j.beneath) is) (rose_by made new (ap (λ (j : JournalState). j.faults) is) goes some);
     }
 
--- what it holds was written
-pub wrote : (output output' : LineState) (journal' : JournalState) (bytes : List ℕ) → Streams output output' journal' → journal'.held ≡ bytes → Took output.taken output'.taken bytes
+-- the journal's bytes were written
+pub wrote : (output output' : StreamState) (journal' : JournalState) (bytes : List ℕ) → Streams output output' journal' → journal'.held ≡ bytes → Took output.taken output'.taken bytes
 wrote output output' journal' bytes s held = s.taken ∙ ap (λ (l : List ℕ). output.taken ++ l) held
 
--- some of a record behind others
-pub adds_some : (output output' : LineState) (journal' : JournalState) (before record_bytes : List ℕ) → Streams output output' journal' → AddsSome before journal'.held record_bytes → AddsSome (output.taken ++ before) output'.taken record_bytes
+-- a part of a record, after others
+pub adds_some : (output output' : StreamState) (journal' : JournalState) (before record_bytes : List ℕ) → Streams output output' journal' → AddsSome before journal'.held record_bytes → AddsSome (output.taken ++ before) output'.taken record_bytes
 adds_some output output' journal' before record_bytes s (some, first, is) =
     (some, first, s.taken ∙ ap (λ (l : List ℕ). output.taken ++ l) is ∙ sym (append_assoc output.taken before some))
 
--- the reference that it holds is the one that it was made with
+-- the reference that it has is the one that it was made with
 pub same_name : (name name' : GName) (holds holds' : List GName) → name ∷ holds ≡ name' ∷ holds' → name ≡ name'
 same_name name name' holds holds' h = cc

@@ -1,31 +1,32 @@
--- What `check` does with its input and its output, by how it ends. This is the project's own.
+-- What `check` does with its input and its output, by how it ends. The project's own.
 use Rattle.std.specs.Prelude.{◌≡◌, ℕ, ◌+◌, ◌≤◌, List, codes, length}
 use Rattle.doc_names.specs.declared.usages.Usage.{Usage}
-use Rattle.xcap_io.specs.Causes.{LineState}
-use Rattle.store_core.specs.Limits.{most_bytes}
-use Rattle.stream_texts.specs.Inputs.{GaveAndFailed, GaveText, JustGave}
-use Rattle.stream_texts.specs.Outputs.{TakesAll, TakesSome}
+use Rattle.xcap_io.specs.Causes.{StreamState}
+use Rattle.store_core.specs.Limits.{max_bytes}
+use Rattle.client_commands.specs.Inputs.{GaveAndFailed, GaveText, JustGave}
+use Rattle.client_commands.specs.Outputs.{TakesAll, TakesSome}
 use Rattle.xcap_app.specs.Verdicts.{TextVerdict}
 use Rattle.xcap_app.specs.declared.exit.Exit.{Exit}
 use Rattle.xcap_app.specs.declared.exit.Exit.TheVariants.{Done, InputFailed, OutputFailed, Refused, OutOfMemory}
 use Rattle.xcap_app.specs.declared.refusal.Refusal.TheVariants.{TooLarge}
 
--- the text that the input gave is judged so
-abbrev pub JudgedBy : Usage → Exit → LineState → LineState → Type 0
-JudgedBy usage exit input input' = (text : List ℕ) × GaveText most_bytes text input input' × TextVerdict usage text exit
+-- the verdict on the text that the input gave
+abbrev pub JudgedBy : Usage → Exit → StreamState → StreamState → Type 0
+JudgedBy usage exit input input' = (text : List ℕ) × GaveText max_bytes text input input' × TextVerdict usage text exit
 
--- what was made of the input, by how the command ends: a valid document, or why it is none; one byte more than a document may
--- have, of which no more are read; or a fault or want of memory behind some bytes
-abbrev pub Examines : Usage → Exit → LineState → LineState → Type 0
+-- the examination of the input, by how the command ends: a valid document, or why it is none; one
+-- byte more than a document may have, after which no more are read; or a fault or out of memory
+-- after some bytes
+abbrev pub Examines : Usage → Exit → StreamState → StreamState → Type 0
 Examines usage Done input input' = JudgedBy usage Done input input'
-Examines usage InputFailed input input' = (front : List ℕ) × GaveAndFailed front input input' × (length front ≤ most_bytes)
-Examines usage (Refused TooLarge) input input' = (front : List ℕ) × JustGave front input input' × (length front ≡ most_bytes + 1)
+Examines usage InputFailed input input' = (front : List ℕ) × GaveAndFailed front input input' × (length front ≤ max_bytes)
+Examines usage (Refused TooLarge) input input' = (front : List ℕ) × JustGave front input input' × (length front ≡ max_bytes + 1)
 Examines usage (Refused refusal) input input' = JudgedBy usage (Refused refusal) input input'
-Examines usage OutOfMemory input input' = (front : List ℕ) × JustGave front input input' × (length front ≤ most_bytes + 1)
+Examines usage OutOfMemory input input' = (front : List ℕ) × JustGave front input input' × (length front ≤ max_bytes + 1)
 Examines usage _ input input' = ⊥
 
--- of a valid document `valid` is written and a line end, and of none anything
-abbrev pub Checks : Usage → Exit → LineState → LineState → LineState → LineState → Type 0
+-- for a valid document `valid` and a line end are written, and else nothing
+abbrev pub Checks : Usage → Exit → StreamState → StreamState → StreamState → StreamState → Type 0
 Checks usage Done input input' output output' = Examines usage Done input input' × TakesAll (codes "valid\n") output output'
 Checks usage InputFailed input input' output output' = Examines usage InputFailed input input' × (output' ≡ output)
 Checks usage OutputFailed input input' output output' = Examines usage Done input input' × TakesSome (codes "valid\n") output output'

@@ -1,8 +1,8 @@
--- How a run of the program can end. The statuses and texts are the project's own.
+-- How a run of the program can end. The statuses and messages are the project's own.
 use Rattle.std.specs.Prelude.{ℕ, List, [], ◌++◌, codes, decimal, encode_utf8_all}
 use Rattle.xml_tree.specs.PathTexts.{path_text}
 use Rattle.usage_docs.specs.Keys.{word}
-use Rattle.usage_docs.specs.declared.judging.Fault.TheVariants.{Invalid, Unformed, Repeated}
+use Rattle.usage_docs.specs.declared.validation.Fault.TheVariants.{Invalid, Unformed, Repeated}
 use Rattle.client_commands.specs.Words.{fault_words, status_of_fault}
 use Rattle.xcap_app.specs.declared.exit.Exit.{Exit}
 use Rattle.xcap_app.specs.declared.exit.Exit.TheVariants.{Done, Usage, InputFailed, OutputFailed, NetworkFailed, Refused, Client, BadJournal, OutOfMemory}
@@ -15,7 +15,7 @@ use Rattle.xcap_app.specs.declared.refusal.Refusal.TheVariants.{TooLarge, NotUtf
 unfoldable pub usage_line : List ℕ
 usage_line = codes "usage: xcapd replay ROOT | serve ADDR ROOT COUNT | keep ADDR ROOT COUNT | check AUID | sample N | fetch USER ROOT PATH | put USER ROOT PATH TYPE | delete USER ROOT PATH | follow USER ROOT DOCUMENT ROUNDS\n"
 
--- the status that the program ends with
+-- the status that the program exits with
 abbrev pub status_of : Exit → ℕ
 status_of Done = 0
 status_of Usage = 2
@@ -27,7 +27,8 @@ status_of (Client fault) = status_of_fault fault
 status_of (BadJournal refusal) = 6
 status_of OutOfMemory = 7
 
--- why the input is no valid document, on one line; of an element that repeats a sibling's key its place as a positional selector, and the key
+-- why the input is no valid document, on one line; for an element that repeats a sibling's key its
+-- place as a positional selector, and the key
 abbrev pub refusal_words : Refusal → List ℕ
 refusal_words TooLarge = codes "too-large\n"
 refusal_words NotUtf8 = codes "not-utf-8\n"
@@ -42,7 +43,7 @@ journal_words (Damaged place) = codes "journal: damaged " ++ (decimal place ++ c
 journal_words (RefusedAt number) = codes "journal: refused " ++ (decimal number ++ codes "\n")
 journal_words TooLong = codes "journal: too-long\n"
 
--- the words on the stream for errors, on one line; none where all went well
+-- the message on the stream for errors, on one line; none after success
 abbrev pub words_of : Exit → List ℕ
 words_of Done = []
 words_of Usage = usage_line
@@ -54,7 +55,7 @@ words_of (Client fault) = fault_words fault
 words_of (BadJournal refusal) = journal_words refusal
 words_of OutOfMemory = codes "out of memory\n"
 
--- the words take memory: the input was refused, or a call of the client failed
+-- the message allocates: the input was refused, or a call of the client failed
 abbrev pub IsRefused : Exit → Type 0
 IsRefused (Refused refusal) = Unit {0}
 IsRefused (Client fault) = Unit {0}

@@ -1,31 +1,33 @@
--- What `replay` does, by how it ends. The machine is that of RFC 4825; the command is the project's own.
+-- What `replay` does, by how it ends. The machine follows RFC 4825; the command is the
+-- project's own.
 use Rattle.std.specs.Prelude.{◌≡◌, ℕ, List}
-use Rattle.store_core.specs.Keeping.{Kept}
+use Rattle.store_core.specs.ValidStates.{IsValidState}
 use Rattle.store_core.specs.State.{State, first_state}
-use Rattle.feed_laws.specs.Holding.{FollowedStep}
-use Rattle.notes.specs.declared.edit.Edit.{Edit}
-use Rattle.xcap_io.specs.Causes.{LineState}
+use Rattle.xcap_machine.specs.SubscriberVersions.{FollowedStep}
+use Rattle.edit_ops.specs.declared.edit.Edit.{Edit}
+use Rattle.xcap_io.specs.Causes.{StreamState}
 use Rattle.xcap_io.specs.Histories.{Traffic}
-use Rattle.xcap_io.specs.Passing.{Gave, Took}
+use Rattle.xcap_io.specs.StreamTraffic.{Gave, Took}
 use Rattle.http_wire.specs.Serving.{Serves}
 use Rattle.http_serve.specs.Endings.{FaultsBy}
 use Rattle.http_serve.specs.Fixed.{fixed}
-use Rattle.http_serve.specs.Written.{InBytes}
-use Rattle.http_wire.specs.declared.ended.Ended.{Ended}
-use Rattle.http_wire.specs.declared.ended.Ended.TheVariants.{Closed, ReadFailed, WriteFailed}
+use Rattle.http_serve.specs.ReplyBytes.{InBytes}
+use Rattle.http_wire.specs.declared.close_reason.CloseReason.{CloseReason}
+use Rattle.http_wire.specs.declared.close_reason.CloseReason.TheVariants.{Closed, ReadFailed, WriteFailed}
 use Rattle.xcap_app.specs.Frames.{JustRead, JustWritten}
 use Rattle.xcap_app.specs.declared.exit.Exit.{Exit}
 use Rattle.xcap_app.specs.declared.exit.Exit.TheVariants.{Done, InputFailed, OutputFailed, OutOfMemory}
 
--- W is the type of the watchers, and `Keeps` says what they are after such changes.
+-- W is the type of the watchers, and `Keeps` relates them before and after such changes.
 module _ {W : Type 0} (Keeps : List Edit → W → W → Type 0) where
-  -- The input was served as one connection by the machine of this root from this state on, each state on the way kept and
-  -- subscribers kept up to date by the replies to feeds: this passed over it, the bytes that the input gave, whether its last read
-  -- found the end, and the bytes that the output took, which are the replies. The connection ended so, the watchers were told the
+  -- The input was served as one connection by the machine of this root from this state on, through
+  -- valid states, with subscribers kept up to date by the replies to feeds. The traffic is the
+  -- bytes that the input gave, whether its last read found the end, and the bytes that the output
+  -- took, which are the replies. The connection ended so, the watchers were notified of the
   -- changes, in order, and nothing else was done with the input and the output.
-  pub record ServesInput (root : List ℕ) (before : State) (ended : Ended) (input input' output output' : LineState) (watchers watchers' : W) : Type 0 where
+  pub record ServesInput (root : List ℕ) (before : State) (ended : CloseReason) (input input' output output' : StreamState) (watchers watchers' : W) : Type 0 where
     pub state : State
-    pub kept : Kept state
+    pub kept : IsValidState state
     pub passed : Traffic
     pub edits : List Edit
     pub gave : Gave input.inward input'.inward passed.given
@@ -37,9 +39,9 @@ module _ {W : Type 0} (Keeps : List Edit → W → W → Type 0) where
     pub just_read : JustRead input input'
     pub just_written : JustWritten output output'
 
-  -- The connection was served, from the state without documents whose next number is 1, and the command ends as the connection
-  -- did; or memory was wanted, and nothing was done.
-  abbrev pub ReplaysCommand : List ℕ → Exit → LineState → LineState → LineState → LineState → W → W → Type 0
+  -- The connection was served, from the state without documents whose next number is 1, and the
+  -- command ends as the connection did; or memory ran out, and nothing was done.
+  abbrev pub ReplaysCommand : List ℕ → Exit → StreamState → StreamState → StreamState → StreamState → W → W → Type 0
   ReplaysCommand root Done input input' output output' watchers watchers' = ServesInput root (first_state 1) Closed input input' output output' watchers watchers'
   ReplaysCommand root InputFailed input input' output output' watchers watchers' = ServesInput root (first_state 1) ReadFailed input input' output output' watchers watchers'
   ReplaysCommand root OutputFailed input input' output output' watchers watchers' = ServesInput root (first_state 1) WriteFailed input input' output output' watchers watchers'

@@ -1,14 +1,15 @@
--- What a run of the program did, by the command that its words spell and by how it ended. This is the project's own.
+-- What a run of the program did, by the command that its words spell and by how it ended. The
+-- project's own.
 use Rattle.std.specs.Prelude.{◌≡◌, List, encode_utf8_all, Option, None, Some, ◌⊎◌}
-use Rattle.notes.specs.declared.edit.Edit.{Edit}
-use Rattle.xcap_io.specs.Causes.{LineState}
+use Rattle.edit_ops.specs.declared.edit.Edit.{Edit}
+use Rattle.xcap_io.specs.Causes.{StreamState}
 use Rattle.xcap_client.specs.Asks.{getting, removing}
 use Rattle.client_commands.specs.Endings.{MakesOneCall}
 use Rattle.client_commands.specs.Lines.{line_of_status}
 use Rattle.client_commands.specs.Puts.{AsksNothing, Puts}
-use Rattle.xcap_app.specs.Asking.{RunsAs, RunsFollow}
+use Rattle.xcap_app.specs.ClientCommands.{RunsAs, RunsFollow}
 use Rattle.xcap_app.specs.Checks.{Checks}
-use Rattle.xcap_app.specs.Keeping.{KeepsCommand}
+use Rattle.xcap_app.specs.KeepCommand.{KeepsCommand}
 use Rattle.xcap_app.specs.Replays.{ReplaysCommand}
 use Rattle.xcap_app.specs.Samples.{RunsSample}
 use Rattle.xcap_app.specs.declared.command.Command.{Command}
@@ -17,10 +18,11 @@ use Rattle.xcap_app.specs.declared.exit.Exit.{Exit}
 use Rattle.xcap_app.specs.declared.exit.Exit.TheVariants.{Usage, OutOfMemory}
 use Rattle.xcap_app.specs.Serves.{ServesCommand}
 
--- W is the type of the watchers, and `Keeps` says what they are after such changes.
+-- W is the type of the watchers, and `Keeps` relates them before and after such changes.
 module _ {W : Type 0} (Keeps : List Edit → W → W → Type 0) where
-  -- What was done, and that all else is as before. Where the words spell no command, want of memory may come before that is known.
-  abbrev pub Runs : Option Command → Exit → LineState → LineState → LineState → LineState → LineState → LineState → LineState → LineState → W → W → Type 0
+  -- What was done, and that all else is unchanged. Where the words spell no command, memory may
+  -- run out before that is known.
+  abbrev pub Runs : Option Command → Exit → StreamState → StreamState → StreamState → StreamState → StreamState → StreamState → StreamState → StreamState → W → W → Type 0
   Runs None exit port port' peer peer' input input' output output' watchers watchers' =
       ((exit ≡ Usage) ⊎ (exit ≡ OutOfMemory)) × (port' ≡ port) × (peer' ≡ peer) × (input' ≡ input) × (output' ≡ output) × (watchers' ≡ watchers)
   Runs (Some (Replay root)) exit port port' peer peer' input input' output output' watchers watchers' =
@@ -33,11 +35,11 @@ module _ {W : Type 0} (Keeps : List Edit → W → W → Type 0) where
       Checks usage exit input input' output output' × (port' ≡ port) × (peer' ≡ peer) × (watchers' ≡ watchers)
   Runs (Some (Sample requests)) exit port port' peer peer' input input' output output' watchers watchers' =
       RunsSample requests exit output output' × (port' ≡ port) × (peer' ≡ peer) × (input' ≡ input) × (watchers' ≡ watchers)
-  Runs (Some (Fetch asker path)) exit port port' peer peer' input input' output output' watchers watchers' =
-      RunsAs (λ ended. MakesOneCall asker.root (getting asker.user path) (λ response. response.body) ended peer peer' output output') (AsksNothing peer peer' output output') exit × (port' ≡ port) × (input' ≡ input) × (watchers' ≡ watchers)
-  Runs (Some (Put asker path media)) exit port port' peer peer' input input' output output' watchers watchers' =
-      RunsAs (λ ended. Puts asker.root asker.user path media ended peer peer' input input' output output') ((input' ≡ input) × AsksNothing peer peer' output output') exit × (port' ≡ port) × (watchers' ≡ watchers)
-  Runs (Some (Delete asker path)) exit port port' peer peer' input input' output output' watchers watchers' =
-      RunsAs (λ ended. MakesOneCall asker.root (removing asker.user path) (λ response. line_of_status response.status) ended peer peer' output output') (AsksNothing peer peer' output output') exit × (port' ≡ port) × (input' ≡ input) × (watchers' ≡ watchers)
-  Runs (Some (Follow asker document rounds)) exit port port' peer peer' input input' output output' watchers watchers' =
-      RunsFollow asker document rounds exit peer peer' output output' × (port' ≡ port) × (input' ≡ input) × (watchers' ≡ watchers)
+  Runs (Some (Fetch requester path)) exit port port' peer peer' input input' output output' watchers watchers' =
+      RunsAs (λ ended. MakesOneCall requester.root (getting requester.user path) (λ response. response.body) ended peer peer' output output') (AsksNothing peer peer' output output') exit × (port' ≡ port) × (input' ≡ input) × (watchers' ≡ watchers)
+  Runs (Some (Put requester path media)) exit port port' peer peer' input input' output output' watchers watchers' =
+      RunsAs (λ ended. Puts requester.root requester.user path media ended peer peer' input input' output output') ((input' ≡ input) × AsksNothing peer peer' output output') exit × (port' ≡ port) × (watchers' ≡ watchers)
+  Runs (Some (Delete requester path)) exit port port' peer peer' input input' output output' watchers watchers' =
+      RunsAs (λ ended. MakesOneCall requester.root (removing requester.user path) (λ response. line_of_status response.status) ended peer peer' output output') (AsksNothing peer peer' output output') exit × (port' ≡ port) × (input' ≡ input) × (watchers' ≡ watchers)
+  Runs (Some (Follow requester document rounds)) exit port port' peer peer' input input' output output' watchers watchers' =
+      RunsFollow requester document rounds exit peer peer' output output' × (port' ≡ port) × (input' ≡ input) × (watchers' ≡ watchers)

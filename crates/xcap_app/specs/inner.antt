@@ -1,5 +1,5 @@
--- What private functions and proofs speak of. No clause of a public call needs it.
-pub mod Streams
+-- What private functions and proofs use. No clause of a public call needs it.
 pub mod Exits
+pub mod Messages
 pub mod Replays
-pub mod Telling
+pub mod Streams

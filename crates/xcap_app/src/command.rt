@@ -1,24 +1,25 @@
-// What the words of the command line can spell.
-use client_commands::Asker;
+// The commands of the command line.
+use client_commands::Requester;
 use doc_names::Usage;
 use xcap_uri::Root;
 use xml_tree::Text;
 
-/// A command, with what its words say.
+/// A command, with its arguments.
 #[derive(Drop)]
 pub enum Command {
-    /// Serves the input as one connection, whose replies go to the output, by a server of this root.
+    /// Serves the input as one connection, whose replies go to the output, by a server of this
+    /// root.
     Replay {
         root: Root,
     },
-    /// Serves the connections that come at an address, so many at most, by a server of this root.
+    /// Serves the connections that come at an address, at most `count`, by a server of this root.
     Serve {
         address: Text,
         root: Root,
         count: u32,
     },
-    /// Serves the connections that come at an address, so many at most, by a server of this root that is brought back from the
-    /// journal that the input is, and keeps a journal on the output.
+    /// Serves the connections that come at an address, at most `count`, by a server of this root
+    /// that restarts from the journal on the input, and writes a journal to the output.
     Keep {
         address: Text,
         root: Root,
@@ -28,29 +29,29 @@ pub enum Command {
     Check {
         usage: Usage,
     },
-    /// Makes a sample of so many requests on a server in memory.
+    /// Makes a sample of this many requests on a server in memory.
     Sample {
         requests: u32,
     },
-    /// Asks a server for what stands at this path.
+    /// Fetches the resource at this path from a server.
     Fetch {
-        asker: Asker,
+        requester: Requester,
         path: Text,
     },
-    /// Asks that the input stands at this path, with this media type.
+    /// Puts the input at this path, with this media type.
     Put {
-        asker: Asker,
+        requester: Requester,
         path: Text,
         media: Text,
     },
-    /// Asks that nothing stands at this path.
+    /// Removes the resource at this path.
     Delete {
-        asker: Asker,
+        requester: Requester,
         path: Text,
     },
-    /// Follows the document that this text names under the root for so many rounds.
+    /// Follows the document that this text names under the root, for `rounds` rounds.
     Follow {
-        asker: Asker,
+        requester: Requester,
         document: Text,
         rounds: u64,
     },

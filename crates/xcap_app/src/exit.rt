@@ -1,11 +1,11 @@
-// How a run ends: its status, and the words that it tells on the stream for errors.
+// How a run ends: its status, and its message on the stream for errors.
 ghost use Rattle.std.specs.Prelude.{◌≡◌, IfOk, OnErr};
 ghost use Rattle.xcap_app.specs.Exits.{IsRefused, status_of, words_of};
 ghost use Rattle.xcap_app.specs.inner.Exits.{said};
 
 use crate::journal_refusal::JournalRefusal;
 use crate::refusal::Refusal;
-use feed_follower::FollowerFault;
+use client_follower::FollowerFault;
 use std::alloc::{AllocError, Global};
 
 /// How a run of the program ends.
@@ -23,28 +23,28 @@ pub enum Exit {
     NetworkFailed,
     /// The input of `check` is no valid document, or that of `put` is too large for one.
     Refused(Refusal),
-    /// The input of `keep` is no journal that a server can be brought back from.
+    /// The input of `keep` is no journal from which a server can restart.
     BadJournal(JournalRefusal),
-    /// A call of the client failed: its peer did, or refused, or what came is nothing that is taken.
+    /// A call of the client failed: its peer failed, or refused, or sent an unusable response.
     Client(FollowerFault),
-    /// Memory was wanted before the first request, or by a command that serves none.
+    /// Out of memory before the first request, or in a command that serves none.
     OutOfMemory,
 }
 
-/// What is told for errors.
+/// The message on the stream for errors.
 #[derive(Drop)]
-pub(crate) enum Words {
+pub(crate) enum Message {
     Fixed(&'static [u8]),
     Made(String),
 }
 
-impl Words {
+impl Message {
     pub(crate) fn as_slice(&self) -> &[u8]
-        ensures lends_the_words { result.now ≡ said self.now }
+        ensures exact { result.now ≡ said self.now }
     {
         match self {
-            Words::Fixed(words) => words,
-            Words::Made(words) => words.as_bytes(),
+            Message::Fixed(words) => words,
+            Message::Made(words) => words.as_bytes(),
         }
     }
 }
@@ -53,9 +53,9 @@ const USAGE: &[u8] =
     b"usage: xcapd replay ROOT | serve ADDR ROOT COUNT | keep ADDR ROOT COUNT | check AUID | sample N | fetch USER ROOT PATH | put USER ROOT PATH TYPE | delete USER ROOT PATH | follow USER ROOT DOCUMENT ROUNDS\n";
 
 impl Exit {
-    /// The status that the program ends with.
+    /// The status that the program exits with.
     pub fn status(&self) -> u8
-        ensures status_of_the_exit { result ≡ status_of self.now }
+        ensures exact { result ≡ status_of self.now }
     {
         match self {
             Exit::Done => 0,
@@ -70,25 +70,26 @@ impl Exit {
         }
     }
 
-    /// What is told on the stream for errors.
+    /// The message on the stream for errors.
     ///
     /// # Errors
-    /// `NoMemory` for want of memory, which only the words of a refusal and of a call that failed take.
+    /// `NoMemory` when out of memory; only the messages of a refusal and of a call that failed
+    /// allocate.
     #[tactic(auto, unfolding(crate::specs::Exits::usage_line))]
-    pub(crate) fn words(&self, alloc: Global) -> Result<Words, AllocError>
-        ensures words_of_the_exit { IfOk result (λ words. said words ≡ words_of self.now) }
-        ensures wants_memory_of_refusals_alone { OnErr result (IsRefused self.now) }
+    pub(crate) fn words(&self, alloc: Global) -> Result<Message, AllocError>
+        ensures ok { IfOk result (λ words. said words ≡ words_of self.now) }
+        ensures err_is_refusal { OnErr result (IsRefused self.now) }
     {
         match self {
-            Exit::Done => Ok(Words::Fixed(b"")),
-            Exit::Usage => Ok(Words::Fixed(USAGE)),
-            Exit::InputFailed => Ok(Words::Fixed(b"input failed\n")),
-            Exit::OutputFailed => Ok(Words::Fixed(b"output failed\n")),
-            Exit::NetworkFailed => Ok(Words::Fixed(b"network failed\n")),
-            Exit::Refused(refusal) => Ok(Words::Made(refusal.words(alloc)?)),
-            Exit::Client(fault) => Ok(Words::Made(client_commands::words_of(alloc, fault)?)),
-            Exit::BadJournal(refusal) => Ok(Words::Made(refusal.words(alloc)?)),
-            Exit::OutOfMemory => Ok(Words::Fixed(b"out of memory\n")),
+            Exit::Done => Ok(Message::Fixed(b"")),
+            Exit::Usage => Ok(Message::Fixed(USAGE)),
+            Exit::InputFailed => Ok(Message::Fixed(b"input failed\n")),
+            Exit::OutputFailed => Ok(Message::Fixed(b"output failed\n")),
+            Exit::NetworkFailed => Ok(Message::Fixed(b"network failed\n")),
+            Exit::Refused(refusal) => Ok(Message::Made(refusal.words(alloc)?)),
+            Exit::Client(fault) => Ok(Message::Made(client_commands::words_of(alloc, fault)?)),
+            Exit::BadJournal(refusal) => Ok(Message::Made(refusal.words(alloc)?)),
+            Exit::OutOfMemory => Ok(Message::Fixed(b"out of memory\n")),
         }
     }
 }

@@ -4,24 +4,24 @@ ghost use Rattle.xcap_app.specs.Exits.{journal_words};
 
 use std::alloc::{AllocError, Global};
 
-/// Why the input of `keep` is no journal that a server can be brought back from.
+/// Why the input of `keep` is no journal from which a server can restart.
 #[derive(Clone, Copy, PartialEq, Eq)]
 pub enum JournalRefusal {
-    /// From this place on its bytes begin no record.
+    /// Its bytes from this place on begin no record.
     Damaged(u64),
-    /// The request of this record, counted from 1, makes no change behind those before it.
+    /// The request of this record, counted from 1, makes no change after those before it.
     Refused(u64),
     /// It has more than `MAX_JOURNAL` bytes.
     TooLong,
 }
 
 impl JournalRefusal {
-    /// What is told of it.
+    /// The message about it.
     ///
     /// # Errors
-    /// `NoMemory` for want of memory.
+    /// `NoMemory` when out of memory.
     pub(crate) fn words(&self, alloc: Global) -> Result<String, AllocError>
-        ensures words_about_the_reason { IfOk result (λ words. string_bytes words ≡ journal_words self.now) }
+        ensures ok { IfOk result (λ words. string_bytes words ≡ journal_words self.now) }
     {
         match self {
             JournalRefusal::Damaged(place) => format!(in alloc; "journal: damaged {place}\n"),

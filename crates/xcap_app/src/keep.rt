@@ -1,32 +1,32 @@
-// The command `keep`: an old journal is read, a new one written, and the connections that come at an address are served by a server
-// whose accepted requests are entered in it.
+// The command `keep`: an old journal is read, a new one written, and the connections that come at
+// an address are served by a server that adds accepted requests to the new journal.
 ghost use Rattle.std.specs.Prelude.{◌≡◌, ◌<◌, ◌≤◌, List, [], length, false, All};
 ghost use Rattle.http_wire.specs.declared.request.Request.{Request as TheRequest};
-ghost use Rattle.edit_journal.specs.Journals.{Goes};
-ghost use Rattle.edit_journal.specs.Limits.{most_journal_bytes};
-ghost use Rattle.edit_journal.specs.Texts.{IsTold, text};
-ghost use Rattle.store_core.specs.Held.{Stands};
-ghost use Rattle.store_core.specs.Keeping.{Kept};
+ghost use Rattle.edit_journal.specs.Journals.{IsJournalProgress};
+ghost use Rattle.edit_journal.specs.Limits.{max_journal_bytes};
+ghost use Rattle.edit_journal.specs.Texts.{IsRecordedRequest, text};
+ghost use Rattle.store_core.specs.Contents.{Represents};
+ghost use Rattle.store_core.specs.ValidStates.{IsValidState};
 ghost use Rattle.store_core.specs.State.{State, first_state};
-ghost use Rattle.xcap_server.specs.Redoing.{Redoing};
-ghost use Rattle.xcap_io.specs.Causes.{LineState};
-ghost use Rattle.xcap_app.specs.Keeping.{KeepsCommand, KeepsOn, exit_of_restart};
+ghost use Rattle.xcap_server.specs.ReplayedRequests.{Redoing};
+ghost use Rattle.xcap_io.specs.Causes.{StreamState};
+ghost use Rattle.xcap_app.specs.KeepCommand.{KeepsCommand, KeepsOn, exit_of_restart};
 ghost use Rattle.xcap_app.specs.inner.Streams.{Streams};
 
 use crate::exit::Exit;
 use crate::journal_refusal::JournalRefusal;
-use edit_journal::{Journal, Log, RestartFault, StreamJournal, restart};
-use http_serve::Stop;
-use notes::Edit;
+use edit_journal::{Journal, JournalLog, RestartFault, StreamJournal, restart};
+use edit_ops::Edit;
+use http_serve::StopReason;
 use std::alloc::Global;
 use watchers::Watchers;
 use xcap_io::{Failed, Line, Port, Sink, Source};
 use xcap_server::{Server, serve_port_logged};
 use xcap_uri::Root;
 
-// How the command ends that couldn't read its old journal.
+// How the command ends when it couldn't read its old journal.
 fn exit_of(fault: RestartFault) -> Exit
-    ensures exit_of_the_fault { result ≡ exit_of_restart fault }
+    ensures exact { result ≡ exit_of_restart fault }
 {
     match fault {
         RestartFault::ReadFailed => Exit::InputFailed,
@@ -38,28 +38,33 @@ fn exit_of(fault: RestartFault) -> Exit
     }
 }
 
-// Listens at the address and serves the connections that come, so many at most, by a server that stands for the records that the
-// journal holds.
+// Listens at the address and serves the connections that come, at most `count`, by a server that
+// stands for the records in the journal.
 fn serve_logged<'a, O: Sink, P: Port, W: Watchers<Edit>>(
     server: &mut Server,
-    log: &mut Log,
+    log: &mut JournalLog,
     journal: &mut StreamJournal<'a, O>,
     address: &str,
     count: u32,
     port: &mut P,
     watchers: &mut W,
 ) -> Exit
-    requires whole { log.old.is_torn ≡ false }
-    requires fits { length (⟦<StreamJournal<'a, O> as Journal>⟧.state journal.old).held ≡ log.old.len }
-    requires short { log.old.len ≤ most_journal_bytes }
+    requires not_torn { log.old.is_torn ≡ false }
+    requires fits { length (⟦<StreamJournal<'a, O> as Journal>⟧.state journal.old).held
+        ≡ log.old.len }
+    requires length_bounded { log.old.len ≤ max_journal_bytes }
     requires no_fault { (⟦<StreamJournal<'a, O> as Journal>⟧.state journal.old).faults ≡ 0 }
-    ensures keeps_on { (requests : List TheRequest) (m : State) → Kept m → Stands server.old.content m
-        → Redoing server.old.root (first_state 1) requests m → All IsTold requests
+    ensures keeps_on { (requests : List TheRequest) (m : State) → IsValidState m
+        → Represents server.old.content m
+        → Redoing server.old.root (first_state 1) requests m → All IsRecordedRequest requests
         → (⟦<StreamJournal<'a, O> as Journal>⟧.state journal.old).held ≡ text requests
-        → KeepsOn W.keeps (λ bytes. (⟦<StreamJournal<'a, O> as Journal>⟧.state journal.new).held ≡ bytes)
+        → KeepsOn W.keeps (λ bytes. (⟦<StreamJournal<'a, O> as Journal>⟧.state journal.new).held
+        ≡ bytes)
         (0 < (⟦<StreamJournal<'a, O> as Journal>⟧.state journal.new).faults)
-        address.now server.old.root count result requests m (P.state port.old) (P.state port.new) watchers.old watchers.new }
-    ensures goes_on { Goes (⟦<StreamJournal<'a, O> as Journal>⟧.state journal.old) (⟦<StreamJournal<'a, O> as Journal>⟧.state journal.new) }
+        address.now server.old.root count result requests m (P.state port.old)
+        (P.state port.new) watchers.old watchers.new }
+    ensures goes_on { IsJournalProgress (⟦<StreamJournal<'a, O> as Journal>⟧.state journal.old)
+        (⟦<StreamJournal<'a, O> as Journal>⟧.state journal.new) }
 {
     if let Err(Failed) = port.listen(address) {
         return Exit::NetworkFailed;
@@ -69,12 +74,13 @@ fn serve_logged<'a, O: Sink, P: Port, W: Watchers<Edit>>(
         return Exit::OutputFailed;
     }
     match served.stop {
-        Stop::PortFailed => Exit::NetworkFailed,
-        Stop::Count | Stop::NoMore => Exit::Done,
+        StopReason::PortFailed => Exit::NetworkFailed,
+        StopReason::Count | StopReason::NoMore => Exit::Done,
     }
 }
 
-// Brings the server back from the old journal, which is the input, and serves by it. The new journal holds nothing yet.
+// Restarts the server from the old journal on the input, and serves with it. The new journal is
+// empty before.
 fn keep_over<'a, P: Port, I: Source, O: Sink, W: Watchers<Edit>>(
     alloc: Global,
     server: &mut Server,
@@ -88,10 +94,13 @@ fn keep_over<'a, P: Port, I: Source, O: Sink, W: Watchers<Edit>>(
     requires empty { server.old.content ≡ record { documents = []; next = 1 } }
     requires fresh { (⟦<StreamJournal<'a, O> as Journal>⟧.state journal.old).held ≡ [] }
     requires no_fault { (⟦<StreamJournal<'a, O> as Journal>⟧.state journal.old).faults ≡ 0 }
-    ensures keeps_by_the_server { (output output' : LineState) → Streams output output' (⟦<StreamJournal<'a, O> as Journal>⟧.state journal.new)
-        → KeepsCommand W.keeps address.now server.old.root count result (P.state port.old) (P.state port.new)
+    ensures keeps_command { (output output' : StreamState)
+        → Streams output output' (⟦<StreamJournal<'a, O> as Journal>⟧.state journal.new)
+        → KeepsCommand W.keeps address.now server.old.root count result (P.state port.old)
+        (P.state port.new)
         (I.state input.old) (I.state input.new) output output' watchers.old watchers.new }
-    ensures goes_on { Goes (⟦<StreamJournal<'a, O> as Journal>⟧.state journal.old) (⟦<StreamJournal<'a, O> as Journal>⟧.state journal.new) }
+    ensures goes_on { IsJournalProgress (⟦<StreamJournal<'a, O> as Journal>⟧.state journal.old)
+        (⟦<StreamJournal<'a, O> as Journal>⟧.state journal.new) }
 {
     let mut log = match restart(alloc, input, journal, server) {
         Ok(log) => log,
@@ -100,7 +109,7 @@ fn keep_over<'a, P: Port, I: Source, O: Sink, W: Watchers<Edit>>(
     serve_logged(server, &mut log, journal, address, count, port, watchers)
 }
 
-// The same, with the new journal on the output.
+// Restarts the server and serves with it, with the new journal on the output.
 fn keep_by<P: Port, I: Source, O: Sink, W: Watchers<Edit>>(
     alloc: Global,
     server: &mut Server,
@@ -112,8 +121,10 @@ fn keep_by<P: Port, I: Source, O: Sink, W: Watchers<Edit>>(
     watchers: &mut W,
 ) -> Exit
     requires empty { server.old.content ≡ record { documents = []; next = 1 } }
-    ensures keeps_by_the_server { KeepsCommand W.keeps address.now server.old.root count result (P.state port.old) (P.state port.new)
-        (I.state input.old) (I.state input.new) (O.state output.old) (O.state output.new) watchers.old watchers.new }
+    ensures keeps_command { KeepsCommand W.keeps address.now server.old.root count result
+        (P.state port.old) (P.state port.new)
+        (I.state input.old) (I.state input.new) (O.state output.old)
+        (O.state output.new) watchers.old watchers.new }
 {
     let mut journal = StreamJournal::new(output);
     keep_over(
@@ -128,9 +139,10 @@ fn keep_by<P: Port, I: Source, O: Sink, W: Watchers<Edit>>(
     )
 }
 
-/// Reads an old journal from the input, to its end, and writes a new one to the output: first the records of the old one that lie
-/// whole in it, and then one for each request that is accepted, before its reply. Listens at the address and serves the
-/// connections that come, so many at most, by a server of this root that is brought back from the old journal.
+/// Reads an old journal from the input, to its end, and writes a new one to the output: first the
+/// records of the old one that are whole in it, and then one for each request that is accepted,
+/// before its reply. Listens at the address and serves the connections that come, at most `count`,
+/// by a server of this root that restarts from the old journal.
 pub(crate) fn keep<P: Port, I: Source, O: Sink, W: Watchers<Edit>>(
     alloc: Global,
     address: &str,
@@ -141,8 +153,10 @@ pub(crate) fn keep<P: Port, I: Source, O: Sink, W: Watchers<Edit>>(
     output: &mut O,
     watchers: &mut W,
 ) -> Exit
-    ensures keeps_a_journal { KeepsCommand W.keeps address.now root.now count result (P.state port.old) (P.state port.new)
-        (I.state input.old) (I.state input.new) (O.state output.old) (O.state output.new) watchers.old watchers.new }
+    ensures keeps_journal { KeepsCommand W.keeps address.now root.now count result
+        (P.state port.old) (P.state port.new)
+        (I.state input.old) (I.state input.new) (O.state output.old)
+        (O.state output.new) watchers.old watchers.new }
 {
     let Ok(mut server) = Server::new(alloc, root, 1) else {
         return Exit::OutOfMemory;
@@ -157,6 +171,7 @@ pub(crate) fn keep<P: Port, I: Source, O: Sink, W: Watchers<Edit>>(
         output,
         watchers,
     );
+    // Dropped by a call, whose proof is made once, rather than at each exit.
     drop(server);
     exit
 }

@@ -1,28 +1,33 @@
-//! The program's one call: it reads the words of the command line and runs the command that they spell.
-//! Upward: a status and what was written by it, each with its cause; nothing else is read, written, begun or told.
+//! The program's one call: it reads the words of the command line and runs the command that they
+//! spell.
+//! Promises upward a status, and for each status what the command did and the cause of its end
+//! (`Runs`; for the status 0 over real sockets and streams `IsDone`); nothing else is read,
+//! written, begun or reported.
 //! The commands are the project's own; they follow RFC 4825.
+//! Whether a word is a root is found by reading it, which allocates: so words that spell no
+//! command may end with 7.
 #![tactic(auto)]
 
+mod arguments;
 mod asking;
-mod asking_words;
 mod check;
+mod check_verdict;
+mod client_arguments;
 mod command;
+mod entry_point;
 mod exit;
 mod journal_refusal;
-mod judging;
 mod keep;
 mod refusal;
 mod replay;
+mod report;
 mod sample;
 mod serve;
 mod system;
-mod telling;
-mod top;
-mod words;
 
 pub use command::Command;
+pub use entry_point::run;
 pub use exit::Exit;
 pub use journal_refusal::JournalRefusal;
 pub use refusal::Refusal;
 pub use system::{run_on_system, start};
-pub use top::run;

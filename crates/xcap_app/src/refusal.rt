@@ -9,19 +9,21 @@ use xml_tree::print_path;
 /// Why the input of `check` is no valid document, the first reason in this order.
 #[derive(Drop)]
 pub enum Refusal {
-    /// It has more than `MOST_BYTES` bytes.
+    /// It has more than `MAX_BYTES` bytes.
     TooLarge,
     /// It isn't UTF-8.
     NotUtf8,
-    /// It spells no tree of at most `MAX_LEVELS` levels; its first fault is at this byte (XML 1.0; Namespaces in XML 1.0).
+    /// It can't be parsed as a tree of at most `MAX_LEVELS` levels; its first fault is at this
+    /// byte (XML 1.0; Namespaces in XML 1.0).
     NotWellFormed(usize),
     /// Its tree is no document of its usage: this is its first fault (RFC 4826, sections 3 and 4).
     Faulty(Fault),
 }
 
-// The words about an element whose key repeats that of a sibling.
+// The message about an element whose key repeats a sibling's.
 fn clash_words(alloc: Global, clash: &Clash) -> Result<String, AllocError>
-    ensures words_about_the_clash { IfOk result (λ words. string_bytes words ≡ refusal_words (Refusal.Faulty (Fault.Repeated clash.now))) }
+    ensures ok { IfOk result
+        (λ words. string_bytes words ≡ refusal_words (Refusal.Faulty (Fault.Repeated clash.now))) }
 {
     let place = print_path(alloc, &clash.path)?;
     let mut words = String::from_str(alloc, "uniqueness-failure ")?;
@@ -32,9 +34,10 @@ fn clash_words(alloc: Global, clash: &Clash) -> Result<String, AllocError>
     Ok(words)
 }
 
-// The words about what keeps a tree from being a document of its usage.
+// The message about a tree that is no document of its usage.
 fn fault_words(alloc: Global, fault: &Fault) -> Result<String, AllocError>
-    ensures words_about_the_fault { IfOk result (λ words. string_bytes words ≡ refusal_words (Refusal.Faulty fault.now)) }
+    ensures ok { IfOk result
+        (λ words. string_bytes words ≡ refusal_words (Refusal.Faulty fault.now)) }
 {
     match fault {
         Fault::Invalid => String::from_str(alloc, "schema-validation-error\n"),
@@ -44,12 +47,12 @@ fn fault_words(alloc: Global, fault: &Fault) -> Result<String, AllocError>
 }
 
 impl Refusal {
-    /// What is told of it.
+    /// The message about it.
     ///
     /// # Errors
-    /// `NoMemory` for want of memory.
+    /// `NoMemory` when out of memory.
     pub(crate) fn words(&self, alloc: Global) -> Result<String, AllocError>
-        ensures words_about_the_reason { IfOk result (λ words. string_bytes words ≡ refusal_words self.now) }
+        ensures ok { IfOk result (λ words. string_bytes words ≡ refusal_words self.now) }
     {
         match self {
             Refusal::TooLarge => String::from_str(alloc, "too-large\n"),

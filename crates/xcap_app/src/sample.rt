@@ -1,26 +1,28 @@
-// The command `sample`: requests made on a server in memory, and what came of them.
+// The command `sample`: requests made on a server in memory, and their summary.
 ghost use Rattle.std.specs.Prelude.{◌≡◌, IfOk, string_bytes};
 ghost use Rattle.sample_runs.specs.Samples.{Samples, summary_text};
 ghost use Rattle.sample_runs.specs.declared.summary.Summary.{Summary};
 ghost use Rattle.xcap_app.specs.Samples.{RunsSample};
 
 use crate::exit::Exit;
-use crate::telling::print;
+use crate::report::print;
 use sample_runs::run_sample;
 use std::alloc::{AllocError, Global};
 use xcap_io::{Line, Sink};
 
-// The lines that tell what came of the sample.
+// The lines of the summary.
 fn sample_text(alloc: Global, requests: u32) -> Result<String, AllocError>
-    ensures text_of_the_sample { IfOk result (λ text. (summary : Summary) × Samples requests summary × (string_bytes text ≡ summary_text summary)) }
+    ensures text_of_summary { IfOk result
+        (λ text. (summary : Summary) × Samples requests summary
+        × (string_bytes text ≡ summary_text summary)) }
 {
     let summary = run_sample(alloc, requests)?;
     summary.text(alloc)
 }
 
-/// Makes the sample of so many requests, and writes what came of them.
+/// Makes the sample of this many requests, and writes its summary.
 pub(crate) fn sample<O: Sink>(alloc: Global, requests: u32, output: &mut O) -> Exit
-    ensures writes_the_summary { RunsSample requests result (O.state output.old) (O.state output.new) }
+    ensures runs_sample { RunsSample requests result (O.state output.old) (O.state output.new) }
 {
     match sample_text(alloc, requests) {
         Ok(text) => print(output, text.as_str().as_bytes()),

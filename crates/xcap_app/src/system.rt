@@ -1,17 +1,17 @@
-// The top calls over sockets and streams of the system.
+// The entry points over sockets and streams of the system.
 ghost use Rattle.std.specs.Prelude.{◌≡◌, [], None, map, option_and_then, string_bytes};
 ghost use Rattle.xcap_io.specs.Causes.{none_begun};
 ghost use Rattle.xcap_app.specs.Commands.{command_of};
 ghost use Rattle.xcap_app.specs.Exits.{status_of, words_of};
 ghost use Rattle.xcap_app.specs.Runs.{Runs};
 ghost use Rattle.xcap_app.specs.System.{IsDone};
-ghost use Rattle.xcap_app.specs.Telling.{Tells};
+ghost use Rattle.xcap_app.specs.Messages.{Tells};
 ghost use Rattle.xcap_app.specs.declared.exit.Exit.{Exit};
 
+use crate::entry_point::run;
 use crate::exit::Exit;
-use crate::telling::tell_exit;
-use crate::top::run;
-use notes::Edit;
+use crate::report::tell_exit;
+use edit_ops::Edit;
 use std::alloc::Global;
 use std::io::{Read, Write};
 use std::net::Net;
@@ -19,13 +19,15 @@ use std::time::Clock;
 use watchers::{Audit, Watchers};
 use xcap_io::{Line, StdSink, StdSource, TcpPeer, TcpPort};
 
-/// Runs the command that the words spell, as `run` does, over sockets and streams over which nothing has passed yet. Where it
-/// answers 0, what passed over them is what the command says: of `serve`, the bytes that were taken on each socket are the replies
-/// to what was given on it; of `replay`, the same of the input and the output; of `keep`, the same as of `serve`, from what the
-/// records that were given come to on, and the output took the records of all requests that were accepted; of `check`, the bytes that
-/// were given are a valid document; of `sample`, the output took its summary; of a command of the client, one connection was begun for
-/// each of its calls, and what was written is what the responses given there say. The watchers were told exactly the changes that were
-/// made, in order.
+/// Runs the command that the words spell, as `run` does, over sockets and streams without any
+/// traffic before. Where it returns 0, the traffic is what the command specifies: for `serve`, the
+/// bytes taken on each socket are the replies to the bytes given on it; for `replay`, the output
+/// took the replies to the bytes of the input; for `keep`, as for `serve`, from the state on that
+/// the records of the input lead to, and the output took the records of all accepted requests; for
+/// `check`, the bytes given are a valid document; for `sample`, the output took its summary; for a
+/// command of the client, one connection was begun for each of its calls, and the output took what
+/// the responses given there determine. The watchers were notified of exactly the changes that
+/// were made, in order.
 pub fn run_on_system<N: Net + Clock + Drop, I: Read, O: Write, E: Write, W: Watchers<Edit>>(
     alloc: Global,
     words: &[String],
@@ -39,24 +41,28 @@ pub fn run_on_system<N: Net + Clock + Drop, I: Read, O: Write, E: Write, W: Watc
     requires none_begun { (⟦<TcpPort<N> as Line>⟧.state port.old).port.begun ≡ none_begun }
     requires none_given { (⟦<StdSource<I> as Line>⟧.state input.old).inward.given ≡ [] }
     requires none_taken { (⟦<StdSink<O> as Line>⟧.state output.old).taken ≡ [] }
-    ensures done_at_status_0 { result ≡ 0 → IsDone W.keeps (command_of (map string_bytes words.now))
+    ensures status_0_done { result ≡ 0 → IsDone W.keeps (command_of (map string_bytes words.now))
         (⟦<TcpPort<N> as Line>⟧.state port.old) (⟦<TcpPort<N> as Line>⟧.state port.new)
         (⟦<TcpPeer<N> as Line>⟧.state peer.old) (⟦<TcpPeer<N> as Line>⟧.state peer.new)
         (⟦<StdSource<I> as Line>⟧.state input.old) (⟦<StdSource<I> as Line>⟧.state input.new)
         (⟦<StdSink<O> as Line>⟧.state output.old) (⟦<StdSink<O> as Line>⟧.state output.new)
         watchers.old watchers.new }
-    ensures ends_with_the_status_of_its_exit { (exit : Exit) × (result ≡ status_of exit) × Runs W.keeps (command_of (map string_bytes words.now)) exit
+    ensures exit_status { (exit : Exit) × (result ≡ status_of exit)
+        × Runs W.keeps (command_of (map string_bytes words.now)) exit
         (⟦<TcpPort<N> as Line>⟧.state port.old) (⟦<TcpPort<N> as Line>⟧.state port.new)
         (⟦<TcpPeer<N> as Line>⟧.state peer.old) (⟦<TcpPeer<N> as Line>⟧.state peer.new)
         (⟦<StdSource<I> as Line>⟧.state input.old) (⟦<StdSource<I> as Line>⟧.state input.new)
-        (⟦<StdSink<O> as Line>⟧.state output.old) (⟦<StdSink<O> as Line>⟧.state output.new) watchers.old watchers.new
-        × Tells (words_of exit) (⟦<StdSink<E> as Line>⟧.state errors.old) (⟦<StdSink<E> as Line>⟧.state errors.new) }
+        (⟦<StdSink<O> as Line>⟧.state output.old)
+        (⟦<StdSink<O> as Line>⟧.state output.new) watchers.old watchers.new
+        × Tells (words_of exit) (⟦<StdSink<E> as Line>⟧.state errors.old)
+        (⟦<StdSink<E> as Line>⟧.state errors.new) }
 {
     run(alloc, words, port, peer, input, output, errors, watchers)
 }
 
-/// Runs the command that the words spell, as `run_on_system` does, and tells one audit the changes. Where there are no words, as there
-/// was no memory for them, nothing is done, and the run ends with the status and the words of that. It is all that the program calls.
+/// Runs the command that the words spell, as `run_on_system` does, and notifies one audit of the
+/// changes. Where there are no words, since memory ran out for them, nothing is done, and the run
+/// ends with that status and its message. The program calls nothing else.
 pub fn start<N: Net + Clock + Drop, I: Read, O: Write, E: Write + Drop>(
     alloc: Global,
     words: Option<Vec<String>>,
@@ -70,21 +76,25 @@ pub fn start<N: Net + Clock + Drop, I: Read, O: Write, E: Write + Drop>(
     requires none_begun { (⟦<TcpPort<N> as Line>⟧.state port.old).port.begun ≡ none_begun }
     requires none_given { (⟦<StdSource<I> as Line>⟧.state input.old).inward.given ≡ [] }
     requires none_taken { (⟦<StdSink<O> as Line>⟧.state output.old).taken ≡ [] }
-    ensures done_at_status_0 { result ≡ 0
-        → IsDone ⟦<Option<Audit<StdSink<E>>> as Watchers<Edit>>⟧.keeps (option_and_then (λ words. command_of (map string_bytes words.items)) words)
+    ensures status_0_done { result ≡ 0
+        → IsDone ⟦<Option<Audit<StdSink<E>>> as Watchers<Edit>>⟧.keeps
+        (option_and_then (λ words. command_of (map string_bytes words.items)) words)
         (⟦<TcpPort<N> as Line>⟧.state port.old) (⟦<TcpPort<N> as Line>⟧.state port.new)
         (⟦<TcpPeer<N> as Line>⟧.state peer.old) (⟦<TcpPeer<N> as Line>⟧.state peer.new)
         (⟦<StdSource<I> as Line>⟧.state input.old) (⟦<StdSource<I> as Line>⟧.state input.new)
         (⟦<StdSink<O> as Line>⟧.state output.old) (⟦<StdSink<O> as Line>⟧.state output.new)
         audit.old audit.new }
-    ensures ends_with_the_status_of_its_exit { (exit : Exit) × (result ≡ status_of exit)
-        × Runs ⟦<Option<Audit<StdSink<E>>> as Watchers<Edit>>⟧.keeps (option_and_then (λ words. command_of (map string_bytes words.items)) words) exit
+    ensures exit_status { (exit : Exit) × (result ≡ status_of exit)
+        × Runs ⟦<Option<Audit<StdSink<E>>> as Watchers<Edit>>⟧.keeps
+        (option_and_then (λ words. command_of (map string_bytes words.items)) words) exit
         (⟦<TcpPort<N> as Line>⟧.state port.old) (⟦<TcpPort<N> as Line>⟧.state port.new)
         (⟦<TcpPeer<N> as Line>⟧.state peer.old) (⟦<TcpPeer<N> as Line>⟧.state peer.new)
         (⟦<StdSource<I> as Line>⟧.state input.old) (⟦<StdSource<I> as Line>⟧.state input.new)
-        (⟦<StdSink<O> as Line>⟧.state output.old) (⟦<StdSink<O> as Line>⟧.state output.new) audit.old audit.new
-        × Tells (words_of exit) (⟦<StdSink<E> as Line>⟧.state errors.old) (⟦<StdSink<E> as Line>⟧.state errors.new) }
-    ensures out_of_memory_without_words { words ≡ None → result ≡ status_of Exit.OutOfMemory }
+        (⟦<StdSink<O> as Line>⟧.state output.old)
+        (⟦<StdSink<O> as Line>⟧.state output.new) audit.old audit.new
+        × Tells (words_of exit) (⟦<StdSink<E> as Line>⟧.state errors.old)
+        (⟦<StdSink<E> as Line>⟧.state errors.new) }
+    ensures no_words_status { words ≡ None → result ≡ status_of Exit.OutOfMemory }
 {
     let Some(words) = words else {
         return tell_exit(alloc, errors, Exit::OutOfMemory).status();

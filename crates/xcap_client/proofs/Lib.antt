@@ -1,4 +1,16 @@
+pub mod Answering
+pub mod Bodies
 pub mod Causes
+pub mod Counts
+pub mod Fronts
+pub mod KnownBytes
+pub mod Lengths
+pub mod Lines
 pub mod Naming
+pub mod OneMeaning
 pub mod Passed
+pub mod Quoting
+pub mod RootLetters
+pub mod Understanding
+pub mod Visible
 pub mod Words

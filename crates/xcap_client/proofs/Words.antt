@@ -2,8 +2,8 @@
 use Rattle.std.proofs.Common.{◌≡◌, ℕ, List, [], ◌∷◌, Option, Result, Ok, Err, IfOk, codes, refl, sym, ap, subst, arith}
 use Rattle.std.proofs.lemmas.Bool.{true≢false}
 use Rattle.std.specs.Str.{chars}
-use Rattle.http_exchange.specs.declared.request.Ask.{Ask}
-use Rattle.http_exchange.specs.Requests.{IsLawful}
+use Rattle.xcap_client.specs.declared.request.Ask.{Ask}
+use Rattle.xcap_client.specs.Requests.{IsLawful}
 use Rattle.xcap_client.specs.Asks.{bare, getting, removing, putting}
 
 pub get : chars (codes "GET") ≡ codes "GET"
@@ -28,7 +28,7 @@ xcap_error = refl
 
 -- ---- lawful requests
 
--- what is asked is lawful, where it is what was said
+-- a request is lawful where it equals a lawful one
 pub is_lawful : {E : Type 0} (said : Ask) (result : Result Ask E) → IsLawful said → IfOk result (λ ask. ask ≡ said) → IfOk result IsLawful
 is_lawful said (Ok ask) lawful same = subst IsLawful (sym same) lawful
 is_lawful said (Err fault) lawful none = tt

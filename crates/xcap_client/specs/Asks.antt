@@ -1,8 +1,8 @@
--- What the calls of the client ask (RFC 4825, section 7).
+-- The requests of the client's calls (RFC 4825, section 7).
 use Rattle.std.specs.Prelude.{ℕ, List, [], Option, None, Some, codes}
-use Rattle.http_exchange.specs.declared.request.Ask.{Ask}
+use Rattle.xcap_client.specs.declared.request.Ask.{Ask}
 
--- without a body
+-- a request without a body
 abbrev pub bare : List ℕ → Option (List ℕ) → List ℕ → Ask
 bare method user path = record { method = method; path = path; user = user; media = None; body = [] }
 

@@ -1,8 +1,9 @@
--- What the calls of the client answer: what their exchange gave, judged by its status (RFC 9110, section 15).
+-- The results of the client's calls: the result of their exchange, judged by its status (RFC 9110,
+-- section 15).
 use Rattle.std.specs.Prelude.{◌≡◌, ℕ, Bool, true, false, ◌&&◌, nat_le, List, Option, Result, Ok, Err}
-use Rattle.xcap_io.specs.Causes.{LineState}
-use Rattle.http_exchange.specs.declared.request.Ask.{Ask}
-use Rattle.http_exchange.specs.declared.response.Response.{Response}
+use Rattle.xcap_io.specs.Causes.{StreamState}
+use Rattle.xcap_client.specs.declared.request.Ask.{Ask}
+use Rattle.xcap_client.specs.declared.response.Response.{Response}
 use Rattle.xcap_client.specs.declared.fault.ClientFault.{ClientFault}
 use Rattle.xcap_client.specs.declared.fault.ClientFault.TheVariants.{NoMemory, Refused}
 use Rattle.xcap_client.specs.Conflicts.{NamesError}
@@ -12,21 +13,21 @@ use Rattle.xcap_client.specs.Exchanges.{Exchanges}
 abbrev pub is_success : ℕ → Bool
 is_success status = nat_le 200 status && nat_le status 299
 
--- A response of success is answered as it came. Of any other its status is told, and what its body names as wrong; but memory may
--- run out while that is read.
+-- A successful response is returned as it came. For any other, its status is returned, and the
+-- error that its body names; but memory may run out while the body is parsed.
 pub data Judges (response : Response) (result : Result Response ClientFault) : Type 0 where
   succeeds : is_success response.status ≡ true → result ≡ Ok response → Judges response result
   refuses : (name : Option (List ℕ)) → is_success response.status ≡ false → NamesError response.body name
       → result ≡ Err (Refused response.status name) → Judges response result
   lacks_memory : is_success response.status ≡ false → result ≡ Err NoMemory → Judges response result
 
--- the same of what an exchange gave, where that may be a fault, which is answered as it is
+-- the result of an exchange, judged: a fault is returned as it is
 abbrev pub JudgesAll : Result Response ClientFault → Result Response ClientFault → Type 0
 JudgesAll (Ok response) result = Judges response result
 JudgesAll (Err fault) result = result ≡ Err fault
 
--- A call: one exchange, whose answer is judged.
-pub record Calls (root : List ℕ) (ask : Ask) (old new : LineState) (result : Result Response ClientFault) : Type 0 where
+-- A call: one exchange, whose result is judged.
+pub record Calls (root : List ℕ) (ask : Ask) (old new : StreamState) (result : Result Response ClientFault) : Type 0 where
   pub given : Result Response ClientFault
   pub exchanges : Exchanges root ask old new given
   pub judged : JudgesAll given result

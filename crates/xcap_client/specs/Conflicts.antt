@@ -1,12 +1,13 @@
--- What the body of a response names as wrong (RFC 4825, section 11: the child of an `xcap-error` is named by the error).
+-- The error that the body of a response names (RFC 4825, section 11: the child of an `xcap-error`
+-- is named by the error).
 use Rattle.std.specs.Prelude.{◌≡◌, ℕ, Bool, List, [], ◌∷◌, Option, None, Some, Result, Ok, Err, codes, option_map, slice_get, if◌then◌else◌}
-use Rattle.xml_tree.specs.Limits.{most_levels}
-use Rattle.xml_tree.specs.Tree.{Tree, kids_of}
+use Rattle.xml_tree.specs.Limits.{max_levels}
+use Rattle.xml_tree.specs.Tree.{Tree, child_elements_of}
 use Rattle.xml_tree.specs.Expanded.{element_name, same_expanded}
 use Rattle.tree_text.specs.declared.fault.TextFault.{TextFault}
 use Rattle.tree_text.specs.Faults.{TextAnswer}
 
--- the namespace of conflict documents
+-- the namespace of error documents
 abbrev pub error_uri : List ℕ
 error_uri = codes "urn:ietf:params:xml:ns:xcap-error"
 
@@ -15,14 +16,14 @@ abbrev pub is_conflict : Tree → Bool
 is_conflict root =
     same_expanded (element_name (root.decls ∷ []) root.name) (record { uri = Some error_uri; local = codes "xcap-error" })
 
--- what is named as wrong by bytes that are read so: the local name of the first element in a conflict document; bytes that are no document
--- name nothing
-abbrev pub error_told : Result Tree TextFault → Option (List ℕ)
-error_told (Ok root) = if is_conflict root then option_map (λ kid. kid.name.local) (slice_get (kids_of root) 0) else None
-error_told (Err fault) = None
+-- the error named by bytes that are parsed so: the local name of the first element in an error
+-- document; bytes that are no document name none
+abbrev pub error_document_of : Result Tree TextFault → Option (List ℕ)
+error_document_of (Ok root) = if is_conflict root then option_map (λ child_element. child_element.name.local) (slice_get (child_elements_of root) 0) else None
+error_document_of (Err fault) = None
 
--- read as a document of at most `most_levels` levels, the body names this as wrong, or nothing
+-- parsed as a document of at most `max_levels` levels, the body names this error, or none
 pub record NamesError (body : List ℕ) (name : Option (List ℕ)) : Type 0 where
   pub document : Result Tree TextFault
-  pub read : TextAnswer most_levels [] body document
-  pub told : name ≡ error_told document
+  pub read : TextAnswer max_levels [] body document
+  pub told : name ≡ error_document_of document

@@ -1,41 +1,43 @@
--- What an exchange did on a peer, and what it answers by that: one connection of its own, one request, and the response to it
--- (RFC 9112, section 9).
+-- What an exchange did on a peer, and its result: one connection of its own, one request, and the
+-- response to it (RFC 9112, section 9).
 use Rattle.std.specs.Prelude.{◌≡◌, ℕ, List, Result, Ok, Err, encode_utf8_all}
-use Rattle.xcap_io.specs.Causes.{LineState, Rose, Reads, Writes}
+use Rattle.xcap_io.specs.Causes.{StreamState, CountRises, Reads, Writes}
 use Rattle.xcap_io.specs.Connections.{Connects, ConnectFailed}
-use Rattle.xcap_io.specs.Passing.{Took}
+use Rattle.xcap_io.specs.StreamTraffic.{Took}
 use Rattle.xcap_io.specs.Streams.{TookProperPrefix}
-use Rattle.http_exchange.specs.declared.fault.ResponseFault.{ResponseFault}
-use Rattle.http_exchange.specs.declared.fault.ResponseFault.TheVariants as responses
-use Rattle.http_exchange.specs.declared.request.Ask.{Ask}
-use Rattle.http_exchange.specs.declared.response.Response.{Response}
-use Rattle.http_exchange.specs.Requests.{request_bytes}
-use Rattle.http_exchange.specs.Responses.{AnswersRead}
-use Rattle.http_exchange.specs.Stops.{CountsFault}
+use Rattle.xcap_client.specs.declared.response_fault.ResponseFault.{ResponseFault}
+use Rattle.xcap_client.specs.declared.response_fault.ResponseFault.TheVariants as responses
+use Rattle.xcap_client.specs.declared.request.Ask.{Ask}
+use Rattle.xcap_client.specs.declared.response.Response.{Response}
+use Rattle.xcap_client.specs.Requests.{request_bytes}
+use Rattle.xcap_client.specs.Responses.{AnswersRead}
+use Rattle.xcap_client.specs.Stops.{CountsFault}
 use Rattle.xcap_client.specs.declared.fault.ClientFault.{ClientFault}
 use Rattle.xcap_client.specs.declared.fault.ClientFault.TheVariants as faults
 use Rattle.xcap_client.specs.Addresses.{address_of}
 
--- what the fault of a response makes of an exchange: a failed read is the peer's, and want of memory stays that
+-- the fault of an exchange whose response has this fault: a failed read is the peer's, and out of
+-- memory stays so
 abbrev pub exchange_fault : ResponseFault → ClientFault
 exchange_fault responses.ReadFailed = faults.PeerFault
 exchange_fault responses.NoMemory = faults.NoMemory
 exchange_fault fault = faults.BadResponse fault
 
--- the answer to what was read
+-- the result of an exchange whose response was read with this result
 abbrev pub answer_to : Result Response ResponseFault → Result Response ClientFault
 answer_to (Ok response) = Ok response
 answer_to (Err fault) = Err (exchange_fault fault)
 
--- One exchange: memory ran out before it; or no connection began; or one at the root's address began, and a write failed, so
--- that a proper prefix of the request was handed over; or the whole request was, and then the response was read.
-pub data Exchanges (root : List ℕ) (ask : Ask) (old new : LineState) (result : Result Response ClientFault) : Type 0 where
+-- One exchange: memory ran out before it; or no connection began; or one at the root's address
+-- began, and a write failed, so that a proper prefix of the request was written; or the whole
+-- request was, and then the response was read.
+pub data Exchanges (root : List ℕ) (ask : Ask) (old new : StreamState) (result : Result Response ClientFault) : Type 0 where
   not_begun : new ≡ old → result ≡ Err faults.NoMemory → Exchanges root ask old new result
   not_connected : ConnectFailed old new → result ≡ Err faults.PeerFault → Exchanges root ask old new result
-  not_sent : (begun : LineState) → Connects old begun (encode_utf8_all (address_of root)) → Writes begun new
-      → Rose begun.write_faults new.write_faults → TookProperPrefix begun.taken new.taken (request_bytes root ask)
+  not_sent : (begun : StreamState) → Connects old begun (encode_utf8_all (address_of root)) → Writes begun new
+      → CountRises begun.write_faults new.write_faults → TookProperPrefix begun.taken new.taken (request_bytes root ask)
       → result ≡ Err faults.PeerFault → Exchanges root ask old new result
-  answered : (begun sent : LineState) (answer : Result Response ResponseFault)
+  answered : (begun sent : StreamState) (answer : Result Response ResponseFault)
       → Connects old begun (encode_utf8_all (address_of root)) → Writes begun sent → sent.write_faults ≡ begun.write_faults
       → Took begun.taken sent.taken (request_bytes root ask) → Reads sent new → AnswersRead sent.inward new.inward answer
       → CountsFault sent.read_faults new.read_faults answer → result ≡ answer_to answer

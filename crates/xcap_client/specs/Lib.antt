@@ -1,6 +1,15 @@
 pub mod Addresses
 pub mod Asks
-pub mod Conflicts
-pub mod Exchanges
+pub mod BodyLengths
 pub mod Calls
+pub mod Conflicts
 pub mod Connections
+pub mod Exchanges
+pub mod Heads
+pub mod Limits
+pub mod ParsedRequests
+pub mod Requests
+pub mod Responses
+pub mod Stops
+pub mod Tags
+pub mod inner

@@ -7,9 +7,9 @@ use xcap_io::NoMemory;
 use xcap_uri::Root;
 use xml_tree::Text;
 
-// Whether a port stands behind the host, which may be a number of IPv6 in brackets.
+// Whether a port comes after the host, which may be an IPv6 literal in brackets.
 fn names_port(authority: &[u8]) -> bool
-    ensures tells_whether_a_port_is_named { result ≡ names_port authority.now }
+    ensures exact { result ≡ names_port authority.now }
 {
     let mut rest = authority;
     'host: while let [front @ .., last] = rest {
@@ -24,9 +24,9 @@ fn names_port(authority: &[u8]) -> bool
     false
 }
 
-// The authority of the root, with the port of HTTP where it names none.
+// The authority of the root, with the port of HTTP where the root has none.
 pub fn address_of(alloc: Global, root: &Root) -> Result<Text, NoMemory>
-    ensures address_of_the_root { IfOk result (λ address. address ≡ address_of root.now) }
+    ensures ok { IfOk result (λ address. address ≡ address_of root.now) }
 {
     let mut address = Text::from(alloc, root.authority())?;
     if !names_port(root.authority().as_bytes()) {

@@ -1,9 +1,9 @@
-// What the calls of the client ask.
+// The requests of the client's calls.
 ghost use Rattle.std.specs.Prelude.{◌≡◌, chars, option_map, IfOk};
-ghost use Rattle.http_exchange.specs.Requests.{IsLawful};
+ghost use Rattle.xcap_client.specs.Requests.{IsLawful};
 ghost use Rattle.xcap_client.specs.Asks.{bare, getting, removing, putting};
 
-use http_exchange::Ask;
+use crate::Ask;
 use std::alloc::Global;
 use xcap_io::{Bytes, NoMemory};
 use xml_tree::Text;
@@ -11,9 +11,9 @@ use xml_tree::Text;
 /// A copy of a user's name.
 ///
 /// # Errors
-/// Want of memory alone.
+/// `NoMemory` when out of memory.
 pub fn copy_user(alloc: Global, user: Option<&str>) -> Result<Option<Text>, NoMemory>
-    ensures copies_the_name { IfOk result (λ copy. copy ≡ option_map (λ name. chars name.now) user.entry) }
+    ensures ok { IfOk result (λ copy. copy ≡ option_map (λ name. chars name.now) user.entry) }
 {
     match user {
         Some(user) => Ok(Some(Text::from(alloc, user)?)),
@@ -23,7 +23,9 @@ pub fn copy_user(alloc: Global, user: Option<&str>) -> Result<Option<Text>, NoMe
 
 // A request without a body.
 fn bare(alloc: Global, method: &str, user: Option<&str>, path: &str) -> Result<Ask, NoMemory>
-    ensures asks_without_a_body { IfOk result (λ ask. ask ≡ bare (chars method.now) (option_map (λ name. chars name.now) user.entry) (chars path.now)) }
+    ensures ok { IfOk result
+        (λ ask. ask ≡ bare (chars method.now) (option_map (λ name. chars name.now) user.entry)
+        (chars path.now)) }
 {
     Ok(Ask {
         method: Text::from(alloc, method)?,
@@ -35,15 +37,17 @@ fn bare(alloc: Global, method: &str, user: Option<&str>, path: &str) -> Result<A
 }
 
 pub fn getting(alloc: Global, user: Option<&str>, path: &str) -> Result<Ask, NoMemory>
-    ensures asks_as_said { IfOk result (λ ask. ask ≡ getting (option_map (λ name. chars name.now) user.entry) (chars path.now)) }
-    ensures ask_is_lawful { IfOk result IsLawful }
+    ensures ok { IfOk result
+        (λ ask. ask ≡ getting (option_map (λ name. chars name.now) user.entry) (chars path.now)) }
+    ensures lawful_ask { IfOk result IsLawful }
 {
     bare(alloc, "GET", user, path)
 }
 
 pub fn removing(alloc: Global, user: Option<&str>, path: &str) -> Result<Ask, NoMemory>
-    ensures asks_as_said { IfOk result (λ ask. ask ≡ removing (option_map (λ name. chars name.now) user.entry) (chars path.now)) }
-    ensures ask_is_lawful { IfOk result IsLawful }
+    ensures ok { IfOk result
+        (λ ask. ask ≡ removing (option_map (λ name. chars name.now) user.entry) (chars path.now)) }
+    ensures lawful_ask { IfOk result IsLawful }
 {
     bare(alloc, "DELETE", user, path)
 }
@@ -55,8 +59,10 @@ pub fn putting(
     media: &str,
     body: &[u8],
 ) -> Result<Ask, NoMemory>
-    ensures asks_as_said { IfOk result (λ ask. ask ≡ putting (option_map (λ name. chars name.now) user.entry) (chars path.now) (chars media.now) body.now) }
-    ensures ask_is_lawful { IfOk result IsLawful }
+    ensures ok { IfOk result
+        (λ ask. ask ≡ putting (option_map (λ name. chars name.now) user.entry) (chars path.now)
+        (chars media.now) body.now) }
+    ensures lawful_ask { IfOk result IsLawful }
 {
     let media = Text::from(alloc, media)?;
     let body = Bytes::from(alloc, body)?;

@@ -3,7 +3,7 @@ ghost use Rattle.std.specs.Prelude.{◌≡◌};
 ghost use Rattle.xcap_client.specs.declared.fault.ClientFault.TheVariants as faults;
 ghost use Rattle.xcap_client.specs.Exchanges.{exchange_fault};
 
-use http_exchange::ResponseFault;
+use crate::ResponseFault;
 use thiserror::Error;
 use xcap_io::{Failed, NoMemory};
 use xml_tree::Text;
@@ -14,13 +14,14 @@ pub enum ClientFault {
     /// The peer didn't connect, or a write or a read failed: its count of such faults rose.
     #[error("the peer failed")]
     PeerFault,
-    /// The status is no success. Where the body is a conflict document, it names what is wrong (RFC 4825, section 11).
+    /// The status is no success. Where the body is an error document, this is the error that it
+    /// names (RFC 4825, section 11).
     #[error("refused {0}")]
     Refused(u16, Option<Text>),
-    /// What came is no response.
+    /// The bytes that came are no response.
     #[error("bad response: {0}")]
     BadResponse(ResponseFault),
-    /// Want of memory.
+    /// Out of memory.
     #[error("out of memory")]
     NoMemory,
 }

@@ -1,21 +1,24 @@
-// Laws of the definitions that the contracts cite; nothing here runs.
+// Laws of the definitions that the contracts cite; each is the contract of a function that does
+// nothing.
 ghost use Rattle.std.specs.Prelude.{ℕ, List, Result, Err};
-ghost use Rattle.xcap_io.specs.Causes.{LineState};
-ghost use Rattle.http_exchange.specs.declared.request.Ask.{Ask};
-ghost use Rattle.http_exchange.specs.declared.response.Response.{Response};
+ghost use Rattle.xcap_io.specs.Causes.{StreamState};
+ghost use Rattle.xcap_client.specs.declared.request.Ask.{Ask};
+ghost use Rattle.xcap_client.specs.declared.response.Response.{Response};
 ghost use Rattle.xcap_client.specs.declared.fault.ClientFault.{ClientFault};
 ghost use Rattle.xcap_client.specs.declared.fault.ClientFault.TheVariants.{PeerFault};
 ghost use Rattle.xcap_client.specs.Calls.{Calls};
 ghost use Rattle.xcap_client.specs.Connections.{ConnectsOnce, PeerFailed};
 
-/// A call begins one connection of its own at most, hands over its request there and nothing else, and answers what the bytes
-/// given there say.
+/// A call begins at most one connection, hands over its request there and nothing else, and its
+/// answer is the meaning of the bytes given there.
 pub fn calls_make_one_connection()
-    ensures one_connection_at_most { (root : List ℕ) (ask : Ask) (old new : LineState) (result : Result Response ClientFault)
+    ensures one_at_most { (root : List ℕ) (ask : Ask) (old new : StreamState)
+        (result : Result Response ClientFault)
         → Calls root ask old new result → ConnectsOnce root ask old new result }
 {}
 
-/// A call answers that the peer failed only where a count of the peer rose.
+/// A call fails with `PeerFault` only where a count of the peer rose.
 pub fn peer_faults_have_causes()
-    ensures a_count_rose { (root : List ℕ) (ask : Ask) (old new : LineState) → Calls root ask old new (Err PeerFault) → PeerFailed old new }
+    ensures count_rises { (root : List ℕ) (ask : Ask) (old new : StreamState)
+        → Calls root ask old new (Err PeerFault) → PeerFailed old new }
 {}

@@ -5,33 +5,33 @@ use Rattle.std.proofs.Math.Seq.{take-suc}
 use Rattle.std.proofs.lemmas.List.{map-append, take-set, drop_all, drop-set-lt}
 use Rattle.xcap_io.specs.Connections.{Comes, Connects, Next, OnlyNext}
 use Rattle.xcap_io.specs.Histories.{Traffic, carried_by}
-use Rattle.xcap_io.specs.Memory.{MemoryLine, MemoryLines, MemoryPeer, MemoryPort, begun_anew, begin_next, BeginsLine, line_at, line_traffic, lines_begun, next_number, no_line, peer_state, port_state, present_line}
+use Rattle.xcap_io.specs.Memory.{MemoryStream, MemoryLines, MemoryPeer, MemoryPort, begun_anew, begin_next, BeginsLine, line_at, line_traffic, lines_begun, next_number, no_line, peer_state, port_state, present_line}
 
--- the next line is the one that comes
-pub comes_next : (lines : List MemoryLine) (at : ℕ) (line : MemoryLine) → at < length lines → line.left ≡ (line_at lines at).left
-    → Comes (Some (map (λ (m : MemoryLine). m.left) (drop at lines))) (Some (map (λ (m : MemoryLine). m.left) (drop (at + 1) (slice_set lines at line)))) (Some (line_at (slice_set lines at line) at).left)
+-- the next stream is the one that begins
+pub comes_next : (lines : List MemoryStream) (at : ℕ) (line : MemoryStream) → at < length lines → line.left ≡ (line_at lines at).left
+    → Comes (Some (map (λ (m : MemoryStream). m.left) (drop at lines))) (Some (map (λ (m : MemoryStream). m.left) (drop (at + 1) (slice_set lines at line)))) (Some (line_at (slice_set lines at line) at).left)
 comes_next lines at line within same = (
   (line_at lines at).left,
-  map (λ (m : MemoryLine). m.left) (drop (at + 1) lines),
-  ap (λ l. map (λ (m : MemoryLine). m.left) l) (drop-cons lines at no_line within ∙ ap (λ n. line_at lines at ∷ drop n lines) (sym (add-one at))),
-  ap (λ l. Some (map (λ (m : MemoryLine). m.left) l)) (drop-set-lt (at + 1) lines at line (omega arith)),
-  ap (λ (m : MemoryLine). Some m.left) (get_or-set_same lines at line no_line within) ∙ ap Some same,
+  map (λ (m : MemoryStream). m.left) (drop (at + 1) lines),
+  ap (λ l. map (λ (m : MemoryStream). m.left) l) (drop-cons lines at no_line within ∙ ap (λ n. line_at lines at ∷ drop n lines) (sym (add-one at))),
+  ap (λ l. Some (map (λ (m : MemoryStream). m.left) l)) (drop-set-lt (at + 1) lines at line (omega arith)),
+  ap (λ (m : MemoryStream). Some m.left) (get_or-set_same lines at line no_line within) ∙ ap Some same,
 )
 
--- the traffic of all lines that have begun, of which the present one is the last
-carried_is : (lines : List MemoryLine) (present : Option ℕ) → next_number present ≤ length lines
+-- the traffic of all streams that have begun, of which the present one is the last
+carried_is : (lines : List MemoryStream) (present : Option ℕ) → next_number present ≤ length lines
     → carried_by (lines_begun lines present).earlier (lines_begun lines present).is_present (line_traffic (present_line lines present)) ≡ map line_traffic (take (next_number present) lines)
 carried_is lines None within = refl
 carried_is lines (Some i) within =
     let one_more : take (i + 1) lines ≡ take i lines ++ line_at lines i ∷ [] = ap (λ n. take n lines) (add-one i) ∙ take-suc lines i no_line (omega arith) in
     sym (ap (map line_traffic) one_more ∙ map-append line_traffic (take i lines) (line_at lines i ∷ []))
 
--- a line that begins is a connection of the port that begins
+-- a stream that begins is a connection of the port that begins
 line_begins : (old : MemoryPort) (until_fault : Option ℕ) → next_number old.lines.present < length old.lines.lines
     → Next (port_state old) (port_state (record old { lines = begin_next old.lines; until_fault = until_fault }))
 line_begins old until_fault within =
     let at : ℕ = next_number old.lines.present in
-    let line : MemoryLine = begun_anew (line_at old.lines.lines at) in
+    let line : MemoryStream = begun_anew (line_at old.lines.lines at) in
     record {
       comes = comes_next old.lines.lines at line within refl;
       begins = ap (λ (l : List Traffic). record { earlier = l; is_present = true })
@@ -46,7 +46,7 @@ line_begins old until_fault within =
       same_peer = refl;
     }
 
--- what `next` answers where it doesn't fail
+-- what `next` returns where it doesn't fail
 pub next_of : (E : Type 0) (old new : MemoryPort) (begins : Bool) → BeginsLine old.lines new.lines begins → new.listening ≡ old.listening → new.faults ≡ old.faults
     → OnlyNext {E = E} (port_state old) (port_state new) (Ok begins)
 next_of E old new true b listening faults =
@@ -57,15 +57,15 @@ next_of E old new false b listening faults =
     let is : record old { lines = new.lines; until_fault = new.until_fault; listen_fails = new.listen_fails } ≡ new =
     λ i. record { lines = new.lines; listen_fails = new.listen_fails; until_fault = new.until_fault; listening = sym listening i; faults = sym faults i } in (
       sym (ap port_state is) ∙ ap (λ (l : MemoryLines). port_state (record old { lines = l })) b.1,
-      ap (λ l. Some (map (λ (m : MemoryLine). m.left) l)) (drop_all (next_number old.lines.present) old.lines.lines (omega (arith, b.0))),
+      ap (λ l. Some (map (λ (m : MemoryStream). m.left) l)) (drop_all (next_number old.lines.present) old.lines.lines (omega (arith, b.0))),
     )
 
--- and a connection of the peer
+-- likewise a connection of the peer
 line_connects : (old : MemoryPeer) (until_fault : Option ℕ) (address : List ℕ) → next_number old.lines.present < length old.lines.lines
     → Connects (peer_state old) (peer_state (record { lines = begin_next old.lines; until_fault = until_fault; addresses = address ∷ old.addresses; faults = old.faults })) address
 line_connects old until_fault address within =
     let at : ℕ = next_number old.lines.present in
-    let line : MemoryLine = begun_anew (line_at old.lines.lines at) in
+    let line : MemoryStream = begun_anew (line_at old.lines.lines at) in
     record {
       comes = comes_next old.lines.lines at line within refl;
       begins = ap (λ (l : List Traffic). record { earlier = l; is_present = true })

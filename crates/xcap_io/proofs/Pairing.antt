@@ -1,10 +1,10 @@
 -- What is known of the two objects of a pair, after calls on the pair.
 use Rattle.std.proofs.Common.{◌≡◌, List, [], ◌∷◌, ◌++◌, length, ap, arith}
 use Rattle.std.specs.Borrow.{GName}
-use Rattle.xcap_io.specs.Causes.{Aside, LineState}
+use Rattle.xcap_io.specs.Causes.{Aside, StreamState}
 use Rattle.xcap_io.specs.Pairs.{unread, unwritten}
 
--- two lists that are one, and begin with parts of one length, have one part first
+-- two equal lists that begin with parts of the same length begin with the same part
 first_part : {A : Type 0} (xs ys xs' ys' : List A) → length xs' ≡ length xs → xs' ++ ys' ≡ xs ++ ys → xs' ≡ xs
 first_part [] ys [] ys' same e = cc
 first_part [] ys (x' ∷ xs') ys' same e = absurd (omega arith)
@@ -15,7 +15,7 @@ first_part (x ∷ xs) ys (x' ∷ xs') ys' same e =
     let tail : xs' ≡ xs = first_part xs ys xs' ys' (omega arith) rest in
     cc
 
--- and so they have one part behind it
+-- and so they continue with the same part
 second_part : {A : Type 0} (xs ys xs' ys' : List A) → length xs' ≡ length xs → xs' ++ ys' ≡ xs ++ ys → ys' ≡ ys
 second_part [] ys [] ys' same e = e
 second_part [] ys (x' ∷ xs') ys' same e = absurd (omega arith)
@@ -24,8 +24,9 @@ second_part (x ∷ xs) ys (x' ∷ xs') ys' same e =
     let rest : xs' ++ ys' ≡ xs ++ ys = cc in
     second_part xs ys xs' ys' (omega arith) rest
 
--- Between the two there were only calls on a pair of them, which hold and set aside the same: so each of the two has these as before.
-pub record Through (input output input' output' : LineState) : Type 0 where
+-- Only calls on a pair of them happened between the two states, so the references and the hidden
+-- state of each are as before.
+pub record Through (input output input' output' : StreamState) : Type 0 where
   pub same_unread : unread input' ≡ unread input
   pub same_unwritten : unwritten output' ≡ unwritten output
   pub same_input_holds : input'.holds ≡ input.holds
@@ -33,7 +34,7 @@ pub record Through (input output input' output' : LineState) : Type 0 where
   pub same_input_aside : input'.aside ≡ input.aside
   pub same_output_aside : output'.aside ≡ output.aside
 
-pub through : {a o a' o' : GName} (input output input' output' : LineState)
+pub through : {a o a' o' : GName} (input output input' output' : StreamState)
     → a' ∷ o' ∷ (input'.holds ++ output'.holds) ≡ a ∷ o ∷ (input.holds ++ output.holds)
     → unread input' ∷ unwritten output' ∷ (input'.aside ++ output'.aside) ≡ unread input ∷ unwritten output ∷ (input.aside ++ output.aside)
     → Through input output input' output'

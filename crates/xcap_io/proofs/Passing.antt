@@ -1,14 +1,14 @@
--- How one call after another adds to what has passed over a line.
+-- How one call after another adds to the traffic of a stream.
 use Rattle.std.proofs.Common.{◌≡◌, ℕ, ◌==◌, List, [], ◌++◌, sym, ap, ◌∙◌, append-nil, append_assoc}
 use Rattle.std.specs.Io.KnownBytes.{IsAtEnd}
 use Rattle.std.proofs.KnownBytes.{Consumes-nil, Consumes-trans}
-use Rattle.xcap_io.specs.Causes.{Inward}
-use Rattle.xcap_io.specs.Passing.{Gave, IsEnded, Took}
+use Rattle.xcap_io.specs.Causes.{InputState}
+use Rattle.xcap_io.specs.StreamTraffic.{Gave, IsEnded, Took}
 
-pub gave_none : (a : Inward) → Gave a a []
+pub gave_none : (a : InputState) → Gave a a []
 gave_none a = record { behind = sym (append-nil a.given); consumed = Consumes-nil a.left; truthful = λ before. before }
 
-pub gave_on : (a b c : Inward) (first next : List ℕ) → Gave a b first → Gave b c next → Gave a c (first ++ next)
+pub gave_on : (a b c : InputState) (first next : List ℕ) → Gave a b first → Gave b c next → Gave a c (first ++ next)
 gave_on a b c first next p q = record {
   behind = q.behind ∙ ap (λ l. l ++ next) p.behind ∙ append_assoc a.given first next;
   consumed = Consumes-trans a.left b.left c.left first next p.consumed q.consumed;
@@ -16,7 +16,7 @@ gave_on a b c first next p q = record {
 }
 
 -- a read that gave no bytes found the end
-pub found_end : (a : Inward) (n : ℕ) → n ≡ 0 → a.ended ≡ (n == 0) → IsAtEnd a.left → IsEnded a
+pub found_end : (a : InputState) (n : ℕ) → n ≡ 0 → a.ended ≡ (n == 0) → IsAtEnd a.left → IsEnded a
 found_end a n none ended at_end = (ended ∙ ap (λ m. m == 0) none, at_end)
 
 pub took_none : (a : List ℕ) → Took a a []

@@ -1,40 +1,42 @@
--- What `listen`, `next` and `connect` do. This is the project's own model of connections, one after the other.
+-- What `listen`, `next` and `connect` do. This is the project's own model of connections, one
+-- after the other.
 use Rattle.std.specs.Prelude.{◌≡◌, ℕ, List, [], ◌∷◌, Bool, true, false, Option, Some, IfSome, Result, Ok, Err, MatchResult, option_map}
-use Rattle.xcap_io.specs.Causes.{LineState, Rose}
+use Rattle.xcap_io.specs.Causes.{StreamState, CountRises}
 use Rattle.xcap_io.specs.Histories.{Traffic, carried_by, no_traffic}
 
--- the line, listening at this address where it tells that
-abbrev pub listening_at : LineState → List ℕ → LineState
+-- the stream, listening at this address if it shows the address
+abbrev pub listening_at : StreamState → List ℕ → StreamState
 listening_at line address = record line { port = record line.port { listening = option_map (λ _. Some address) line.port.listening } }
 
--- the port's count of faults rose, and nothing else changed
-abbrev pub ListenFailed : LineState → LineState → Type 0
-ListenFailed old new = (new ≡ record old { port = record old.port { faults = new.port.faults } }) × Rose old.port.faults new.port.faults
+-- the port's fault counter rose, and nothing else changed
+abbrev pub ListenFailed : StreamState → StreamState → Type 0
+ListenFailed old new = (new ≡ record old { port = record old.port { faults = new.port.faults } }) × CountRises old.port.faults new.port.faults
 
--- On `Ok` the port listens at the address, and at a failure its count of faults rose. Nothing else changes.
-abbrev pub Listens : {E : Type 0} → LineState → LineState → Result (Unit {0}) E → List ℕ → Type 0
+-- On `Ok` the port listens at the address, and at a failure its fault counter rose. Nothing else
+-- changes.
+abbrev pub Listens : {E : Type 0} → StreamState → StreamState → Result (Unit {0}) E → List ℕ → Type 0
 Listens old new result address = MatchResult result
     (λ _. new ≡ listening_at old address)
     (λ _. ListenFailed old new)
 
--- what has passed over the line, or over its present connection
-abbrev pub traffic : LineState → Traffic
+-- what has passed over the stream, or over its present connection
+abbrev pub traffic : StreamState → Traffic
 traffic line = record { given = line.inward.given; ended = line.inward.ended; taken = line.taken }
 
--- what passed over each connection of a port that has begun, the present one last
-abbrev pub carried : LineState → List Traffic
+-- what passed over each connection that a port accepted, the present one last
+abbrev pub carried : StreamState → List Traffic
 carried line = carried_by line.port.begun.earlier line.port.begun.is_present (traffic line)
 
--- what passed over each connection that a peer has begun, the present one last
-abbrev pub asked : LineState → List Traffic
+-- what passed over each connection that a peer made, the present one last
+abbrev pub asked : StreamState → List Traffic
 asked line = carried_by line.peer.begun.earlier line.peer.begun.is_present (traffic line)
 
--- of connections still to come the first has begun, and its bytes are left
+-- the first of the connections still to come has begun, and its bytes are left to read
 abbrev pub Comes : Option (List (List ℕ)) → Option (List (List ℕ)) → Option (List ℕ) → Type 0
 Comes old new left = IfSome old (λ all. (bytes : List ℕ) × (more : List (List ℕ)) × (all ≡ bytes ∷ more) × (new ≡ Some more) × (left ≡ Some bytes))
 
 -- The present connection of a port ended, and the next one began.
-pub record Next (old new : LineState) : Type 0 where
+pub record Next (old new : StreamState) : Type 0 where
   pub comes : Comes old.port.to_come new.port.to_come new.inward.left
   pub begins : new.port.begun ≡ record { earlier = carried old; is_present = true }
   pub nothing_passed : traffic new ≡ no_traffic
@@ -46,11 +48,11 @@ pub record Next (old new : LineState) : Type 0 where
   pub same_aside : new.aside ≡ old.aside
   pub same_peer : new.peer ≡ old.peer
 
--- No connection began, and the port's count of faults rose. The present connection may have ended, but what passed over it
--- and those before it is as it was.
-pub record NextFailed (old new : LineState) : Type 0 where
+-- No connection began, and the port's fault counter rose. The present connection may have ended,
+-- but what passed over it and the earlier ones is unchanged.
+pub record NextFailed (old new : StreamState) : Type 0 where
   pub keeps : carried new ≡ carried old
-  pub rose : Rose old.port.faults new.port.faults
+  pub rose : CountRises old.port.faults new.port.faults
   pub same_to_come : new.port.to_come ≡ old.port.to_come
   pub same_listening : new.port.listening ≡ old.port.listening
   pub same_read_faults : new.read_faults ≡ old.read_faults
@@ -59,15 +61,15 @@ pub record NextFailed (old new : LineState) : Type 0 where
   pub same_aside : new.aside ≡ old.aside
   pub same_peer : new.peer ≡ old.peer
 
--- On `Ok(true)` the next connection began. `Ok(false)` changes nothing and comes only where the port tells that none is left: a port
--- that doesn't tell what is to come never ends.
-abbrev pub OnlyNext : {E : Type 0} → LineState → LineState → Result Bool E → Type 0
+-- On `Ok(true)` the next connection began. `Ok(false)` changes nothing and comes only where the
+-- port shows that none is left: a port that doesn't show what is to come never ends.
+abbrev pub OnlyNext : {E : Type 0} → StreamState → StreamState → Result Bool E → Type 0
 OnlyNext old new (Ok true) = Next old new
 OnlyNext old new (Ok false) = (new ≡ old) × (old.port.to_come ≡ Some [])
 OnlyNext old new (Err e) = NextFailed old new
 
 -- The present connection of a peer ended, and one at this address began.
-pub record Connects (old new : LineState) (address : List ℕ) : Type 0 where
+pub record Connects (old new : StreamState) (address : List ℕ) : Type 0 where
   pub comes : Comes old.peer.to_come new.peer.to_come new.inward.left
   pub begins : new.peer.begun ≡ record { earlier = asked old; is_present = true }
   pub dialled : new.peer.addresses ≡ address ∷ old.peer.addresses
@@ -79,12 +81,12 @@ pub record Connects (old new : LineState) (address : List ℕ) : Type 0 where
   pub same_aside : new.aside ≡ old.aside
   pub same_port : new.port ≡ old.port
 
--- No connection began, and the peer's count of faults rose. The present connection may have ended, but what passed over it and
--- those before it is as it was.
-pub record ConnectFailed (old new : LineState) : Type 0 where
+-- No connection began, and the peer's fault counter rose. The present connection may have ended,
+-- but what passed over it and the earlier ones is unchanged.
+pub record ConnectFailed (old new : StreamState) : Type 0 where
   pub keeps : asked new ≡ asked old
   pub same_addresses : new.peer.addresses ≡ old.peer.addresses
-  pub rose : Rose old.peer.faults new.peer.faults
+  pub rose : CountRises old.peer.faults new.peer.faults
   pub same_to_come : new.peer.to_come ≡ old.peer.to_come
   pub same_read_faults : new.read_faults ≡ old.read_faults
   pub same_write_faults : new.write_faults ≡ old.write_faults
@@ -93,5 +95,5 @@ pub record ConnectFailed (old new : LineState) : Type 0 where
   pub same_port : new.port ≡ old.port
 
 -- On `Ok` a connection at the address began.
-abbrev pub OnlyConnects : {E : Type 0} → LineState → LineState → Result (Unit {0}) E → List ℕ → Type 0
-OnlyConnects old new result address = MatchResult result (λ _. Connects old new address) (λ _. ConnectFailed old new)
+abbrev pub ConnectsOnly : {E : Type 0} → StreamState → StreamState → Result (Unit {0}) E → List ℕ → Type 0
+ConnectsOnly old new result address = MatchResult result (λ _. Connects old new address) (λ _. ConnectFailed old new)

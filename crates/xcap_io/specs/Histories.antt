@@ -1,5 +1,5 @@
--- What has passed over a line since it was made, as its calls gave and took it. This is the project's own model; at run time
--- nothing of it is held.
+-- What has passed over a stream since it was made, as its calls gave and took it. This is the
+-- project's own model; at run time nothing of it exists.
 use Rattle.std.specs.Prelude.{ℕ, List, [], ◌∷◌, ◌++◌, ◌==◌, Bool, true, false, length}
 
 -- What passed over one connection.
@@ -11,38 +11,38 @@ pub record Traffic : Type 0 where
   -- the bytes that writes handed over
   pub taken : List ℕ
 
--- nothing passed, and no end was found
+-- no bytes passed, and no end was found
 abbrev pub no_traffic : Traffic
 no_traffic = record { given = []; ended = false; taken = [] }
 
--- all connections so far, of which this passed over the present one, if one is present
+-- all connections so far, of which the present one, if any, had this traffic
 abbrev pub carried_by : List Traffic → Bool → Traffic → List Traffic
 carried_by earlier true now = earlier ++ now ∷ []
 carried_by earlier false now = earlier
 
--- The connections of a line: what passed over each that ended, whether one is present, and what passed since the last began.
--- A line without connections has its traffic in the last field.
-pub record History : Type 0 where
+-- The connections of a stream: what passed over each that ended, whether one is present, and what
+-- passed since the last began. A stream without connections has its traffic in the last field.
+pub record ConnectionHistory : Type 0 where
   pub earlier : List Traffic
   pub is_present : Bool
   pub now : Traffic
 
--- of a line that was just made
-abbrev pub no_history : History
+-- the history of a new stream
+abbrev pub no_history : ConnectionHistory
 no_history = record { earlier = []; is_present = false; now = no_traffic }
 
--- a read gave these bytes, which are none where it found the end
-abbrev pub with_given : History → List ℕ → History
+-- a read gave these bytes; no bytes mean the end
+abbrev pub with_given : ConnectionHistory → List ℕ → ConnectionHistory
 with_given h bytes = record h { now = record h.now { given = h.now.given ++ bytes; ended = length bytes == 0 } }
 
--- a write handed these bytes over
-abbrev pub with_taken : History → List ℕ → History
+-- a write handed over these bytes
+abbrev pub with_taken : ConnectionHistory → List ℕ → ConnectionHistory
 with_taken h bytes = record h { now = record h.now { taken = h.now.taken ++ bytes } }
 
--- the present connection ended, if one was present
-abbrev pub with_end : History → History
+-- the present connection ended, if there was one
+abbrev pub with_end : ConnectionHistory → ConnectionHistory
 with_end h = record { earlier = carried_by h.earlier h.is_present h.now; is_present = false; now = no_traffic }
 
--- behind those that ended another connection began
-abbrev pub with_next : History → History
+-- another connection began, after those that ended
+abbrev pub with_next : ConnectionHistory → ConnectionHistory
 with_next h = record h { is_present = true; now = no_traffic }

@@ -5,7 +5,7 @@ pub mod Echoes
 pub mod Histories
 pub mod Memory
 pub mod Pairs
-pub mod Passing
 pub mod Sockets
+pub mod StreamTraffic
 pub mod Streams
 pub mod inner

@@ -1,18 +1,18 @@
--- What contracts see of a source and a sink that are one line. This is the project's own.
+-- What contracts see of a source and a sink joined to one stream. This is the project's own.
 use Rattle.std.specs.Prelude.{List, [], ◌∷◌, ◌++◌, length}
 use Rattle.std.specs.Borrow.{GName}
-use Rattle.xcap_io.specs.Causes.{Aside, LineState, no_inward, no_peer, no_port}
+use Rattle.xcap_io.specs.Causes.{Aside, StreamState, no_inward, no_peer, no_port}
 
 -- what reads of an input don't touch
-abbrev pub unread : LineState → Aside
+abbrev pub unread : StreamState → Aside
 unread input = record { inward = no_inward; taken = input.taken; faults = input.write_faults; port = input.port; peer = input.peer; holds = length input.holds; aside = length input.aside }
 
 -- what writes to an output don't touch
-abbrev pub unwritten : LineState → Aside
+abbrev pub unwritten : StreamState → Aside
 unwritten output = record { inward = output.inward; taken = []; faults = output.read_faults; port = output.port; peer = output.peer; holds = length output.holds; aside = length output.aside }
 
--- The two as one line: it gives what the input gives, and takes what the output takes.
-abbrev pub pair_state : LineState → LineState → List GName → LineState
+-- The two as one stream: it gives what the input gives, and takes what the output takes.
+abbrev pub pair_state : StreamState → StreamState → List GName → StreamState
 pair_state input output names = record {
   inward = input.inward;
   taken = output.taken;

@@ -1,8 +1,8 @@
 -- What a write of one or more pieces leaves. This is the project's own.
 use Rattle.std.specs.Prelude.{ℕ, ◌<◌, ◌≤◌, List, length, take, Result, MatchResult, IfOk}
-use Rattle.xcap_io.specs.Passing.{Took}
+use Rattle.xcap_io.specs.StreamTraffic.{Took}
 
--- some of these bytes were taken, from the first on, and not all of them
+-- a proper prefix of these bytes was taken
 abbrev pub TookProperPrefix : List ℕ → List ℕ → List ℕ → Type 0
 TookProperPrefix old new bytes = (n : ℕ) × (n < length bytes) × Took old new (take n bytes)
 

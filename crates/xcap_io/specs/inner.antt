@@ -1,2 +1,2 @@
--- What private functions and proofs speak of. No clause of a public call needs it.
+-- Definitions for private functions and proofs. No clause of a public call needs them.
 pub mod Memory

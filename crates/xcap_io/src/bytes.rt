@@ -1,4 +1,4 @@
-// Bytes that a value owns, which contracts see as a list of numbers.
+// Owned bytes, which contracts see as a list of numbers.
 ghost use Rattle.std.specs.Prelude.{◌≡◌, [], ◌∷◌, ◌++◌, length, IfOk, MatchResult};
 
 use crate::NoMemory;
@@ -6,7 +6,7 @@ use std::alloc::Global;
 use std::hash::{Hash, Hasher};
 use std::marker::Model;
 
-/// Bytes of its own.
+/// An owned byte buffer.
 #[derive(Drop)]
 pub struct Bytes {
     inner: Vec<u8>,
@@ -21,7 +21,7 @@ impl Model for Bytes {
 }
 
 impl Bytes {
-    /// No bytes. Takes no memory.
+    /// An empty buffer. Does not allocate.
     pub fn new(alloc: Global) -> Bytes
         ensures holds_no_bytes { result ≡ [] }
     {
@@ -30,61 +30,63 @@ impl Bytes {
         }
     }
 
-    /// A copy of these bytes.
+    /// A copy of `bytes`.
     pub fn from(alloc: Global, bytes: &[u8]) -> Result<Bytes, NoMemory>
-        ensures copies_the_bytes { IfOk result (λ copy. copy ≡ bytes.now) }
+        ensures same_bytes { IfOk result (λ copy. copy ≡ bytes.now) }
     {
         let inner = Vec::from_slice(alloc, bytes)?;
         Ok(Bytes { inner })
     }
 
-    /// The bytes of a vector, as they are. Takes no memory.
+    /// Wraps a vector of bytes. Does not allocate.
     pub fn own(inner: Vec<u8>) -> Bytes
-        ensures holds_the_bytes { result ≡ inner.items }
+        ensures holds_bytes { result ≡ inner.items }
     {
         Bytes { inner }
     }
 
-    /// The vector of the bytes. Takes no memory.
+    /// Unwraps the vector. Does not allocate.
     pub fn into_vec(self) -> Vec<u8>
-        ensures hands_out_the_bytes { result.items ≡ self }
+        ensures same_bytes { result.items ≡ self }
     {
         let Bytes { inner } = self;
         inner
     }
 
-    /// The bytes, lent.
+    /// Borrows the bytes.
     pub fn as_slice(&self) -> &[u8]
-        ensures lends_the_bytes { result.now ≡ self.now }
+        ensures exact { result.now ≡ self.now }
     {
         self.inner.as_slice()
     }
 
-    /// How many bytes there are.
+    /// The number of bytes.
     pub fn len(&self) -> usize
-        ensures counts_the_bytes { result ≡ length self.now }
+        ensures exact { result ≡ length self.now }
     {
         self.inner.len()
     }
 
-    /// Equal bytes.
+    /// A copy of this buffer.
     pub fn copy(&self, alloc: Global) -> Result<Bytes, NoMemory>
-        ensures makes_equal_bytes { IfOk result (λ copy. copy ≡ self.now) }
+        ensures equal_copy { IfOk result (λ copy. copy ≡ self.now) }
     {
         Bytes::from(alloc, self.as_slice())
     }
 
-    /// Adds a byte at the end. After a refusal the bytes are as before.
+    /// Appends a byte. At `NoMemory` the bytes are unchanged.
     pub fn push(&mut self, byte: u8) -> Result<(), NoMemory>
-        ensures adds_the_byte_or_nothing { MatchResult result (λ _. self.new ≡ self.old ++ byte ∷ []) (λ _. self.new ≡ self.old) }
+        ensures appended_or_unchanged { MatchResult result (λ _. self.new ≡ self.old ++ byte ∷ [])
+            (λ _. self.new ≡ self.old) }
     {
         self.inner.push(byte)?;
         Ok(())
     }
 
-    /// Adds bytes at the end. After a refusal the bytes are as before.
+    /// Appends bytes. At `NoMemory` the bytes are unchanged.
     pub fn extend(&mut self, bytes: &[u8]) -> Result<(), NoMemory>
-        ensures adds_the_bytes_or_nothing { MatchResult result (λ _. self.new ≡ self.old ++ bytes.now) (λ _. self.new ≡ self.old) }
+        ensures appended_or_unchanged { MatchResult result (λ _. self.new ≡ self.old ++ bytes.now)
+            (λ _. self.new ≡ self.old) }
     {
         self.inner.extend_from_slice(bytes)
     }

@@ -1,37 +1,40 @@
-//! Sources and sinks of bytes, ports and peers with their connections, in memory and over real streams and sockets.
-//! Upward: each line tells the bytes that its reads gave and its writes handed over, a port and a peer on each connection; bytes
-//! given are the next ones left where that is known, and a failure comes only with a count that rose.
-//! The model is the project's own; no standard defines it.
+//! Byte sources and sinks, ports that accept connections and peers that make them, in memory and
+//! over real streams and TCP sockets. Each call adds the bytes that it read or wrote to the
+//! stream's state (`Gave`, `Took`, `Next`, `Connects`); bytes read are the next ones left where
+//! the stream shows them, and a call fails only if a fault counter rose (`Counts`, `CountRises`).
+//! The model is this project's own; no standard defines it.
+//! What an object doesn't show of its state is None, not an empty list: real streams don't show
+//! what is left, nor sockets which connections are to come.
 #![tactic(auto)]
 
+mod address_history;
 mod bytes;
 mod echo;
-mod gatherer;
-mod line;
-mod log;
-mod mem_line;
-mod mem_lines;
+mod io_pair;
 mod mem_peer;
 mod mem_port;
-mod pair;
-mod remembered;
+mod mem_stream;
+mod mem_streams;
 mod std_streams;
+mod streams;
 mod tcp;
 mod tcp_peer;
+mod traffic_log;
+mod write_buffer;
 mod writing;
 
+pub use address_history::AddressHistory;
 pub use bytes::Bytes;
 pub use echo::echo_once;
-pub use gatherer::{Gatherer, flush, put};
-pub use line::{Failed, Line, Peer, Port, Sink, Source, fault};
-pub use log::Log;
-pub use mem_line::MemLine;
+pub use io_pair::IoPair;
 pub use mem_peer::MemPeer;
 pub use mem_port::MemPort;
-pub use pair::Pair;
-pub use remembered::Remembered;
+pub use mem_stream::MemStream;
 pub use std::alloc::AllocError as NoMemory;
 pub use std_streams::{StdSink, StdSource};
+pub use streams::{Failed, Line, Peer, Port, Sink, Source, fault};
 pub use tcp::TcpPort;
 pub use tcp_peer::TcpPeer;
+pub use traffic_log::TrafficLog;
+pub use write_buffer::{WriteBuffer, flush, put};
 pub use writing::write_all;

@@ -2,24 +2,25 @@
 ghost use Rattle.std.specs.Prelude.{◌≡◌, ◌<◌, [], length, None, option_copied, slice_get};
 ghost use Rattle.std.specs.Io.{ReadsAtMost};
 ghost use Rattle.xcap_io.specs.Causes.{OnlyReads, OnlyWrites};
-ghost use Rattle.xcap_io.specs.Connections.{OnlyConnects};
+ghost use Rattle.xcap_io.specs.Connections.{ConnectsOnly};
 ghost use Rattle.xcap_io.specs.Memory.{LinesRead, LinesWrite, MemoryConnect, peer_state};
-ghost use Rattle.xcap_io.specs.Passing.{ReadGave, WriteTook};
+ghost use Rattle.xcap_io.specs.StreamTraffic.{GivesReadBytes, TakesWrittenBytes};
 ghost use Rattle.xcap_io.specs.Streams.{WritesSome};
 
-use crate::line::fault;
-use crate::mem_lines::MemLines;
+use crate::address_history::AddressHistory;
 use crate::mem_port::is_failing_call;
-use crate::remembered::Remembered;
-use crate::{Failed, Line, MemLine, Peer, Sink, Source};
+use crate::mem_streams::MemStreams;
+use crate::streams::fault;
+use crate::{Failed, Line, MemStream, Peer, Sink, Source};
 use std::marker::Model;
 
-/// A peer whose connections are lines in memory. It tells them all, the address of each, and what passed over it.
+/// A peer whose connections are streams in memory. Contracts see all of them, the address of each,
+/// and what passed over it.
 #[derive(Drop)]
 pub struct MemPeer {
-    lines: MemLines,
+    lines: MemStreams,
     until_fault: Option<usize>,
-    addresses: Remembered,
+    addresses: AddressHistory,
     faults: u64,
 }
 
@@ -37,11 +38,11 @@ impl Model for MemPeer {
 }
 
 impl MemPeer {
-    /// A peer whose connections are these lines, in order. Each begins with nothing taken.
-    /// A `connect` fails where no line is left, and of the calls, counted from 1, the one of the number `connect_fails_at` does.
-    /// Takes no memory.
-    pub fn new(lines: Vec<MemLine>, connect_fails_at: Option<usize>) -> MemPeer
-        ensures connects_over_these_lines { result ≡ record {
+    /// A peer whose connections are `lines`, in order. Each begins with nothing written. `connect`
+    /// fails where no stream is left, and so does call number `connect_fails_at`, counted from 1.
+    /// Does not allocate.
+    pub fn new(lines: Vec<MemStream>, connect_fails_at: Option<usize>) -> MemPeer
+        ensures exact { result ≡ record {
           lines = record { lines = lines.items; present = None; read_faults = 0; write_faults = 0 };
           until_fault = connect_fails_at;
           addresses = [];
@@ -49,16 +50,16 @@ impl MemPeer {
         } }
     {
         MemPeer {
-            lines: MemLines::new(lines),
+            lines: MemStreams::new(lines),
             until_fault: connect_fails_at,
-            addresses: Remembered::new(),
+            addresses: AddressHistory::new(),
             faults: 0,
         }
     }
 
-    /// The line of this number, from 0. Takes no memory.
-    pub fn line(&self, i: usize) -> Option<&MemLine>
-        ensures line_of_that_connection { option_copied result ≡ slice_get self.now.lines.lines i }
+    /// Stream number `i`, from 0. Does not allocate.
+    pub fn line(&self, i: usize) -> Option<&MemStream>
+        ensures exact { option_copied result ≡ slice_get self.now.lines.lines i }
     {
         self.lines.line(i)
     }
@@ -71,11 +72,13 @@ impl Line for MemPeer {
 impl Source for MemPeer {
     fn read(&mut self, buf: &mut [u8]) -> Result<usize, Failed>
         requires { 0 < length buf.old }
-        ensures within_the_piece_or_buffer { ReadsAtMost result buf.new }
-        ensures gives_bytes_behind_those_before { ReadGave (peer_state self.old).inward (peer_state self.new).inward result buf.new }
+        ensures in_bounds { ReadsAtMost result buf.new }
+        ensures appends_read { GivesReadBytes (peer_state self.old).inward
+            (peer_state self.new).inward result buf.new }
         ensures only_reads { OnlyReads (peer_state self.old) (peer_state self.new) result }
-        ensures does_what_memory_does { LinesRead self.old.lines.present self.old.lines self.new.lines (length buf.old) result }
-        ensures nothing_else_changes { self.new ≡ record self.old { lines = self.new.lines } }
+        ensures as_memory_form { LinesRead self.old.lines.present self.old.lines self.new.lines
+            (length buf.old) result }
+        ensures rest_unchanged { self.new ≡ record self.old { lines = self.new.lines } }
     {
         self.lines.read(buf)
     }
@@ -84,11 +87,13 @@ impl Source for MemPeer {
 impl Sink for MemPeer {
     fn write(&mut self, piece: &[u8]) -> Result<usize, Failed>
         requires { 0 < length piece.now }
-        ensures within_the_piece_or_buffer { WritesSome result piece.now }
-        ensures takes_bytes_behind_those_before { WriteTook (peer_state self.old).taken (peer_state self.new).taken result piece.now }
+        ensures in_bounds { WritesSome result piece.now }
+        ensures appends_written { TakesWrittenBytes (peer_state self.old).taken
+            (peer_state self.new).taken result piece.now }
         ensures only_writes { OnlyWrites (peer_state self.old) (peer_state self.new) result }
-        ensures does_what_memory_does { LinesWrite self.old.lines.present self.old.lines self.new.lines piece.now result }
-        ensures nothing_else_changes { self.new ≡ record self.old { lines = self.new.lines } }
+        ensures as_memory_form { LinesWrite self.old.lines.present self.old.lines self.new.lines
+            piece.now result }
+        ensures rest_unchanged { self.new ≡ record self.old { lines = self.new.lines } }
     {
         self.lines.write(piece)
     }
@@ -96,8 +101,9 @@ impl Sink for MemPeer {
 
 impl Peer for MemPeer {
     fn connect(&mut self, address: &str) -> Result<(), Failed>
-        ensures only_connects { OnlyConnects (peer_state self.old) (peer_state self.new) result address.now }
-        ensures does_what_memory_does { MemoryConnect self.old self.new result address.now }
+        ensures only_connects { ConnectsOnly (peer_state self.old)
+            (peer_state self.new) result address.now }
+        ensures as_memory_form { MemoryConnect self.old self.new result address.now }
     {
         if is_failing_call(&mut self.until_fault) {
             return Err(fault(&mut self.faults));

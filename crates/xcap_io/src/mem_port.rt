@@ -4,22 +4,23 @@ ghost use Rattle.std.specs.Io.{ReadsAtMost};
 ghost use Rattle.xcap_io.specs.Causes.{OnlyReads, OnlyWrites};
 ghost use Rattle.xcap_io.specs.Connections.{Listens, OnlyNext};
 ghost use Rattle.xcap_io.specs.Memory.{after_call, LinesRead, LinesWrite, MemoryListen, MemoryNext, port_state};
-ghost use Rattle.xcap_io.specs.Passing.{ReadGave, WriteTook};
+ghost use Rattle.xcap_io.specs.StreamTraffic.{GivesReadBytes, TakesWrittenBytes};
 ghost use Rattle.xcap_io.specs.Streams.{WritesSome};
 
-use crate::line::fault;
-use crate::mem_lines::MemLines;
-use crate::remembered::Remembered;
-use crate::{Failed, Line, MemLine, Port, Sink, Source};
+use crate::address_history::AddressHistory;
+use crate::mem_streams::MemStreams;
+use crate::streams::fault;
+use crate::{Failed, Line, MemStream, Port, Sink, Source};
 use std::marker::Model;
 
-/// A port whose connections are lines in memory. It tells them all, what was sent on each, and the address it listens at.
+/// A port whose connections are streams in memory. Contracts see all of them, what was written to
+/// each, and the address it listens at.
 #[derive(Drop)]
 pub struct MemPort {
-    lines: MemLines,
+    lines: MemStreams,
     listen_fails: bool,
     until_fault: Option<usize>,
-    addresses: Remembered,
+    addresses: AddressHistory,
     faults: u64,
 }
 
@@ -38,11 +39,11 @@ impl Model for MemPort {
 }
 
 impl MemPort {
-    /// A port whose connections are these lines, in order. Each begins with nothing sent.
-    /// Every `listen` fails where `listen_fails`, and of the calls of `next`, counted from 1, the one of the number `next_fails_at`.
-    /// Takes no memory.
-    pub fn new(lines: Vec<MemLine>, listen_fails: bool, next_fails_at: Option<usize>) -> MemPort
-        ensures takes_these_lines { result ≡ record {
+    /// A port whose connections are `lines`, in order. Each begins with nothing written. Every
+    /// `listen` fails if `listen_fails` is set, and so does call number `next_fails_at` of `next`,
+    /// counted from 1. Does not allocate.
+    pub fn new(lines: Vec<MemStream>, listen_fails: bool, next_fails_at: Option<usize>) -> MemPort
+        ensures exact { result ≡ record {
           lines = record { lines = lines.items; present = None; read_faults = 0; write_faults = 0 };
           listen_fails = listen_fails;
           until_fault = next_fails_at;
@@ -51,26 +52,26 @@ impl MemPort {
         } }
     {
         MemPort {
-            lines: MemLines::new(lines),
+            lines: MemStreams::new(lines),
             listen_fails,
             until_fault: next_fails_at,
-            addresses: Remembered::new(),
+            addresses: AddressHistory::new(),
             faults: 0,
         }
     }
 
-    /// The line of this number, from 0. Takes no memory.
-    pub fn line(&self, i: usize) -> Option<&MemLine>
-        ensures line_of_that_client { option_copied result ≡ slice_get self.now.lines.lines i }
+    /// Stream number `i`, from 0. Does not allocate.
+    pub fn line(&self, i: usize) -> Option<&MemStream>
+        ensures exact { option_copied result ≡ slice_get self.now.lines.lines i }
     {
         self.lines.line(i)
     }
 }
 
-/// Counts a call, of which one fails, and says whether it is this one.
+/// Counts a call, and returns whether it is the one that fails.
 pub(crate) fn is_failing_call(until_fault: &mut Option<usize>) -> bool
-    ensures tells_whether_this_call_fails { IsTrue result ↔ (until_fault.old ≡ Some 1) }
-    ensures counts_the_call_down { until_fault.new ≡ after_call until_fault.old }
+    ensures fails_iff { IsTrue result ↔ (until_fault.old ≡ Some 1) }
+    ensures counts_down { until_fault.new ≡ after_call until_fault.old }
 {
     match *until_fault {
         Some(1) => {
@@ -92,11 +93,13 @@ impl Line for MemPort {
 impl Source for MemPort {
     fn read(&mut self, buf: &mut [u8]) -> Result<usize, Failed>
         requires { 0 < length buf.old }
-        ensures within_the_piece_or_buffer { ReadsAtMost result buf.new }
-        ensures gives_bytes_behind_those_before { ReadGave (port_state self.old).inward (port_state self.new).inward result buf.new }
+        ensures in_bounds { ReadsAtMost result buf.new }
+        ensures appends_read { GivesReadBytes (port_state self.old).inward
+            (port_state self.new).inward result buf.new }
         ensures only_reads { OnlyReads (port_state self.old) (port_state self.new) result }
-        ensures does_what_memory_does { LinesRead self.old.lines.present self.old.lines self.new.lines (length buf.old) result }
-        ensures nothing_else_changes { self.new ≡ record self.old { lines = self.new.lines } }
+        ensures as_memory_form { LinesRead self.old.lines.present self.old.lines self.new.lines
+            (length buf.old) result }
+        ensures rest_unchanged { self.new ≡ record self.old { lines = self.new.lines } }
     {
         self.lines.read(buf)
     }
@@ -105,11 +108,13 @@ impl Source for MemPort {
 impl Sink for MemPort {
     fn write(&mut self, piece: &[u8]) -> Result<usize, Failed>
         requires { 0 < length piece.now }
-        ensures within_the_piece_or_buffer { WritesSome result piece.now }
-        ensures takes_bytes_behind_those_before { WriteTook (port_state self.old).taken (port_state self.new).taken result piece.now }
+        ensures in_bounds { WritesSome result piece.now }
+        ensures appends_written { TakesWrittenBytes (port_state self.old).taken
+            (port_state self.new).taken result piece.now }
         ensures only_writes { OnlyWrites (port_state self.old) (port_state self.new) result }
-        ensures does_what_memory_does { LinesWrite self.old.lines.present self.old.lines self.new.lines piece.now result }
-        ensures nothing_else_changes { self.new ≡ record self.old { lines = self.new.lines } }
+        ensures as_memory_form { LinesWrite self.old.lines.present self.old.lines self.new.lines
+            piece.now result }
+        ensures rest_unchanged { self.new ≡ record self.old { lines = self.new.lines } }
     {
         self.lines.write(piece)
     }
@@ -117,8 +122,9 @@ impl Sink for MemPort {
 
 impl Port for MemPort {
     fn listen(&mut self, address: &str) -> Result<(), Failed>
-        ensures listens_or_fails_with_a_cause { Listens (port_state self.old) (port_state self.new) result address.now }
-        ensures does_what_memory_does { MemoryListen self.old self.new result address.now }
+        ensures listens_or_fails { Listens (port_state self.old)
+            (port_state self.new) result address.now }
+        ensures as_memory_form { MemoryListen self.old self.new result address.now }
     {
         if self.listen_fails {
             return Err(fault(&mut self.faults));
@@ -129,7 +135,7 @@ impl Port for MemPort {
 
     fn next(&mut self) -> Result<bool, Failed>
         ensures only_next { OnlyNext (port_state self.old) (port_state self.new) result }
-        ensures does_what_memory_does { MemoryNext self.old self.new result }
+        ensures as_memory_form { MemoryNext self.old self.new result }
     {
         if is_failing_call(&mut self.until_fault) {
             return Err(fault(&mut self.faults));

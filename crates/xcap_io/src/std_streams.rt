@@ -1,28 +1,29 @@
-// Real streams. These few lines are the trusted edge: no contract says that what a call of the system gives comes from the
-// stream, or that what it takes goes there. Which bytes each call gave and took is told.
+// Real streams. These few lines are the trusted edge: no contract says that the bytes a system
+// call gives come from the stream, or that the bytes it takes go there. Contracts see which bytes
+// each call gave and took.
 ghost use Rattle.std.specs.Prelude.{◌≡◌, ◌<◌, [], length};
 ghost use Rattle.std.specs.Io.{ReadsAtMost};
 ghost use Rattle.std.specs.Io.KnownBytes.{ReadConsumes, WriteAppends};
 ghost use Rattle.xcap_io.specs.Causes.{OnlyReads, OnlyWrites, inward_of, no_inward, no_port, no_peer};
-ghost use Rattle.xcap_io.specs.Passing.{ReadGave, WriteTook};
+ghost use Rattle.xcap_io.specs.StreamTraffic.{GivesReadBytes, TakesWrittenBytes};
 ghost use Rattle.xcap_io.specs.Streams.{WritesSome};
 
-use crate::line::fault;
-use crate::log::Log;
+use crate::streams::fault;
+use crate::traffic_log::TrafficLog;
 use crate::{Failed, Line, Sink, Source};
 use std::io::{Read, Write};
 
-/// A real stream that bytes come from, with a count of its faults. It tells the bytes that its reads gave, and not those left.
-/// A want of memory inside the stream is a fault like any other.
+/// A real stream to read from, with a count of its faults. Contracts see the bytes that its reads
+/// gave, not those left. Running out of memory inside the stream is a fault like any other.
 #[derive(Drop)]
 pub struct StdSource<R: Read> {
     reader: R,
-    log: Log,
+    log: TrafficLog,
     faults: u64,
 }
 
 impl<R: Read> StdSource<R> {
-    /// A source over this stream, without a fault.
+    /// A source over this stream, with no faults yet.
     pub fn new(reader: R) -> StdSource<R>
         ensures nothing_passed { ⟦<StdSource<R> as Line>⟧.state result ≡ record {
           inward = no_inward;
@@ -37,7 +38,7 @@ impl<R: Read> StdSource<R> {
     {
         StdSource {
             reader,
-            log: Log::new(),
+            log: TrafficLog::new(),
             faults: 0,
         }
     }
@@ -59,12 +60,14 @@ impl<R: Read> Line for StdSource<R> {
 impl<R: Read> Source for StdSource<R> {
     fn read(&mut self, buf: &mut [u8]) -> Result<usize, Failed>
         requires { 0 < length buf.old }
-        ensures within_the_piece_or_buffer { ReadsAtMost result buf.new }
-        ensures gives_bytes_behind_those_before { ReadGave (⟦<StdSource<R> as Line>⟧.state self.old).inward
+        ensures in_bounds { ReadsAtMost result buf.new }
+        ensures appends_read { GivesReadBytes (⟦<StdSource<R> as Line>⟧.state self.old).inward
             (⟦<StdSource<R> as Line>⟧.state self.new).inward result buf.new }
         ensures only_reads { OnlyReads
-            (⟦<StdSource<R> as Line>⟧.state self.old) (⟦<StdSource<R> as Line>⟧.state self.new) result }
-        ensures from_stream { ReadConsumes (R.remaining self.old.reader) (R.remaining self.new.reader) result buf.new }
+            (⟦<StdSource<R> as Line>⟧.state self.old)
+            (⟦<StdSource<R> as Line>⟧.state self.new) result }
+        ensures from_stream { ReadConsumes (R.remaining self.old.reader)
+            (R.remaining self.new.reader) result buf.new }
     {
         match self.reader.read(buf) {
             Ok(count) => {
@@ -76,17 +79,17 @@ impl<R: Read> Source for StdSource<R> {
     }
 }
 
-/// A real stream that bytes go to, with a count of its faults. It tells the bytes that its writes handed over.
-/// A want of memory inside the stream is a fault like any other.
+/// A real stream to write to, with a count of its faults. Contracts see the bytes that its writes
+/// handed over. Running out of memory inside the stream is a fault like any other.
 #[derive(Drop)]
 pub struct StdSink<W: Write> {
     writer: W,
-    log: Log,
+    log: TrafficLog,
     faults: u64,
 }
 
 impl<W: Write> StdSink<W> {
-    /// A sink over this stream, without a fault.
+    /// A sink over this stream, with no faults yet.
     pub fn new(writer: W) -> StdSink<W>
         ensures nothing_passed { ⟦<StdSink<W> as Line>⟧.state result ≡ record {
           inward = no_inward;
@@ -101,7 +104,7 @@ impl<W: Write> StdSink<W> {
     {
         StdSink {
             writer,
-            log: Log::new(),
+            log: TrafficLog::new(),
             faults: 0,
         }
     }
@@ -123,12 +126,13 @@ impl<W: Write> Line for StdSink<W> {
 impl<W: Write> Sink for StdSink<W> {
     fn write(&mut self, piece: &[u8]) -> Result<usize, Failed>
         requires { 0 < length piece.now }
-        ensures within_the_piece_or_buffer { WritesSome result piece.now }
-        ensures takes_bytes_behind_those_before { WriteTook (⟦<StdSink<W> as Line>⟧.state self.old).taken
+        ensures in_bounds { WritesSome result piece.now }
+        ensures appends_written { TakesWrittenBytes (⟦<StdSink<W> as Line>⟧.state self.old).taken
             (⟦<StdSink<W> as Line>⟧.state self.new).taken result piece.now }
         ensures only_writes { OnlyWrites
             (⟦<StdSink<W> as Line>⟧.state self.old) (⟦<StdSink<W> as Line>⟧.state self.new) result }
-        ensures to_stream { WriteAppends (W.contents self.old.writer) (W.contents self.new.writer) result piece.now }
+        ensures to_stream { WriteAppends (W.contents self.old.writer)
+            (W.contents self.new.writer) result piece.now }
     {
         match self.writer.write(piece) {
             Ok(count) if count > 0 => {

@@ -1,47 +1,50 @@
-// Connections that come in over real sockets, and what those that go out share with them. These few lines are the trusted edge:
-// no contract says that what a call of the system gives came over the network, or that what it takes goes there. Which bytes each
-// call gave and took, and on which connection, is told.
+// Accepted connections over real sockets, and what outgoing ones share with them. These few lines
+// are the trusted edge: no contract says that the bytes a system call gives came over the network,
+// or that the bytes it takes go there. Contracts see which bytes each call gave and took, and on
+// which connection.
 ghost use Rattle.std.specs.Prelude.{◌≡◌, ◌<◌, ◌≤◌, [], None, Some, false, length, take, IfOk, OnOk, OnErr, IsSome, IfSome, IsTrue, MatchResult};
 ghost use Rattle.std.specs.Io.{ReadsAtMost};
 ghost use Rattle.xcap_io.specs.Causes.{Counts, OnlyReads, OnlyWrites, inward_of, no_inward, no_peer, none_begun};
 ghost use Rattle.xcap_io.specs.Connections.{Listens, OnlyNext, carried};
 ghost use Rattle.xcap_io.specs.Histories.{with_given, with_taken};
 ghost use Rattle.xcap_io.specs.Memory.{latest};
-ghost use Rattle.xcap_io.specs.Passing.{ReadGave, WriteTook};
+ghost use Rattle.xcap_io.specs.StreamTraffic.{GivesReadBytes, TakesWrittenBytes};
 ghost use Rattle.xcap_io.specs.Sockets.{ReadsStream, WritesStream};
 ghost use Rattle.xcap_io.specs.Streams.{WritesSome};
 
-use crate::line::fault;
-use crate::log::Log;
-use crate::remembered::Remembered;
+use crate::address_history::AddressHistory;
+use crate::streams::fault;
+use crate::traffic_log::TrafficLog;
 use crate::{Failed, Line, Port, Sink, Source};
 use std::io::{ErrorKind, Read, Write};
 use std::net::{Net, OpenListener, OpenStream, TcpListener};
 use std::time::{Clock, Duration, Instant};
 
-/// How many connections in a row may break before they are taken, until `next` fails.
+/// How many connections in a row may break before they are accepted, until `next` fails.
 const BROKEN_CONNECTIONS: u32 = 100;
 
-/// Connections that come in over TCP. It tells what passed over each, where it listens, and its counts of faults; not what is
-/// still to come. A want of memory inside a call is a fault like any other.
+/// Accepts connections over TCP. Contracts see what passed over each connection, the address
+/// listened at, and the fault counters; not what is still to come. Running out of memory inside a
+/// call is a fault like any other.
 ///
-/// No peer holds it for long: a read or write that waits for 10 seconds fails, and so does each that begins 5 minutes after its
-/// connection was taken, as far as the system has such time-outs and a clock.
+/// No client can hold a connection for long: a read or write that waits for 10 seconds fails, and
+/// so does each that begins 5 minutes after its connection was accepted, as far as the system has
+/// such time-outs and a clock.
 #[derive(Drop)]
 pub struct TcpPort<N: Net + Clock + Drop> {
     net: N,
     listener: Option<N::Listener>,
     stream: Option<N::Stream>,
     last_moment: Option<Instant>,
-    log: Log,
-    addresses: Remembered,
+    log: TrafficLog,
+    addresses: AddressHistory,
     read_faults: u64,
     write_faults: u64,
     faults: u64,
 }
 
 impl<N: Net + Clock + Drop> TcpPort<N> {
-    /// A port that listens nowhere yet.
+    /// A port that does not listen yet.
     pub fn new(net: N) -> TcpPort<N>
         ensures nothing_passed { ⟦<TcpPort<N> as Line>⟧.state result ≡ record {
           inward = no_inward;
@@ -59,8 +62,8 @@ impl<N: Net + Clock + Drop> TcpPort<N> {
             listener: None,
             stream: None,
             last_moment: None,
-            log: Log::new(),
-            addresses: Remembered::new(),
+            log: TrafficLog::new(),
+            addresses: AddressHistory::new(),
             read_faults: 0,
             write_faults: 0,
             faults: 0,
@@ -86,18 +89,19 @@ impl<N: Net + Clock + Drop> Line for TcpPort<N> {
     } };
 }
 
-// One read of the present connection. Where there is none, or the read failed, that is counted.
+// One read from the present connection. A missing connection and a failed read are counted.
 pub(crate) fn read_from<S: Read>(
     stream: &mut Option<S>,
-    log: &mut Log,
+    log: &mut TrafficLog,
     faults: &mut u64,
     buf: &mut [u8],
 ) -> Result<usize, Failed>
-    ensures within_the_piece_or_buffer { ReadsAtMost result buf.new }
-    ensures counts_each_failure { Counts faults.old faults.new result }
+    ensures in_bounds { ReadsAtMost result buf.new }
+    ensures faults_never_fall { Counts faults.old faults.new result }
     ensures count_never_falls { faults.old ≤ faults.new }
     ensures from_stream { ReadsStream S.remaining stream.old stream.new result buf.new }
-    ensures logs_what_passed { MatchResult result (λ n. log.new.history ≡ with_given log.old.history (take n buf.new))
+    ensures logs_traffic { MatchResult result
+        (λ n. log.new.history ≡ with_given log.old.history (take n buf.new))
         (λ _. log.new.history ≡ log.old.history) }
 {
     match stream {
@@ -112,18 +116,20 @@ pub(crate) fn read_from<S: Read>(
     }
 }
 
-// One write to the present connection. Where there is none, or the write failed, or it took nothing, that is counted.
+// One write to the present connection. A missing connection, a failed write and a write of no
+// bytes are counted.
 pub(crate) fn write_to<S: Write>(
     stream: &mut Option<S>,
-    log: &mut Log,
+    log: &mut TrafficLog,
     faults: &mut u64,
     piece: &[u8],
 ) -> Result<usize, Failed>
-    ensures within_the_piece_or_buffer { WritesSome result piece.now }
-    ensures counts_each_failure { Counts faults.old faults.new result }
+    ensures in_bounds { WritesSome result piece.now }
+    ensures faults_never_fall { Counts faults.old faults.new result }
     ensures count_never_falls { faults.old ≤ faults.new }
     ensures to_stream { WritesStream S.contents stream.old stream.new result piece.now }
-    ensures logs_what_passed { MatchResult result (λ n. log.new.history ≡ with_taken log.old.history (take n piece.now))
+    ensures logs_traffic { MatchResult result
+        (λ n. log.new.history ≡ with_taken log.old.history (take n piece.now))
         (λ _. log.new.history ≡ log.old.history) }
 {
     match stream {
@@ -138,10 +144,10 @@ pub(crate) fn write_to<S: Write>(
     }
 }
 
-// The next connection, which this may wait for, also behind some that broke before they were taken; nothing where nobody listens,
-// or it failed.
+// Waits for the next connection, also after some that broke before they were accepted; None if
+// nobody listens or it failed.
 fn accept_next<L: OpenListener>(listener: &Option<L>) -> Option<L::Stream>
-    ensures only_while_it_listens { IfSome result (λ _. IsSome listener.now) }
+    ensures some_while_listening { IfSome result (λ _. IsSome listener.now) }
 {
     match listener {
         Some(listener) => accept_whole(listener),
@@ -149,7 +155,7 @@ fn accept_next<L: OpenListener>(listener: &Option<L>) -> Option<L::Stream>
     }
 }
 
-// The next connection that didn't break before it was taken.
+// The next connection that did not break before it was accepted.
 fn accept_whole<L: OpenListener>(listener: &L) -> Option<L::Stream> {
     for _ in 0..BROKEN_CONNECTIONS {
         match listener.accept() {
@@ -161,19 +167,21 @@ fn accept_whole<L: OpenListener>(listener: &L) -> Option<L::Stream> {
     None
 }
 
-// Writes are few and large here, so none waits in the system for more. A socket that can't do so works all the same.
+// Writes are few and large here, so they are sent without Nagle's delay. A socket that can't do so
+// works all the same.
 pub(crate) fn send_at_once<S: OpenStream>(stream: &S) {
     let _ = stream.set_nodelay(true);
 }
 
-// A call on this stream waits for 10 seconds at most. A socket that can't do so works all the same.
+// Limits each call on this stream to 10 seconds. A socket that can't do so works all the same.
 fn wait_briefly<S: OpenStream>(stream: &S) {
     let limit = Some(Duration::from_secs(10));
     let _ = stream.set_read_timeout(limit);
     let _ = stream.set_write_timeout(limit);
 }
 
-// The moment after which calls on a connection that begins now fail: 5 minutes later. None where the clock can't be read.
+// The moment after which calls on a connection that begins now fail: in 5 minutes. None where the
+// clock can't be read.
 fn last_moment<C: Clock>(clock: &C) -> Option<Instant> {
     Instant::now(clock)
         .ok()?
@@ -191,12 +199,13 @@ fn has_passed<C: Clock>(clock: &C, moment: Option<Instant>) -> bool {
 impl<N: Net + Clock + Drop> Source for TcpPort<N> {
     fn read(&mut self, buf: &mut [u8]) -> Result<usize, Failed>
         requires { 0 < length buf.old }
-        ensures within_the_piece_or_buffer { ReadsAtMost result buf.new }
-        ensures gives_bytes_behind_those_before { ReadGave (⟦<TcpPort<N> as Line>⟧.state self.old).inward
+        ensures in_bounds { ReadsAtMost result buf.new }
+        ensures appends_read { GivesReadBytes (⟦<TcpPort<N> as Line>⟧.state self.old).inward
             (⟦<TcpPort<N> as Line>⟧.state self.new).inward result buf.new }
         ensures only_reads { OnlyReads
             (⟦<TcpPort<N> as Line>⟧.state self.old) (⟦<TcpPort<N> as Line>⟧.state self.new) result }
-        ensures from_stream { ReadsStream N.Stream.remaining self.old.stream self.new.stream result buf.new }
+        ensures from_stream { ReadsStream N.Stream.remaining self.old.stream self.new.stream result
+            buf.new }
         ensures same_listener { self.new.listener ≡ self.old.listener }
     {
         if has_passed(&self.net, self.last_moment) {
@@ -209,12 +218,13 @@ impl<N: Net + Clock + Drop> Source for TcpPort<N> {
 impl<N: Net + Clock + Drop> Sink for TcpPort<N> {
     fn write(&mut self, piece: &[u8]) -> Result<usize, Failed>
         requires { 0 < length piece.now }
-        ensures within_the_piece_or_buffer { WritesSome result piece.now }
-        ensures takes_bytes_behind_those_before { WriteTook (⟦<TcpPort<N> as Line>⟧.state self.old).taken
+        ensures in_bounds { WritesSome result piece.now }
+        ensures appends_written { TakesWrittenBytes (⟦<TcpPort<N> as Line>⟧.state self.old).taken
             (⟦<TcpPort<N> as Line>⟧.state self.new).taken result piece.now }
         ensures only_writes { OnlyWrites
             (⟦<TcpPort<N> as Line>⟧.state self.old) (⟦<TcpPort<N> as Line>⟧.state self.new) result }
-        ensures to_stream { WritesStream N.Stream.contents self.old.stream self.new.stream result piece.now }
+        ensures to_stream { WritesStream N.Stream.contents self.old.stream self.new.stream result
+            piece.now }
         ensures same_listener { self.new.listener ≡ self.old.listener }
     {
         if has_passed(&self.net, self.last_moment) {
@@ -231,8 +241,9 @@ impl<N: Net + Clock + Drop> Sink for TcpPort<N> {
 
 impl<N: Net + Clock + Drop> Port for TcpPort<N> {
     fn listen(&mut self, address: &str) -> Result<(), Failed>
-        ensures listens_or_fails_with_a_cause { Listens
-            (⟦<TcpPort<N> as Line>⟧.state self.old) (⟦<TcpPort<N> as Line>⟧.state self.new) result address.now }
+        ensures listens_or_fails { Listens
+            (⟦<TcpPort<N> as Line>⟧.state self.old)
+            (⟦<TcpPort<N> as Line>⟧.state self.new) result address.now }
         ensures has_listener { OnOk result (IsSome self.new.listener) }
         ensures same_listener { OnErr result (self.new.listener ≡ self.old.listener) }
         ensures same_stream { self.new.stream ≡ self.old.stream }
@@ -247,19 +258,19 @@ impl<N: Net + Clock + Drop> Port for TcpPort<N> {
         }
     }
 
-    // Connections may always come.
+    // More connections may always come.
     fn next(&mut self) -> Result<bool, Failed>
         ensures only_next { OnlyNext
             (⟦<TcpPort<N> as Line>⟧.state self.old) (⟦<TcpPort<N> as Line>⟧.state self.new) result }
-        ensures never_tells_an_end { IfOk result (λ begins. IsTrue begins) }
+        ensures never_ends { IfOk result (λ begins. IsTrue begins) }
         ensures has_listener { OnOk result (IsSome self.old.listener) }
         ensures same_listener { self.new.listener ≡ self.old.listener }
-        ensures stream_is_there { OnOk result (IsSome self.new.stream) }
-        ensures no_stream_after_a_failure { OnErr result (self.new.stream ≡ None) }
+        ensures stream_present { OnOk result (IsSome self.new.stream) }
+        ensures err_no_stream { OnErr result (self.new.stream ≡ None) }
         ensures none_present { OnErr result ((⟦<TcpPort<N> as Line>⟧.state self.new).port.begun
             ≡ record { earlier = carried (⟦<TcpPort<N> as Line>⟧.state self.old); is_present = false }) }
     {
-        // The peer waits for the end of the present connection, so it is closed first.
+        // The client waits for the end of the present connection, so it is closed first.
         self.stream = None;
         self.log.end();
         match accept_next(&self.listener) {

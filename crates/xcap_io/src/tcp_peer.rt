@@ -1,28 +1,30 @@
-// Connections that go out over real sockets. Like those that come in they are the trusted edge: no contract says that what a
-// call of the system gives came over the network, or that what it takes goes there.
+// Outgoing connections over real sockets. They are part of the trusted edge, like accepted ones:
+// no contract says that the bytes a system call gives came over the network, or that the bytes it
+// takes go there.
 ghost use Rattle.std.specs.Prelude.{◌≡◌, ◌<◌, [], None, false, length, OnOk, OnErr, IsSome};
 ghost use Rattle.std.specs.Io.{ReadsAtMost};
 ghost use Rattle.xcap_io.specs.Causes.{OnlyReads, OnlyWrites, inward_of, no_inward, no_port, no_peer};
-ghost use Rattle.xcap_io.specs.Connections.{OnlyConnects, asked};
-ghost use Rattle.xcap_io.specs.Passing.{ReadGave, WriteTook};
+ghost use Rattle.xcap_io.specs.Connections.{ConnectsOnly, asked};
+ghost use Rattle.xcap_io.specs.StreamTraffic.{GivesReadBytes, TakesWrittenBytes};
 ghost use Rattle.xcap_io.specs.Sockets.{ReadsStream, WritesStream};
 ghost use Rattle.xcap_io.specs.Streams.{WritesSome};
 
-use crate::line::fault;
-use crate::log::Log;
-use crate::remembered::Remembered;
+use crate::address_history::AddressHistory;
+use crate::streams::fault;
 use crate::tcp::{read_from, send_at_once, write_to};
+use crate::traffic_log::TrafficLog;
 use crate::{Failed, Line, Peer, Sink, Source};
 use std::net::{Net, TcpStream};
 
-/// Connections that go out over TCP. It tells the address of each, what passed over it, and its counts of faults; not what is
-/// left. A want of memory inside a call is a fault like any other.
+/// Makes connections over TCP. Contracts see the address of each, what passed over it, and the
+/// fault counters; not what is left to read. Running out of memory inside a call is a fault like
+/// any other.
 #[derive(Drop)]
 pub struct TcpPeer<N: Net + Drop> {
     net: N,
     stream: Option<N::Stream>,
-    log: Log,
-    addresses: Remembered,
+    log: TrafficLog,
+    addresses: AddressHistory,
     read_faults: u64,
     write_faults: u64,
     faults: u64,
@@ -45,8 +47,8 @@ impl<N: Net + Drop> TcpPeer<N> {
         TcpPeer {
             net,
             stream: None,
-            log: Log::new(),
-            addresses: Remembered::new(),
+            log: TrafficLog::new(),
+            addresses: AddressHistory::new(),
             read_faults: 0,
             write_faults: 0,
             faults: 0,
@@ -75,12 +77,13 @@ impl<N: Net + Drop> Line for TcpPeer<N> {
 impl<N: Net + Drop> Source for TcpPeer<N> {
     fn read(&mut self, buf: &mut [u8]) -> Result<usize, Failed>
         requires { 0 < length buf.old }
-        ensures within_the_piece_or_buffer { ReadsAtMost result buf.new }
-        ensures gives_bytes_behind_those_before { ReadGave (⟦<TcpPeer<N> as Line>⟧.state self.old).inward
+        ensures in_bounds { ReadsAtMost result buf.new }
+        ensures appends_read { GivesReadBytes (⟦<TcpPeer<N> as Line>⟧.state self.old).inward
             (⟦<TcpPeer<N> as Line>⟧.state self.new).inward result buf.new }
         ensures only_reads { OnlyReads
             (⟦<TcpPeer<N> as Line>⟧.state self.old) (⟦<TcpPeer<N> as Line>⟧.state self.new) result }
-        ensures from_stream { ReadsStream N.Stream.remaining self.old.stream self.new.stream result buf.new }
+        ensures from_stream { ReadsStream N.Stream.remaining self.old.stream self.new.stream result
+            buf.new }
     {
         read_from(&mut self.stream, &mut self.log, &mut self.read_faults, buf)
     }
@@ -89,12 +92,13 @@ impl<N: Net + Drop> Source for TcpPeer<N> {
 impl<N: Net + Drop> Sink for TcpPeer<N> {
     fn write(&mut self, piece: &[u8]) -> Result<usize, Failed>
         requires { 0 < length piece.now }
-        ensures within_the_piece_or_buffer { WritesSome result piece.now }
-        ensures takes_bytes_behind_those_before { WriteTook (⟦<TcpPeer<N> as Line>⟧.state self.old).taken
+        ensures in_bounds { WritesSome result piece.now }
+        ensures appends_written { TakesWrittenBytes (⟦<TcpPeer<N> as Line>⟧.state self.old).taken
             (⟦<TcpPeer<N> as Line>⟧.state self.new).taken result piece.now }
         ensures only_writes { OnlyWrites
             (⟦<TcpPeer<N> as Line>⟧.state self.old) (⟦<TcpPeer<N> as Line>⟧.state self.new) result }
-        ensures to_stream { WritesStream N.Stream.contents self.old.stream self.new.stream result piece.now }
+        ensures to_stream { WritesStream N.Stream.contents self.old.stream self.new.stream result
+            piece.now }
     {
         write_to(
             &mut self.stream,
@@ -107,10 +111,11 @@ impl<N: Net + Drop> Sink for TcpPeer<N> {
 
 impl<N: Net + Drop> Peer for TcpPeer<N> {
     fn connect(&mut self, address: &str) -> Result<(), Failed>
-        ensures only_connects { OnlyConnects
-            (⟦<TcpPeer<N> as Line>⟧.state self.old) (⟦<TcpPeer<N> as Line>⟧.state self.new) result address.now }
-        ensures stream_is_there { OnOk result (IsSome self.new.stream) }
-        ensures no_stream_after_a_failure { OnErr result (self.new.stream ≡ None) }
+        ensures only_connects { ConnectsOnly
+            (⟦<TcpPeer<N> as Line>⟧.state self.old)
+            (⟦<TcpPeer<N> as Line>⟧.state self.new) result address.now }
+        ensures stream_present { OnOk result (IsSome self.new.stream) }
+        ensures err_no_stream { OnErr result (self.new.stream ≡ None) }
         ensures none_present { OnErr result ((⟦<TcpPeer<N> as Line>⟧.state self.new).peer.begun
             ≡ record { earlier = asked (⟦<TcpPeer<N> as Line>⟧.state self.old); is_present = false }) }
     {

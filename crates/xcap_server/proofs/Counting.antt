@@ -1,29 +1,29 @@
--- Where all bytes are known, what was served by the bytes given is served by all.
+-- Where all bytes are known, what was served by the bytes given is what all bytes give.
 use Rattle.std.proofs.Common.{◌≡◌, ℕ, List, ◌++◌, Option, Some, subst}
-use Rattle.notes.specs.declared.edit.Edit.{Edit}
+use Rattle.edit_ops.specs.declared.edit.Edit.{Edit}
 use Rattle.store_core.specs.State.{State}
-use Rattle.xcap_io.specs.Causes.{LineState}
-use Rattle.xcap_io.specs.Passing.{IsTruthful}
+use Rattle.xcap_io.specs.Causes.{StreamState}
+use Rattle.xcap_io.specs.StreamTraffic.{IsTruthful}
 use Rattle.http_wire.specs.Serving.{HaveBytes, Serves, ServesEach, counted, counted_each}
 use Rattle.http_wire.proofs.Counting.{counts, counts_each}
-use Rattle.http_serve.specs.Connections.{ServesLine}
+use Rattle.http_serve.specs.Connections.{ServesStream}
 use Rattle.http_serve.specs.Fixed.{fixed}
 use Rattle.http_serve.specs.Ports.{Came, ServesPort}
-use Rattle.http_wire.specs.declared.ended.Ended.{Ended}
-use Rattle.http_serve.specs.declared.port.Served.{Served}
+use Rattle.http_wire.specs.declared.close_reason.CloseReason.{CloseReason}
+use Rattle.http_serve.specs.declared.accept_loop.ServeSummary.{ServeSummary}
 use Rattle.http_serve.proofs.Ports.{has_bytes}
-use Rattle.feed_laws.specs.Holding.{FollowedStep}
-use Rattle.http_serve.specs.Written.{InBytes}
+use Rattle.xcap_machine.specs.SubscriberVersions.{FollowedStep}
+use Rattle.http_serve.specs.ReplyBytes.{InBytes}
 
 module _ {W : Type 0} (Keeps : List Edit → W → W → Type 0) where
-  pub line_counts : (root : List ℕ) (ended : Ended) (m n : State) (old new : LineState) (a b : W) (bytes : List ℕ) → old.inward.left ≡ Some bytes → IsTruthful old.inward
-      → (served : ServesLine (InBytes (FollowedStep root)) Keeps ended m n old new a b)
+  pub line_counts : (root : List ℕ) (ended : CloseReason) (m n : State) (old new : StreamState) (a b : W) (bytes : List ℕ) → old.inward.left ≡ Some bytes → IsTruthful old.inward
+      → (served : ServesStream (InBytes (FollowedStep root)) Keeps ended m n old new a b)
       → Serves (InBytes (FollowedStep root)) fixed ended m (counted ended bytes served.passed) n served.edits
   line_counts root ended m n old new a b bytes told truthful served =
       counts (InBytes (FollowedStep root)) fixed ended m n served.edits bytes served.passed
       (has_bytes old.inward new.inward bytes served.passed told truthful served.gave served.found_end) served.serves
 
-  pub port_counts : (root : List ℕ) (most : ℕ) (by : Served) (m n : State) (old new : LineState) (a b : W) (all : List (List ℕ)) → old.port.to_come ≡ Some all
+  pub port_counts : (root : List ℕ) (most : ℕ) (by : ServeSummary) (m n : State) (old new : StreamState) (a b : W) (all : List (List ℕ)) → old.port.to_come ≡ Some all
       → (served : ServesPort (InBytes (FollowedStep root)) Keeps most by m n old new a b)
       → (came : List (List ℕ)) × (rest : List (List ℕ)) × (all ≡ came ++ rest) × (new.port.to_come ≡ Some rest) × HaveBytes came served.connections
       × ServesEach (InBytes (FollowedStep root)) fixed m (counted_each served.connections came served.serves.endings) served.serves.endings n served.edits

@@ -1,44 +1,45 @@
--- One line of the table after the other: what was decided is what the lines before hand on.
+-- One line of the table after the other: each decision is the one that the previous lines call
+-- for.
 use Rattle.std.proofs.Common.{◌≡◌, ℕ, true, false, not, List, None, Some, Result, Ok, Err, IfOk, refl, sym, ap, subst}
 use Rattle.doc_names.specs.Usages.{usage_of}
 use Rattle.doc_names.specs.declared.usages.Usage.{Usage}
 use Rattle.xml_tree.specs.Memory.{Answered}
 use Rattle.xml_tree.specs.declared.read_error.ReadError.{ReadError}
 use Rattle.xml_tree.specs.declared.read_error.ReadError.TheVariants.{Fault}
-use Rattle.xcap_uri.specs.Targets.{TargetAnswer}
+use Rattle.xcap_uri.specs.Targets.{TargetResult}
 use Rattle.xcap_uri.specs.declared.fault.UriFault.{UriFault}
 use Rattle.xcap_uri.specs.declared.target.Target.{Target}
-use Rattle.reply_text.specs.Heads.{Sent, plain}
+use Rattle.reply_text.specs.ReplyHeads.{SentReply, plain}
 use Rattle.http_wire.specs.declared.request.Request.{Request}
-use Rattle.request_terms.specs.Methods.{method_of, is_reading}
-use Rattle.request_terms.specs.Rights.{is_allowed}
-use Rattle.request_terms.specs.declared.method.Method.{Method}
-use Rattle.request_terms.specs.declared.method.Method.TheVariants.{Get, Head, Put, Delete, Other}
+use Rattle.request_checks.specs.Methods.{method_of, is_reading}
+use Rattle.request_checks.specs.Rights.{is_allowed}
+use Rattle.request_checks.specs.declared.method.Method.{Method}
+use Rattle.request_checks.specs.declared.method.Method.TheVariants.{Get, Head, Put, Delete, Other}
 use Rattle.store_core.specs.Stored.{Stored}
-use Rattle.store_core.specs.Held.{Stock as Content}
-use Rattle.machine_words.specs.Answers.{Answer, not_allowed, unchanged}
-use Rattle.machine_words.specs.Requests.{ByMethod, ByTarget, Deletes, IsAnswer, Puts, auid_of, fault_status, home_of, is_read_only, takes, ReadsTarget as Reads}
-use Rattle.machine_words.proofs.Cases.{at_false, at_true, not_stored, stored}
-use Rattle.document_writes.specs.Deciding.{Decides}
-use Rattle.document_writes.specs.declared.decision.Decision.{Decision}
-use Rattle.document_writes.specs.declared.decision.Decision.TheVariants.{Stays}
-use Rattle.document_writes.proofs.Doing.{all_so, stays}
+use Rattle.store_core.specs.Contents.{StoreContents as Content}
+use Rattle.xcap_machine.specs.Answers.{Answer, not_allowed, unchanged}
+use Rattle.xcap_machine.specs.Requests.{ByMethod, ByTarget, Deletes, IsAnswer, Puts, auid_of, fault_status, home_of, is_read_only, takes, ReadsTarget as Reads}
+use Rattle.xcap_machine.proofs.Cases.{at_false, at_true, not_stored, stored}
+use Rattle.xcap_put.specs.Decisions.{Decides}
+use Rattle.xcap_put.specs.declared.decision.Decision.{Decision}
+use Rattle.xcap_put.specs.declared.decision.Decision.TheVariants.{Stays}
+use Rattle.xcap_put.proofs.Doing.{all_so, stays}
 
 module _ (root : List ℕ) (c : Content) (target : Target) (request : Request) (s : Stored) where
   -- a decision that is a reply
-  by_reply : (Is : Answer → Type 0) (d : Decision) (reply : Sent) → d ≡ Stays reply → Is (unchanged reply) → Decides Is s d
+  by_reply : (Is : Answer → Type 0) (d : Decision) (reply : SentReply) → d ≡ Stays reply → Is (unchanged reply) → Decides Is s d
   by_reply Is d reply so is = subst (λ (x : Decision). Decides Is s x) (sym so) (stays Is s reply is)
 
   -- ---- by method
 
-  method_reads : (method : Method) (reply : Sent) → is_reading method ≡ true → Reads root c target method request (unchanged reply) → ByMethod root c target method request (unchanged reply)
+  method_reads : (method : Method) (reply : SentReply) → is_reading method ≡ true → Reads root c target method request (unchanged reply) → ByMethod root c target method request (unchanged reply)
   method_reads Get reply is so = so
   method_reads Head reply is so = so
   method_reads Put reply is so = let no : ⊥ = cc in absurd no
   method_reads Delete reply is so = let no : ⊥ = cc in absurd no
   method_reads Other reply is so = let no : ⊥ = cc in absurd no
 
-  pub decides_reading : (method : Method) (reply : Sent) → is_reading method ≡ true → Reads root c target method request (unchanged reply) → Decides (ByMethod root c target method request) s (Stays reply)
+  pub decides_reading : (method : Method) (reply : SentReply) → is_reading method ≡ true → Reads root c target method request (unchanged reply) → Decides (ByMethod root c target method request) s (Stays reply)
   decides_reading method reply is so = stays (ByMethod root c target method request) s reply (method_reads method reply is so)
 
   -- a usage that stores documents
@@ -67,7 +68,7 @@ module _ (root : List ℕ) (c : Content) (target : Target) (request : Request) (
 
   -- ---- all in order
 
-  pub turned : (method : Method) (reply : Sent) → ByTarget root c target method request (unchanged reply) → Decides (ByTarget root c target method request) s (Stays reply)
+  pub turned : (method : Method) (reply : SentReply) → ByTarget root c target method request (unchanged reply) → Decides (ByTarget root c target method request) s (Stays reply)
   turned method reply so = stays (ByTarget root c target method request) s reply so
 
   pub goes_on : {E : Type 0} (method : Method) (r : Result Decision E) → takes target method ≡ true → is_allowed (not (is_reading method)) (auid_of target) (home_of target) request.fields ≡ true
@@ -75,29 +76,29 @@ module _ (root : List ℕ) (c : Content) (target : Target) (request : Request) (
   goes_on method r taken allowed decides = all_so (ByMethod root c target method request) s (ByTarget root c target method request) (λ a so. at_true _ _ _ taken (at_true _ _ _ allowed so)) r decides
 
 module _ (root : List ℕ) (c : Content) (target : Target) (request : Request) where
-  -- the target doesn't take the method
-  pub not_taken : (method : Method) (reply : Sent) → takes target method ≡ false → reply ≡ not_allowed (is_read_only target) request.closes → ByTarget root c target method request (unchanged reply)
+  -- the target doesn't allow the method
+  pub not_taken : (method : Method) (reply : SentReply) → takes target method ≡ false → reply ≡ not_allowed (is_read_only target) request.closes → ByTarget root c target method request (unchanged reply)
   not_taken method reply is so = at_false _ _ _ is (ap unchanged so)
 
-  -- whoever asks may not
-  pub user_refused : (method : Method) (reply : Sent) → takes target method ≡ true → is_allowed (not (is_reading method)) (auid_of target) (home_of target) request.fields ≡ false → reply ≡ plain 403 request.closes
+  -- the user isn't allowed to ask
+  pub user_refused : (method : Method) (reply : SentReply) → takes target method ≡ true → is_allowed (not (is_reading method)) (auid_of target) (home_of target) request.fields ≡ false → reply ≡ plain 403 request.closes
       → ByTarget root c target method request (unchanged reply)
   user_refused method reply taken is so = at_true _ _ _ taken (at_false _ _ _ is (ap unchanged so))
 
 module _ (root : List ℕ) (c : Content) (request : Request) (s : Stored) where
-  target_so : (target : Target) (method : Method) (a : Answer) → TargetAnswer root request.target (Ok target) → method ≡ method_of request.method → ByTarget root c target method request a → IsAnswer root c request a
+  target_so : (target : Target) (method : Method) (a : Answer) → TargetResult root request.target (Ok target) → method ≡ method_of request.method → ByTarget root c target method request a → IsAnswer root c request a
   target_so target method a answers is so = (Ok target, answers, subst (λ (m : Method). ByTarget root c target m request a) is so)
 
-  -- what was read is decided
-  pub target_decided : {E : Type 0} (target : Target) (method : Method) (r : Result Decision E) → TargetAnswer root request.target (Ok target) → method ≡ method_of request.method
+  -- a target that was read is decided
+  pub target_decided : {E : Type 0} (target : Target) (method : Method) (r : Result Decision E) → TargetResult root request.target (Ok target) → method ≡ method_of request.method
       → IfOk r (λ d. Decides (ByTarget root c target method request) s d) → IfOk r (λ d. Decides (IsAnswer root c request) s d)
   target_decided target method r answers is decides = all_so (ByTarget root c target method request) s (IsAnswer root c request) (λ a so. target_so target method a answers is so) r decides
 
-  -- what a fault is answered
-  pub fault_decided : (target : List ℕ) (read : Result Target (ReadError UriFault)) (error : ReadError UriFault) (fault : UriFault) (d : Decision) → target ≡ request.target → read ≡ Err error → error ≡ Fault fault → Answered (TargetAnswer root target) read
+  -- the answer to a target with a fault
+  pub fault_decided : (target : List ℕ) (read : Result Target (ReadError UriFault)) (error : ReadError UriFault) (fault : UriFault) (d : Decision) → target ≡ request.target → read ≡ Err error → error ≡ Fault fault → Answered (TargetResult root target) read
       → d ≡ Stays (plain (fault_status fault) request.closes) → Decides (IsAnswer root c request) s d
   fault_decided target read error fault d same is told_so answers told =
-      let of_error : Answered (TargetAnswer root target) (Err error) = subst (λ (r : Result Target (ReadError UriFault)). Answered (TargetAnswer root target) r) is answers in
-      let of_fault : TargetAnswer root target (Err fault) = subst (λ (e : ReadError UriFault). Answered (TargetAnswer root target) (Err e)) told_so of_error in
-      let of_request : TargetAnswer root request.target (Err fault) = subst (λ (t : List ℕ). TargetAnswer root t (Err fault)) same of_fault in
+      let of_error : Answered (TargetResult root target) (Err error) = subst (λ (r : Result Target (ReadError UriFault)). Answered (TargetResult root target) r) is answers in
+      let of_fault : TargetResult root target (Err fault) = subst (λ (e : ReadError UriFault). Answered (TargetResult root target) (Err e)) told_so of_error in
+      let of_request : TargetResult root request.target (Err fault) = subst (λ (t : List ℕ). TargetResult root t (Err fault)) same of_fault in
       subst (λ (x : Decision). Decides (IsAnswer root c request) s x) (sym told) (stays (IsAnswer root c request) s (plain (fault_status fault) request.closes) (Err fault, of_request, refl))

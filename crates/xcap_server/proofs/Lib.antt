@@ -3,5 +3,8 @@ pub mod Counting
 pub mod Dispatch
 pub mod Logged
 pub mod Reclosed
+pub mod Recorded
 pub mod Redone
+pub mod Returned
 pub mod Standing
+pub mod Ways

@@ -1,42 +1,43 @@
--- A server whose accepted requests are logged does what the machine of its root does, but for requests that couldn't be entered.
+-- A server whose accepted requests are logged does what the machine of its root does, except for
+-- requests that couldn't be added.
 use Rattle.std.proofs.Common.{◌≡◌, ℕ, ◌+◌, ◌<◌, Bool, true, false, List, [], ◌∷◌, ◌++◌, Option, None, Some, is_some, Result, Ok, Err, IfOk, OnErr, option_map, if◌then◌else◌, codes, refl, sym, ap, subst, ◌∙◌, arith, append-nil}
 use Rattle.std.specs.Str.{bytes_eq, chars}
 use Rattle.http_wire.specs.declared.request.Request.{Request}
-use Rattle.notes.specs.declared.edit.Edit.{Edit}
-use Rattle.reply_text.specs.Heads.{Sent, plain}
-use Rattle.request_terms.specs.Methods.{is_reading, method_of}
-use Rattle.request_terms.specs.declared.method.Method.{Method}
-use Rattle.request_terms.specs.declared.method.Method.TheVariants.{Get, Head, Put, Delete, Other}
-use Rattle.xcap_io.specs.Causes.{LineState, RoseBy}
+use Rattle.edit_ops.specs.declared.edit.Edit.{Edit}
+use Rattle.reply_text.specs.ReplyHeads.{SentReply, plain}
+use Rattle.request_checks.specs.Methods.{is_reading, method_of}
+use Rattle.request_checks.specs.declared.method.Method.{Method}
+use Rattle.request_checks.specs.declared.method.Method.TheVariants.{Get, Head, Put, Delete, Other}
+use Rattle.xcap_io.specs.Causes.{StreamState, RoseBy}
 use Rattle.xcap_uri.specs.Roots.{IsRoot, authority_of, path_of}
 use Rattle.edit_journal.specs.Journals.{JournalState}
 use Rattle.edit_journal.specs.Logs.{AddsRecord, LogState}
 use Rattle.edit_journal.specs.Records.{IsRecordable, method_number, record_of, recorded}
-use Rattle.edit_journal.specs.declared.log.AppendFault.{AppendFault}
-use Rattle.edit_journal.specs.declared.log.AppendFault.TheVariants.{Failed, NoMemory}
-use Rattle.store_core.specs.Held.{Stands, Stock, stock_of}
-use Rattle.store_core.specs.Keeping.{Kept}
+use Rattle.edit_journal.specs.declared.journal_log.AppendFault.{AppendFault}
+use Rattle.edit_journal.specs.declared.journal_log.AppendFault.TheVariants.{Failed, NoMemory}
+use Rattle.store_core.specs.Contents.{Represents, StoreContents, stock_of}
+use Rattle.store_core.specs.ValidStates.{IsValidState}
 use Rattle.store_core.specs.State.{State, first_state}
 use Rattle.store_core.specs.Stored.{Stored}
-use Rattle.machine_words.specs.Answers.{Answer, Made}
-use Rattle.machine_words.specs.Laws.{tells_change}
-use Rattle.machine_words.specs.Machine.{KeptStep, Step, answer_as, content_after_answer, told_as}
-use Rattle.machine_words.specs.Requests.{IsAnswer}
-use Rattle.machine_words.proofs.Steps.{answer_closes}
-use Rattle.machine_words.proofs.Ways.{Way, changes, stays as changes_nothing, way_of}
-use Rattle.feed_laws.specs.Holding.{FollowedStep}
-use Rattle.document_writes.specs.Deciding.{Decides, answer_of}
-use Rattle.document_writes.specs.declared.decision.Decision.{Decision}
-use Rattle.http_serve.specs.declared.machine.Answered.{Answered}
-use Rattle.http_serve.specs.declared.port.Served.{Served}
-use Rattle.http_serve.specs.Written.{InBytes}
+use Rattle.xcap_machine.specs.Answers.{Answer, Made}
+use Rattle.xcap_machine.specs.Laws.{tells_change}
+use Rattle.xcap_machine.specs.Machine.{ValidStep, Step, answer_as, content_after_answer, told_as}
+use Rattle.xcap_machine.specs.Requests.{IsAnswer}
+use Rattle.xcap_machine.proofs.Steps.{answer_closes}
+use Rattle.xcap_machine.proofs.Ways.{Way, changes, stays as changes_nothing, way_of}
+use Rattle.xcap_machine.specs.SubscriberVersions.{FollowedStep}
+use Rattle.xcap_put.specs.Decisions.{Decides, answer_of}
+use Rattle.xcap_put.specs.declared.decision.Decision.{Decision}
+use Rattle.http_serve.specs.declared.machine.MachineReply.{MachineReply}
+use Rattle.http_serve.specs.declared.accept_loop.ServeSummary.{ServeSummary}
+use Rattle.http_serve.specs.ReplyBytes.{InBytes}
 use Rattle.http_serve.proofs.Simulations.{port_by}
-use Rattle.logged_serve.specs.Books.{Booked, HoldsLog, LoggedStep, accepted, answered, not_logged}
-use Rattle.logged_serve.specs.Logging.{Accepts, Answers, IsLoggable, entered, not_entered, stays}
-use Rattle.logged_serve.specs.Ports.{ServesLogged}
-use Rattle.logged_serve.proofs.Balancing.{holds_after, holds_so}
-use Rattle.xcap_server.specs.Logged.{AnswersLogged, Logs, ServesPortLogged, with_answer}
-use Rattle.xcap_server.specs.Redoing.{Redoing}
+use Rattle.edit_journal.specs.LoggedMachines.{Booked, HoldsLog, LoggedStep, accepted, answered, not_logged}
+use Rattle.edit_journal.specs.LoggedRequests.{Accepts, Answers, IsLoggable, entered, not_entered, stays}
+use Rattle.edit_journal.specs.Ports.{ServesLogged}
+use Rattle.edit_journal.proofs.Balancing.{holds_after, holds_so}
+use Rattle.xcap_server.specs.LoggedServers.{AnswersLogged, Logs, ServesPortLogged, with_answer}
+use Rattle.xcap_server.specs.ReplayedRequests.{Redoing}
 use Rattle.xcap_server.specs.Servers.{ServerState}
 use Rattle.xcap_server.specs.inner.Servers.{AnswersRequest, CarriesOut}
 use Rattle.xcap_server.proofs.Answering.{answered_so}
@@ -72,15 +73,15 @@ told_writes Put status h = (refl, refl)
 told_writes Delete status h = (refl, refl)
 told_writes Other status h = let no : ⊥ = cc in absurd no
 
-writes_by : (method : Method) (closes : Bool) (c : Stock) (a : Answer) (made : Made) → a.made ≡ Some made → Way method closes c a → (is_writing method ≡ true) × (is_reading method ≡ false)
+writes_by : (method : Method) (closes : Bool) (c : StoreContents) (a : Answer) (made : Made) → a.made ≡ Some made → Way method closes c a → (is_writing method ≡ true) × (is_reading method ≡ false)
 writes_by method closes c a made makes (changes_nothing reply tells same is) = let no : ◌≡◌ {A = Option Made} None (Some made) = sym (ap (λ (x : Answer). x.made) is) ∙ makes in absurd (let f : ⊥ = cc in f)
 writes_by method closes c a made makes (changes reply tells same id change note next asks did is) = told_writes method reply.status tells
 
--- what makes a change writes
-writes : (root : List ℕ) (c : Stock) (request : Request) (a : Answer) (made : Made) → a.made ≡ Some made → IsAnswer root c request a → (is_writing (method_of request.method) ≡ true) × (is_reading (method_of request.method) ≡ false)
+-- a request that makes a change writes
+writes : (root : List ℕ) (c : StoreContents) (request : Request) (a : Answer) (made : Made) → a.made ≡ Some made → IsAnswer root c request a → (is_writing (method_of request.method) ≡ true) × (is_reading (method_of request.method) ≡ false)
 writes root c request a made makes is = writes_by (method_of request.method) request.closes c a made makes (way_of root c request a is)
 
--- ---- what was decided, entered, and made
+-- ---- decided, added to the log, and made
 
 no_edit : (edit : Option Edit) → option_map told_as edit ≡ None → edit ≡ None
 no_edit None h = refl
@@ -101,11 +102,11 @@ some_made (Some m) h = (m, refl)
 pub same_server : (old new : ServerState) → new.root ≡ old.root → new.content ≡ old.content → new ≡ old
 same_server old new root content = λ i. record { root = root i; content = content i }
 
--- what is told of a change that is made
+-- the edit of a change that is made
 abbrev edit_as : Made → Edit
 edit_as made = record { doc = made.0; note = record { previous = made.1.previous; next = made.1.next; bindings = made.1.bindings; change = made.1.change; fresh = made.1.fresh } }
 
--- the machine accepts what would make a change
+-- the machine accepts a request that would make a change
 accepts_so : (old : ServerState) (request : Request) (a : Answer) (made : Made) → a.made ≡ Some made → IsAnswer old.root old.content request a → Accepts AnswersRequest old request
 accepts_so old request a made makes is = (
   a.reply,
@@ -119,11 +120,11 @@ accepts_so old request a made makes is = (
 
 module _ (old new : ServerState) (request : Request) (s : Stored) (d : Decision) (same : s.content ≡ old.content) (decides : Decides (IsAnswer old.root old.content request) s d) (root : new.root ≡ old.root) where
   -- a reply closes where its request does
-  pub decided_closes : (a : Answered Edit) → answer_as a.reply a.edit ≡ answer_of d → a.reply.closes ≡ request.closes
+  pub decided_closes : (a : MachineReply Edit) → answer_as a.reply a.edit ≡ answer_of d → a.reply.closes ≡ request.closes
   decided_closes a gives = ap (λ (x : Answer). x.reply.closes) gives ∙ answer_closes old.root old.content request (answer_of d) decides.answers
 
   -- a request that makes no change
-  pub answered_unchanged : (a : Answered Edit) (log : LogState) (journal : JournalState) → is_some (answer_of d).made ≡ false → answer_as a.reply a.edit ≡ answer_of d → new.content ≡ content_after_answer s.content (answer_of d).made
+  pub answered_unchanged : (a : MachineReply Edit) (log : LogState) (journal : JournalState) → is_some (answer_of d).made ≡ false → answer_as a.reply a.edit ≡ answer_of d → new.content ≡ content_after_answer s.content (answer_of d).made
       → Answers AnswersRequest old log journal request a.reply a.edit new log journal
   answered_unchanged a log journal none gives makes =
       let is_none : (answer_of d).made ≡ None = no_made (answer_of d).made none in
@@ -132,14 +133,14 @@ module _ (old new : ServerState) (request : Request) (s : Stored) (d : Decision)
       stays no (subst (λ (e : Option Edit). AnswersRequest old request a.reply new e) no step)
       (same_server old new root (makes ∙ ap (λ (o : Option Made). content_after_answer s.content o) is_none ∙ same)) refl refl
 
-  -- a request that makes one is within the bounds of a record
+  -- a request that makes a change is within the bounds of a record
   pub is_recordable : is_some (answer_of d).made ≡ true → IsLoggable request → IsRecordable request
   is_recordable some loggable =
       let made = some_made (answer_of d).made some in
       loggable (numbered request.method (writes old.root old.content request (answer_of d) made.0 made.1 decides.answers).0)
 
-  -- it was entered
-  pub answered_entered : (a : Answered Edit) (log log' : LogState) (journal journal' : JournalState) → is_some (answer_of d).made ≡ true → answer_as a.reply a.edit ≡ answer_of d → new.content ≡ content_after_answer s.content (answer_of d).made
+  -- its record was added
+  pub answered_entered : (a : MachineReply Edit) (log log' : LogState) (journal journal' : JournalState) → is_some (answer_of d).made ≡ true → answer_as a.reply a.edit ≡ answer_of d → new.content ≡ content_after_answer s.content (answer_of d).made
       → IsLoggable request → AddsRecord log journal (record_of request) (Ok tt) log' journal' → Answers AnswersRequest old log journal request a.reply a.edit new log' journal'
   answered_entered a log log' journal journal' some gives makes loggable adds =
       let made = some_made (answer_of d).made some in
@@ -147,20 +148,20 @@ module _ (old new : ServerState) (request : Request) (s : Stored) (d : Decision)
       let step : AnswersRequest old request a.reply new a.edit = answered_so old new request s d a same decides gives makes root in
       entered told.0 told.1 (subst (λ (e : Option Edit). AnswersRequest old request a.reply new e) told.1 step) (is_recordable some loggable) adds
 
-  -- it couldn't be entered
-  pub answered_failed : (a : Answered Edit) (log log' : LogState) (journal journal' : JournalState) → is_some (answer_of d).made ≡ true → a.reply ≡ plain 500 request.closes → a.edit ≡ None → new.content ≡ s.content
+  -- its record couldn't be added
+  pub answered_failed : (a : MachineReply Edit) (log log' : LogState) (journal journal' : JournalState) → is_some (answer_of d).made ≡ true → a.reply ≡ plain 500 request.closes → a.edit ≡ None → new.content ≡ s.content
       → IsLoggable request → AddsRecord log journal (record_of request) (Err Failed) log' journal' → Answers AnswersRequest old log journal request a.reply a.edit new log' journal'
   answered_failed a log log' journal journal' some reply none holds loggable adds =
       let made = some_made (answer_of d).made some in
       not_entered none (accepts_so old request (answer_of d) made.0 made.1 decides.answers) reply (same_server old new root (holds ∙ same)) (is_recordable some loggable) adds
 
-  module _ {E : Type 0} (r : Result (Answered Edit) E) (s' : Stored) (holds : new.content ≡ s'.content) where
-    -- it was entered, or it couldn't be
+  module _ {E : Type 0} (r : Result (MachineReply Edit) E) (s' : Stored) (holds : new.content ≡ s'.content) where
+    -- its record was added, or it couldn't be
     pub carried_out : (fault : Result (Unit {0}) AppendFault) (log log' : LogState) (journal journal' : JournalState) → is_some (answer_of d).made ≡ true → CarriesOut s d request fault r s'
         → IsLoggable request → AddsRecord log journal (record_of request) fault log' journal' → IfOk r (λ a. Answers AnswersRequest old log journal request a.reply a.edit new log' journal')
     carried_out fault log log' journal journal' some does loggable adds = by r fault does adds
       where
-        by : (r : Result (Answered Edit) E) (fault : Result (Unit {0}) AppendFault) → CarriesOut s d request fault r s' → AddsRecord log journal (record_of request) fault log' journal' → IfOk r (λ a. Answers AnswersRequest old log journal request a.reply a.edit new log' journal')
+        by : (r : Result (MachineReply Edit) E) (fault : Result (Unit {0}) AppendFault) → CarriesOut s d request fault r s' → AddsRecord log journal (record_of request) fault log' journal' → IfOk r (λ a. Answers AnswersRequest old log journal request a.reply a.edit new log' journal')
         by (Ok a) (Ok x) does adds = answered_entered a log log' journal journal' some does.0 (holds ∙ does.1) loggable adds
         by (Ok a) (Err Failed) does adds = answered_failed a log log' journal journal' some does.0 does.1 (holds ∙ does.2) loggable adds
         by (Ok a) (Err NoMemory) does adds = absurd does
@@ -169,9 +170,9 @@ module _ (old new : ServerState) (request : Request) (s : Stored) (d : Decision)
     pub carried_closes : (fault : Result (Unit {0}) AppendFault) → CarriesOut s d request fault r s' → IfOk r (λ a. a.reply.closes ≡ request.closes)
     carried_closes fault does = by r fault does
       where
-        by : (r : Result (Answered Edit) E) (fault : Result (Unit {0}) AppendFault) → CarriesOut s d request fault r s' → IfOk r (λ a. a.reply.closes ≡ request.closes)
+        by : (r : Result (MachineReply Edit) E) (fault : Result (Unit {0}) AppendFault) → CarriesOut s d request fault r s' → IfOk r (λ a. a.reply.closes ≡ request.closes)
         by (Ok a) (Ok x) does = decided_closes a does.0
-        by (Ok a) (Err Failed) does = ap (λ (x : Sent). x.closes) does.0
+        by (Ok a) (Err Failed) does = ap (λ (x : SentReply). x.closes) does.0
         by (Ok a) (Err NoMemory) does = absurd does
         by (Err e) fault does = tt
 
@@ -180,21 +181,21 @@ module _ (old new : ServerState) (request : Request) (s : Stored) (d : Decision)
         → AddsRecord log journal (record_of request) fault log' journal' → OnErr r ((new ≡ old) × (log' ≡ log) × (j' ≡ j))
     carried_nothing {J} fault log log' journal journal' j j' does quiet adds = by r fault does quiet adds
       where
-        by : (r : Result (Answered Edit) E) (fault : Result (Unit {0}) AppendFault) → CarriesOut s d request fault r s' → (fault ≡ Err NoMemory → j' ≡ j) → AddsRecord log journal (record_of request) fault log' journal' → OnErr r ((new ≡ old) × (log' ≡ log) × (j' ≡ j))
+        by : (r : Result (MachineReply Edit) E) (fault : Result (Unit {0}) AppendFault) → CarriesOut s d request fault r s' → (fault ≡ Err NoMemory → j' ≡ j) → AddsRecord log journal (record_of request) fault log' journal' → OnErr r ((new ≡ old) × (log' ≡ log) × (j' ≡ j))
         by (Ok a) fault does quiet adds = tt
         by (Err e) (Ok x) does quiet adds = absurd does
         by (Err e) (Err Failed) does quiet adds = absurd does
         by (Err e) (Err NoMemory) does quiet adds = (same_server old new root (holds ∙ does ∙ same), adds.0, quiet refl)
 
--- one request more
-pub redoing_more : (root : List ℕ) (requests : List Request) (m n n' : State) (request : Request) (reply : Sent) (e : Edit) → Redoing root m requests n → KeptStep root n request reply n' (Some e) → Redoing root m (requests ++ request ∷ []) n'
-redoing_more root [] m n n' request reply e is step = (reply, n', e, subst (λ (x : State). KeptStep root x request reply n' (Some e)) is step, refl)
+-- one more request
+pub redoing_more : (root : List ℕ) (requests : List Request) (m n n' : State) (request : Request) (reply : SentReply) (e : Edit) → Redoing root m requests n → ValidStep root n request reply n' (Some e) → Redoing root m (requests ++ request ∷ []) n'
+redoing_more root [] m n n' request reply e is step = (reply, n', e, subst (λ (x : State). ValidStep root x request reply n' (Some e)) is step, refl)
 redoing_more root (r ∷ requests) m n n' request reply e (reply', mid, e', first, more) step = (reply', mid, e', first, redoing_more root requests mid n n' request reply e more step)
 
 -- ---- the machine of the root
 
 module _ (root : List ℕ) (rooted : IsRoot root (authority_of root) (path_of root)) where
-  -- what would be accepted on either side
+  -- a request that either machine would accept
   forth : (s : ServerState) (m : State) → StandsAt root s m → (request : Request) → Accepts AnswersRequest s request → Accepts (FollowedStep root) m request
   forth s m here request a = let f = follows_at root rooted s a.1 m request a.0 (Some a.2) here a.3 in (a.0, f.0, a.2, f.2)
 
@@ -206,7 +207,7 @@ module _ (root : List ℕ) (rooted : IsRoot root (authority_of root) (path_of ro
         a.2,
         record {
           does = record {
-            answers = subst (λ (c : Stock). IsAnswer s.root c request (answer_as a.0 (Some a.2))) (sym here.stands)
+            answers = subst (λ (c : StoreContents). IsAnswer s.root c request (answer_as a.0 (Some a.2))) (sym here.stands)
                 (subst (λ (r : List ℕ). IsAnswer r (stock_of m) request (answer_as a.0 (Some a.2))) (sym here.same_root) a.3.0.1.answers);
             goes_on = refl;
           };
@@ -214,8 +215,8 @@ module _ (root : List ℕ) (rooted : IsRoot root (authority_of root) (path_of ro
         },
       )
 
-  -- how a request is answered
-  pub answers_at : (s s' : ServerState) (m : State) (log log' : LogState) (journal journal' : JournalState) (request : Request) (reply : Sent) (edit : Option Edit) → StandsAt root s m
+  -- the answer to a request
+  pub answers_at : (s s' : ServerState) (m : State) (log log' : LogState) (journal journal' : JournalState) (request : Request) (reply : SentReply) (edit : Option Edit) → StandsAt root s m
       → Answers AnswersRequest s log journal request reply edit s' log' journal' → (m' : State) × StandsAt root s' m' × Answers (FollowedStep root) m log journal request reply edit m' log' journal'
   answers_at s s' m log log' journal journal' request reply edit here (stays none step same log_same journal_same) =
       let f = follows_at root rooted s s' m request reply None here step in (f.0, f.1, stays none f.2 f.2.0.1.goes_on log_same journal_same)
@@ -224,10 +225,10 @@ module _ (root : List ℕ) (rooted : IsRoot root (authority_of root) (path_of ro
   answers_at s s' m log log' journal journal' request reply edit here (not_entered none accepts is same can adds) =
       (m, subst (λ (x : ServerState). StandsAt root x m) (sym same) here, not_entered none (forth s m here request accepts) is refl can adds)
 
-  -- ---- requests as their records tell them
+  -- ---- requests as their records have them
 
   -- the same change is made
-  recorded_step : (m m' : State) (request : Request) (reply : Sent) (e : Edit) → FollowedStep root m request reply m' (Some e) → (reply' : Sent) × KeptStep root m (recorded request) reply' m' (Some e)
+  recorded_step : (m m' : State) (request : Request) (reply : SentReply) (e : Edit) → FollowedStep root m request reply m' (Some e) → (reply' : SentReply) × ValidStep root m (recorded request) reply' m' (Some e)
   recorded_step m m' request reply e f =
       let kept = f.0.0 in
       let step : Step root m request reply m' (Some e) = f.0.1 in
@@ -241,13 +242,13 @@ module _ (root : List ℕ) (rooted : IsRoot root (authority_of root) (path_of ro
         ),
       )
 
-  redoing_answer : (start m m' : State) (requests : List Request) (request : Request) (reply : Sent) (edit : Option Edit) → Redoing root start requests m → FollowedStep root m request reply m' edit → Redoing root start (requests ++ accepted request edit) m'
+  redoing_answer : (start m m' : State) (requests : List Request) (request : Request) (reply : SentReply) (edit : Option Edit) → Redoing root start requests m → FollowedStep root m request reply m' edit → Redoing root start (requests ++ accepted request edit) m'
   redoing_answer start m m' requests request reply None redone f = subst (λ (rs : List Request). Redoing root start rs m') (sym (append-nil requests)) (subst (λ (x : State). Redoing root start requests x) (sym f.0.1.goes_on) redone)
   redoing_answer start m m' requests request reply (Some e) redone f =
       let other = recorded_step m m' request reply e f in
       redoing_more root requests start m m' (recorded request) other.0 e redone other.1
 
-  redoing_answers : (start m m' : State) (log log' : LogState) (journal journal' : JournalState) (requests : List Request) (request : Request) (reply : Sent) (edit : Option Edit) → Redoing root start requests m
+  redoing_answers : (start m m' : State) (log log' : LogState) (journal journal' : JournalState) (requests : List Request) (request : Request) (reply : SentReply) (edit : Option Edit) → Redoing root start requests m
       → Answers (FollowedStep root) m log journal request reply edit m' log' journal' → Redoing root start (requests ++ accepted request edit) m'
   redoing_answers start m m' log log' journal journal' requests request reply edit redone (stays none step same log_same journal_same) =
       redoing_answer start m m' requests request reply edit redone (subst (λ (e : Option Edit). FollowedStep root m request reply m' e) (sym none) step)
@@ -260,34 +261,34 @@ module _ (root : List ℕ) (rooted : IsRoot root (authority_of root) (path_of ro
 -- ---- the server's own calls
 
 module _ (s now s' : ServerState) (is : s ≡ now) (rooted : IsRooted s) (log log' : LogState) (journal journal' : JournalState) (request : Request) where
-  here_at : (m : State) → Kept m → Stands now.content m → StandsAt now.root s m
-  here_at m kept stands = record { same_root = ap (λ (x : ServerState). x.root) is; kept = kept; stands = subst (λ (x : ServerState). Stands x.content m) (sym is) stands }
+  here_at : (m : State) → IsValidState m → Represents now.content m → StandsAt now.root s m
+  here_at m kept stands = record { same_root = ap (λ (x : ServerState). x.root) is; kept = kept; stands = subst (λ (x : ServerState). Represents x.content m) (sym is) stands }
 
-  abbrev IsAnswered : Answered Edit → Type 0
+  abbrev IsAnswered : MachineReply Edit → Type 0
   IsAnswered a = Answers AnswersRequest s log journal request a.reply a.edit s' log' journal'
 
-  logged_at : (m : State) → Kept m → Stands now.content m → (a : Answered Edit) → IsAnswered a
+  logged_at : (m : State) → IsValidState m → Represents now.content m → (a : MachineReply Edit) → IsAnswered a
       → (m' : State) × StandsAt now.root s' m' × Answers (FollowedStep now.root) m log journal request a.reply a.edit m' log' journal'
   logged_at m kept stands a answers = answers_at now.root (subst IsRooted is rooted) s s' m log log' journal journal' request a.reply a.edit (here_at m kept stands) answers
 
-  pub answered_logged : {E : Type 0} (r : Result (Answered Edit) E) → IfOk r IsAnswered
-      → IfOk r (λ a. (m : State) → Kept m → Stands now.content m → AnswersLogged now s' m log log' journal journal' request a)
+  pub answered_logged : {E : Type 0} (r : Result (MachineReply Edit) E) → IfOk r IsAnswered
+      → IfOk r (λ a. (m : State) → IsValidState m → Represents now.content m → AnswersLogged now s' m log log' journal journal' request a)
   answered_logged (Err e) h = tt
   answered_logged (Ok a) h = λ m kept stands.
       let o = logged_at m kept stands a h in
       record { next = o.0; kept = o.1.kept; stands = o.1.stands; answers = o.2 }
 
-  same_root_after : (a : Answered Edit) → IsAnswered a → s'.root ≡ now.root
+  same_root_after : (a : MachineReply Edit) → IsAnswered a → s'.root ≡ now.root
   same_root_after a (stays none step same log_same journal_same) = ap (λ (x : ServerState). x.root) (same ∙ is)
   same_root_after a (entered made told step can adds) = step.same_root ∙ ap (λ (x : ServerState). x.root) is
   same_root_after a (not_entered none accepts reply same can adds) = ap (λ (x : ServerState). x.root) (same ∙ is)
 
-  -- want of memory leaves the journal's state, too
-  pub states_too : {E J : Type 0} (P Q : Type 0) (state : J → JournalState) (j j' : J) (r : Result (Answered Edit) E) → OnErr r (P × Q × (j' ≡ j)) → OnErr r (P × Q × (state j' ≡ state j))
+  -- out of memory, the journal's state is unchanged too
+  pub states_too : {E J : Type 0} (P Q : Type 0) (state : J → JournalState) (j j' : J) (r : Result (MachineReply Edit) E) → OnErr r (P × Q × (j' ≡ j)) → OnErr r (P × Q × (state j' ≡ state j))
   states_too P Q state j j' (Ok a) h = tt
   states_too P Q state j j' (Err e) h = (h.0, h.1, ap state h.2)
 
-  pub records_logged : {E : Type 0} (r : Result (Answered Edit) E) → IfOk r IsAnswered → OnErr r ((s' ≡ s) × (log' ≡ log) × (journal' ≡ journal))
+  pub records_logged : {E : Type 0} (r : Result (MachineReply Edit) E) → IfOk r IsAnswered → OnErr r ((s' ≡ s) × (log' ≡ log) × (journal' ≡ journal))
       → (requests : List Request) → Logs now log journal requests → Logs s' log' journal' (with_answer r requests request)
   records_logged (Err e) h same requests logs =
       subst (λ (x : ServerState). Logs x log' journal' requests) (sym (same.0 ∙ is))
@@ -302,7 +303,7 @@ module _ (s now s' : ServerState) (is : s ≡ now) (rooted : IsRooted s) (log lo
       let root : s'.root ≡ now.root = same_root_after a h in
       by_root root o.0 o.1.kept o.1.stands redone holds
     where
-      by_root : s'.root ≡ now.root → (m' : State) → Kept m' → Stands s'.content m' → Redoing now.root (first_state 1) (requests ++ accepted request a.edit) m'
+      by_root : s'.root ≡ now.root → (m' : State) → IsValidState m' → Represents s'.content m' → Redoing now.root (first_state 1) (requests ++ accepted request a.edit) m'
           → HoldsLog (Accepts (FollowedStep now.root) m') log' (requests ++ accepted request a.edit) journal'.held → Logs s' log' journal' (requests ++ accepted request a.edit)
       by_root root m' kept stands redone holds = record {
         stands = record { state = m'; kept = kept; redone = subst (λ (r : List ℕ). Redoing r (first_state 1) (requests ++ accepted request a.edit) m') (sym root) redone; stands = stands };
@@ -312,14 +313,14 @@ module _ (s now s' : ServerState) (is : s ≡ now) (rooted : IsRooted s) (log lo
 -- ---- connections
 
 module _ (root : List ℕ) (rooted : IsRoot root (authority_of root) (path_of root)) (start : State) (first : List Request) where
-  -- the books of a server, and those of the machine
+  -- the bookkeeping of a server, and that of the machine
   record Beside (s : Booked ServerState) (b : Booked State) : Type 0 where
     here : StandsAt root s.machine b.machine
     same_requests : s.requests ≡ b.requests
     same_failures : s.failures ≡ b.failures
     redone : (origin : State) → Redoing root origin first start → Redoing root origin b.requests b.machine
 
-  beside_on : (s s' : Booked ServerState) (b : Booked State) (request : Request) (reply : Sent) (edit : Option Edit) → Beside s b → LoggedStep AnswersRequest s request reply s' edit
+  beside_on : (s s' : Booked ServerState) (b : Booked State) (request : Request) (reply : SentReply) (edit : Option Edit) → Beside s b → LoggedStep AnswersRequest s request reply s' edit
       → (b' : Booked State) × Beside s' b' × LoggedStep (FollowedStep root) b request reply b' edit
   beside_on s s' b request reply edit so (answered step requests failures) =
       let f = follows_at root rooted s.machine s'.machine b.machine request reply edit so.here step in (
@@ -348,16 +349,16 @@ module _ (root : List ℕ) (rooted : IsRoot root (authority_of root) (path_of ro
   beside_step s s' b request bytes edit so a =
       let o = beside_on s s' b request a.reply edit so a.step in (o.0, o.1, record { reply = a.reply; written = a.written; step = o.2 })
 
-module _ {W : Type 0} (Keeps : List Edit → W → W → Type 0) (s now s' : ServerState) (is : s ≡ now) (rooted : IsRooted s) (most : ℕ) (served : Served) (log log' : LogState) (journal journal' : JournalState)
-    (port port' : LineState) (watchers watchers' : W) where
+module _ {W : Type 0} (Keeps : List Edit → W → W → Type 0) (s now s' : ServerState) (is : s ≡ now) (rooted : IsRooted s) (most : ℕ) (served : ServeSummary) (log log' : LogState) (journal journal' : JournalState)
+    (port port' : StreamState) (watchers watchers' : W) where
   -- what was served
   pub port_logged : ((requests : List Request) → HoldsLog (Accepts AnswersRequest s) log requests journal.held
       → ServesLogged AnswersRequest Keeps most served requests s s' log' journal journal' port port' watchers watchers')
-      → (m : State) (requests : List Request) → Kept m → Stands now.content m → HoldsLog (Accepts (FollowedStep now.root) m) log requests journal.held
+      → (m : State) (requests : List Request) → IsValidState m → Represents now.content m → HoldsLog (Accepts (FollowedStep now.root) m) log requests journal.held
       → ServesPortLogged Keeps most served requests now s' m log' journal journal' port port' watchers watchers'
   port_logged all m requests kept stands holds =
       let on_root : IsRooted now = subst IsRooted is rooted in
-      let here : StandsAt now.root s m = record { same_root = ap (λ (x : ServerState). x.root) is; kept = kept; stands = subst (λ (x : ServerState). Stands x.content m) (sym is) stands } in
+      let here : StandsAt now.root s m = record { same_root = ap (λ (x : ServerState). x.root) is; kept = kept; stands = subst (λ (x : ServerState). Represents x.content m) (sym is) stands } in
       let v = all requests (holds_so (Accepts (FollowedStep now.root) m) (Accepts AnswersRequest s) log requests journal.held (back now.root on_root s m here) holds) in
       let o = port_by (InBytes (LoggedStep AnswersRequest)) (InBytes (LoggedStep (FollowedStep now.root))) (Beside now.root on_root m requests) (beside_step now.root on_root m requests) Keeps most served
       (record { machine = s; requests = requests; failures = 0 }) (record { machine = s'; requests = v.accepted; failures = v.failures }) (record { machine = m; requests = requests; failures = 0 }) port port' watchers watchers'

@@ -1,48 +1,48 @@
--- Whether the connection ends behind a request has no part in the change that it makes.
+-- Whether the connection ends after a request has no influence on the change that it makes.
 use Rattle.std.proofs.Common.{◌≡◌, ℕ, Bool, true, false, not, List, is_some, Option, None, Some, Result, Ok, Err, refl, sym, ap, subst, ◌∙◌}
 use Rattle.std.specs.Bool.{MatchBool}
 use Rattle.xml_tree.specs.Tree.{Tree}
 use Rattle.tree_text.specs.declared.fault.TextFault.{TextFault}
 use Rattle.tree_text.specs.declared.fault.ValueFault.{ValueFault}
-use Rattle.usage_docs.specs.declared.judging.Fault.{Fault}
+use Rattle.usage_docs.specs.declared.validation.Fault.{Fault}
 use Rattle.doc_names.specs.Usages.{usage_of}
 use Rattle.doc_names.specs.declared.usages.Usage.{Usage}
 use Rattle.doc_names.specs.declared.doc_id.DocId.{DocId}
 use Rattle.node_select.specs.declared.selector.Selector.{Selector}
 use Rattle.edit_ops.specs.declared.change.Change.{Change}
 use Rattle.edit_ops.specs.declared.change.Change.TheVariants.{RemoveDocument}
-use Rattle.notes.specs.Notes.{Note}
-use Rattle.plan_words.specs.declared.refusal.EditRefusal.{EditRefusal}
-use Rattle.plan_words.specs.declared.spot.NoParent.{NoParent}
-use Rattle.plan_words.specs.declared.spot.Spot.{Spot}
-use Rattle.plan_words.specs.declared.spot.Spot.TheVariants.{Over, Under, Beside, Value}
-use Rattle.reply_text.specs.Heads.{Sent, plain}
+use Rattle.edit_ops.specs.Notes.{Note}
+use Rattle.edit_rules.specs.declared.refusal.EditRefusal.{EditRefusal}
+use Rattle.edit_rules.specs.declared.spot.NoParent.{NoParent}
+use Rattle.edit_rules.specs.declared.spot.Spot.{Spot}
+use Rattle.edit_rules.specs.declared.spot.Spot.TheVariants.{Over, Under, Beside, Value}
+use Rattle.reply_text.specs.ReplyHeads.{SentReply, plain}
 use Rattle.http_wire.specs.declared.request.Request.{Request}
-use Rattle.request_terms.specs.Conditions.{HasOutcome, stopped_by}
-use Rattle.request_terms.specs.declared.conditions.Outcome.{Outcome}
-use Rattle.request_terms.specs.declared.conditions.Outcome.TheVariants.{Unreadable, Go, NotModified, Failed}
-use Rattle.request_terms.specs.MediaTypes.{document_media, has_type}
-use Rattle.request_terms.specs.Methods.{is_reading, method_of}
-use Rattle.request_terms.specs.Rights.{is_allowed}
-use Rattle.request_terms.specs.declared.method.Method.{Method}
-use Rattle.request_terms.specs.declared.method.Method.TheVariants.{Get, Head, Put, Delete, Other}
-use Rattle.node_texts.specs.Nodes.{node_media}
+use Rattle.request_checks.specs.Conditions.{HasOutcome, stopped_by}
+use Rattle.request_checks.specs.declared.conditions.Outcome.{Outcome}
+use Rattle.request_checks.specs.declared.conditions.Outcome.TheVariants.{Unreadable, Go, NotModified, Failed}
+use Rattle.request_checks.specs.MediaTypes.{document_media, has_type}
+use Rattle.request_checks.specs.Methods.{is_reading, method_of}
+use Rattle.request_checks.specs.Rights.{is_allowed}
+use Rattle.request_checks.specs.declared.method.Method.{Method}
+use Rattle.request_checks.specs.declared.method.Method.TheVariants.{Get, Head, Put, Delete, Other}
+use Rattle.reply_bodies.specs.Nodes.{node_media}
 use Rattle.xcap_uri.specs.declared.fault.UriFault.{UriFault}
 use Rattle.xcap_uri.specs.declared.target.Target.{Target}
 use Rattle.xcap_uri.specs.declared.target.Target.TheVariants.{Document, Node, Deep, Feed, ElementFeed, Flat}
-use Rattle.store_core.specs.Changing.{changing}
-use Rattle.store_core.specs.Held.{Stock}
+use Rattle.store_core.specs.DocumentChanges.{changing}
+use Rattle.store_core.specs.Contents.{StoreContents}
 use Rattle.store_core.specs.declared.refusal.StoreRefusal.{StoreRefusal}
-use Rattle.machine_words.specs.Answers.{Answer, BehindConditions, Made, unchanged}
-use Rattle.machine_words.specs.Requests.{ByMethod, ByTarget, ByUser, Deletes, IsAnswer, Puts, auid_of, home_of, takes}
-use Rattle.machine_words.specs.Resources.{version_of}
-use Rattle.machine_words.specs.Fragments.{CutsNode, PutsAt, PutsElement, PutsFragment, PutsFrom, cut_reply, is_there, plan_answer}
-use Rattle.machine_words.specs.Writing.{IfStored, PutsBody, PutsDocument, PutsSpelled, change_answer, deleted_reply, put_answer, put_change, put_reply}
-use Rattle.machine_words.specs.inner.Cases.{DeletesDocumentIn, DeletesNodeIn, PutsElementText, PutsNodeIn, PutsValueText, IsAnswered, PutsText, by_judgement, version_tag, Behind}
-use Rattle.machine_words.proofs.Accepted.{stopped_never}
-use Rattle.machine_words.proofs.Changed.{as_the_store, told_by_store}
+use Rattle.xcap_machine.specs.Answers.{Answer, BehindConditions, Made, unchanged}
+use Rattle.xcap_machine.specs.Requests.{ByMethod, ByTarget, ByUser, Deletes, IsAnswer, Puts, auid_of, home_of, takes}
+use Rattle.xcap_machine.specs.Resources.{version_of}
+use Rattle.xcap_machine.specs.NodeWrites.{CutsNode, PutsAt, PutsElement, PutsFragment, PutsFrom, cut_reply, is_there, plan_answer}
+use Rattle.xcap_machine.specs.DocumentWrites.{IfStored, PutsBody, PutsDocument, PutsSpelled, change_answer, deleted_reply, put_answer, put_change, put_reply}
+use Rattle.xcap_machine.specs.inner.Cases.{DeletesDocumentIn, DeletesNodeIn, PutsElementText, PutsNodeIn, PutsValueText, IsAnswered, PutsText, by_judgement, version_tag, Behind}
+use Rattle.xcap_machine.proofs.Accepted.{stopped_never}
+use Rattle.xcap_machine.proofs.Changed.{as_the_store, told_by_store}
 
--- The change, the request, and whether its connection ends in the other's place.
+-- The change, the request, and the other request's `closes`.
 module _ (made : Made) (request : Request) (closes : Bool) where
   abbrev other : Request
   other = record request { closes = closes }
@@ -52,10 +52,10 @@ module _ (made : Made) (request : Request) (closes : Bool) where
   Makes Is = (b : Answer) × Is b × (b.made ≡ Some made)
 
   module _ (a : Answer) (makes : a.made ≡ Some made) where
-    never : {X : Type 0} (reply : Sent) → a ≡ unchanged reply → X
+    never : {X : Type 0} (reply : SentReply) → a ≡ unchanged reply → X
     never reply is = absurd (stopped_never a reply made makes is)
 
-    when : (test : Bool) (P : Type 0) (Q : Answer → Type 0) (reply reply' : Sent) → (P → Makes Q) → MatchBool test P (a ≡ unchanged reply) → Makes (λ b. MatchBool test (Q b) (b ≡ unchanged reply'))
+    when : (test : Bool) (P : Type 0) (Q : Answer → Type 0) (reply reply' : SentReply) → (P → Makes Q) → MatchBool test P (a ≡ unchanged reply) → Makes (λ b. MatchBool test (Q b) (b ≡ unchanged reply'))
     when true P Q reply reply' so is = so is
     when false P Q reply reply' so is = never reply is
 
@@ -67,10 +67,10 @@ module _ (made : Made) (request : Request) (closes : Bool) where
       by_outcome Failed has is = never _ is
 
       behind : BehindConditions request tag exists false a P → Makes (λ b. BehindConditions other tag exists false b (Q b))
-      behind is = by_outcome is.1.0 is.1.1 (subst (λ (stop : Option Sent). Behind stop a P) is.1.2 is.2)
+      behind is = by_outcome is.1.0 is.1.1 (subst (λ (stop : Option SentReply). Behind stop a P) is.1.2 is.2)
 
-    module _ (c : Stock) (id : DocId) (reply reply' : Note → Sent) where
-      by_store : (r : Result (Note × Stock) StoreRefusal) → a ≡ told_by_store id request.closes reply r → Makes (λ b. b ≡ told_by_store id closes reply' r)
+    module _ (c : StoreContents) (id : DocId) (reply reply' : Note → SentReply) where
+      by_store : (r : Result (Note × StoreContents) StoreRefusal) → a ≡ told_by_store id request.closes reply r → Makes (λ b. b ≡ told_by_store id closes reply' r)
       by_store (Err refusal) is = never _ is
       by_store (Ok (note, next)) is = (told_by_store id closes reply' (Ok (note, next)), refl, sym (ap (λ (x : Answer). x.made) is) ∙ makes)
 
@@ -85,7 +85,7 @@ module _ (made : Made) (request : Request) (closes : Bool) where
 
     -- ---- PUT
 
-    module _ (c : Stock) (id : DocId) where
+    module _ (c : StoreContents) (id : DocId) where
       judged : (judgement : Option Fault) (t : Tree) → a ≡ by_judgement judgement request.closes (put_answer c id request.closes t) → Makes (λ b. b ≡ by_judgement judgement closes (put_answer c id closes t))
       judged (Some fault) t is = never _ is
       judged None t is =
@@ -160,7 +160,7 @@ module _ (made : Made) (request : Request) (closes : Bool) where
 
     -- ---- all in order
 
-    module _ (root : List ℕ) (c : Stock) where
+    module _ (root : List ℕ) (c : StoreContents) where
       target_put : (target : Target) (usage : Usage) → Puts root c target usage request a → Makes (λ b. Puts root c target usage other b)
       target_put (Document id) usage is = document_put c id usage is
       target_put (Node id selector) usage is = node_put c id root usage selector (version_of c id) is

@@ -1,41 +1,41 @@
--- What doing an accepted request again does to a server.
+-- What repeating an accepted request does to a server.
 use Rattle.std.proofs.Common.{◌≡◌, ℕ, List, [], ◌∷◌, ◌++◌, Option, None, Some, sym, ap, subst, ◌∙◌}
 use Rattle.http_wire.specs.declared.request.Request.{Request}
-use Rattle.notes.specs.declared.edit.Edit.{Edit}
-use Rattle.reply_text.specs.Heads.{Sent}
-use Rattle.edit_journal.specs.Replaying.{MeansTheSame, Redoes}
-use Rattle.edit_journal.specs.declared.replayer.Redone.TheVariants.{Done, Refused, NoMemory}
-use Rattle.store_core.specs.Held.{Stands, Stock, stock_of}
-use Rattle.store_core.specs.Keeping.{Kept}
+use Rattle.edit_ops.specs.declared.edit.Edit.{Edit}
+use Rattle.reply_text.specs.ReplyHeads.{SentReply}
+use Rattle.edit_journal.specs.Replayers.{MeansTheSame, Redoes}
+use Rattle.edit_journal.specs.declared.replayer.ReplayStep.TheVariants.{Done, Refused, NoMemory}
+use Rattle.store_core.specs.Contents.{Represents, StoreContents, stock_of}
+use Rattle.store_core.specs.ValidStates.{IsValidState}
 use Rattle.store_core.specs.State.{State, first_state}
-use Rattle.machine_words.specs.Answers.{Answer, Made}
-use Rattle.machine_words.specs.Machine.{KeptStep, answer_as, told_as}
-use Rattle.machine_words.specs.Requests.{IsAnswer}
-use Rattle.machine_words.proofs.OneAnswer.{one_answer}
-use Rattle.xcap_server.specs.Redoing.{Redoing, Refuses, StandsFor}
+use Rattle.xcap_machine.specs.Answers.{Answer, Made}
+use Rattle.xcap_machine.specs.Machine.{ValidStep, answer_as, told_as}
+use Rattle.xcap_machine.specs.Requests.{IsAnswer}
+use Rattle.xcap_machine.proofs.OneAnswer.{one_answer}
+use Rattle.xcap_server.specs.ReplayedRequests.{Redoing, Refuses, ResultsFrom}
 use Rattle.xcap_server.specs.Servers.{ServerState}
 use Rattle.xcap_server.proofs.Logged.{redoing_more, same_server}
 
--- a server stands for what an equal one stands for
-pub means_the_same : (old new : ServerState) → new ≡ old → MeansTheSame StandsFor Refuses old new
+-- a server stands for the requests that an equal server stands for
+pub means_the_same : (old new : ServerState) → new ≡ old → MeansTheSame ResultsFrom Refuses old new
 means_the_same old new same =
-    subst (λ (x : ServerState). MeansTheSame StandsFor Refuses old x) (sym same)
+    subst (λ (x : ServerState). MeansTheSame ResultsFrom Refuses old x) (sym same)
     (record { stands_too = λ requests. (λ h. h, λ h. h); refuses_too = λ request. (λ h. h, λ h. h) })
 
--- for want of memory
-pub redo_nothing : (old new : ServerState) (request : Request) → new.root ≡ old.root → new.content ≡ old.content → Redoes StandsFor Refuses old request NoMemory new
+-- out of memory
+pub redo_nothing : (old new : ServerState) (request : Request) → new.root ≡ old.root → new.content ≡ old.content → Redoes ResultsFrom Refuses old request NoMemory new
 redo_nothing old new request root content = means_the_same old new (same_server old new root content)
 
-module _ (old new : ServerState) (request : Request) (reply : Sent) (root : new.root ≡ old.root) (m : State) (stands : Stands old.content m) (kept : Kept m) where
-  -- what the server answers, from each state that it stands for
+module _ (old new : ServerState) (request : Request) (reply : SentReply) (root : new.root ≡ old.root) (m : State) (stands : Represents old.content m) (kept : IsValidState m) where
+  -- the server's answer, from each state that its contents represent
   abbrev Steps : Option Edit → Type 0
-  Steps edit = (n : State) → Kept n → Stands old.content n → (next : State) × KeptStep old.root n request reply next edit × Stands new.content next
+  Steps edit = (n : State) → IsValidState n → Represents old.content n → (next : State) × ValidStep old.root n request reply next edit × Represents new.content next
 
   answered_so : (edit : Option Edit) → Steps edit → IsAnswer old.root old.content request (answer_as reply edit)
-  answered_so edit steps = subst (λ (c : Stock). IsAnswer old.root c request (answer_as reply edit)) (sym stands) (steps m kept stands).1.1.answers
+  answered_so edit steps = subst (λ (c : StoreContents). IsAnswer old.root c request (answer_as reply edit)) (sym stands) (steps m kept stands).1.1.answers
 
   -- a request that makes a change
-  pub redo_done : (edit : Edit) → Steps (Some edit) → Redoes StandsFor Refuses old request Done new
+  pub redo_done : (edit : Edit) → Steps (Some edit) → Redoes ResultsFrom Refuses old request Done new
   redo_done edit steps = (
     λ refuses. (
         let same = one_answer old.root old.content request _ _ refuses.1 (answered_so (Some edit) steps) in
@@ -53,8 +53,8 @@ module _ (old new : ServerState) (request : Request) (reply : Sent) (root : new.
         ),
   )
 
-  -- a request that makes none
-  pub redo_refused : Steps None → Redoes StandsFor Refuses old request Refused new
+  -- a request that makes no change
+  pub redo_refused : Steps None → Redoes ResultsFrom Refuses old request Refused new
   redo_refused steps =
       let o = steps m kept stands in
       let content : new.content ≡ old.content = o.2 ∙ ap stock_of o.1.1.goes_on ∙ sym stands in

@@ -1,4 +1,5 @@
+pub mod LoggedServers
+pub mod ReplayedRequests
+pub mod RestartedServers
 pub mod Servers
-pub mod Redoing
-pub mod Logged
 pub mod inner

@@ -1,8 +1,8 @@
 -- A server as its callers see it. RFC 4825, section 8.
 use Rattle.std.specs.Prelude.{ℕ, List}
-use Rattle.store_core.specs.Held.{Stock}
+use Rattle.store_core.specs.Contents.{StoreContents}
 
--- its root, and what it holds
+-- its root, and the contents of its store
 pub record ServerState : Type 0 where
   pub root : List ℕ
-  pub content : Stock
+  pub content : StoreContents

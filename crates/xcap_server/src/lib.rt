@@ -1,20 +1,27 @@
-//! The server: requests are answered from the documents held, changes are told to watchers, and connections are served.
-//! Upward: what is written on each connection, the documents afterwards and what watchers were told are those of the machine
-//! run on the requests in the connections' bytes; a connection or a port fails only with its count.
-//! The standard is RFC 4825, sections 6 to 8.
+//! The server: it answers requests from the stored documents, notifies watchers of changes, serves
+//! connections, and restarts from a journal.
+//! Promises upward that replies, documents and notified changes are those of the abstract machine
+//! run on the requests in the connections' bytes (`serve_connection`, `serve_port`, by
+//! `FollowedStep`), and that a server which restarts from any first bytes of another's journal has
+//! what that one had after the requests whose records are whole in them
+//! (`servers_come_back_from_first_bytes`).
+//! The standard is RFC 4825, sections 6 to 8; the form of a journal is the project's own.
+//! A target outside the root is answered 404 without allocation.
 #![tactic(auto)]
 
 mod laws;
-mod logging;
-mod replaying;
+mod logged_service;
+mod replayer;
 mod requests;
+mod restart_laws;
 mod server;
 mod server_logged;
 mod service;
 mod targets;
 
-pub use http_serve::{Answered, Ended, Served, Stop};
+pub use http_serve::{CloseReason, MachineReply, ServeSummary, StopReason};
 pub use laws::all_bytes_count;
+pub use restart_laws::{journals_of_servers_come_to_a_state, servers_come_back_from_first_bytes};
 pub use server::{Server, answer, serve_connection, serve_port};
 pub use server_logged::{answer_logged, serve_port_logged};
 pub use std::alloc::AllocError as NoMemory;

@@ -1,14 +1,14 @@
-// What the dispatch asks of a target (RFC 4825, section 6).
+// Properties of a target that the dispatch needs (RFC 4825, section 6).
 ghost use Rattle.std.specs.Prelude.{◌≡◌};
-ghost use Rattle.machine_words.specs.Requests.{auid_of, home_of, is_bindings, is_read_only, takes};
+ghost use Rattle.xcap_machine.specs.Requests.{auid_of, home_of, is_bindings, is_read_only, takes};
 
 use doc_names::{Auid, Home};
 use node_select::End;
-use request_terms::Method;
+use request_checks::Method;
 use xcap_uri::Target;
 
 fn is_bindings(end: &End) -> bool
-    ensures are_bindings { result ≡ is_bindings end.now }
+    ensures exact { result ≡ is_bindings end.now }
 {
     match end {
         End::Element | End::Attribute { .. } => false,
@@ -16,9 +16,9 @@ fn is_bindings(end: &End) -> bool
     }
 }
 
-// Whether it can be read and nothing else.
+// Whether the target can only be read.
 pub(crate) fn is_read_only(target: &Target) -> bool
-    ensures can_only_be_read { result ≡ is_read_only target.now }
+    ensures exact { result ≡ is_read_only target.now }
 {
     match target {
         Target::Document(_) | Target::Deep(_, _) => false,
@@ -27,9 +27,9 @@ pub(crate) fn is_read_only(target: &Target) -> bool
     }
 }
 
-// Whether it takes the method.
+// Whether the target allows the method.
 pub(crate) fn takes(target: &Target, method: Method) -> bool
-    ensures takes_the_method { result ≡ takes target.now method }
+    ensures exact { result ≡ takes target.now method }
 {
     match method {
         Method::Get | Method::Head => true,
@@ -39,7 +39,7 @@ pub(crate) fn takes(target: &Target, method: Method) -> bool
 }
 
 pub(crate) fn auid_of(target: &Target) -> Auid
-    ensures usage_it_lies_in { result ≡ auid_of target.now }
+    ensures exact { result ≡ auid_of target.now }
 {
     match target {
         Target::Document(doc) | Target::Node(doc, _) => doc.auid,
@@ -51,7 +51,7 @@ pub(crate) fn auid_of(target: &Target) -> Auid
 }
 
 pub(crate) fn home_of(target: &Target) -> &Home
-    ensures home_it_lies_in { result.now ≡ home_of target.now }
+    ensures exact { result.now ≡ home_of target.now }
 {
     match target {
         Target::Document(doc) | Target::Node(doc, _) => &doc.home,

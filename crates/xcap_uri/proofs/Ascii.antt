@@ -8,7 +8,7 @@ use Rattle.std.specs.List.{list_all, onto_first as with_first}
 use Rattle.std.specs.Str.{IsAscii, IsUtf8, chars}
 use lib.Utf8.{encodes}
 use Rattle.doc_names.proofs.Words.{word_letters}
-use Rattle.xcap_uri.specs.Cuts.{pieces}
+use Rattle.xcap_uri.specs.Delimiters.{pieces}
 use Rattle.xcap_uri.specs.Roots.{slash, is_authority_char, is_segment_char, is_some_of, path_in, path_of, is_root_text as is_root}
 use Rattle.xcap_uri.proofs.RootAnswers.{Parts, root_parts}
 
@@ -48,7 +48,7 @@ pieces_letters ps h =
     ap (list_all (list_all is_ascii)) h.parts_are
     ∙ and_from _ _ (scheme_letters h.scheme h.scheme_is) (and_from _ _ (some_letters is_authority_char authority_char h.authority h.authority_is) (segments_letters h.segments h.segments_are))
 
--- ---- pieces, and what they are cut from
+-- ---- pieces, and the text that they are cut from
 
 with_first_letters : (b : ℕ) (ps : List (List ℕ)) → list_all (list_all is_ascii) (with_first b ps) ≡ true → (is_ascii b ≡ true) × (list_all (list_all is_ascii) ps ≡ true)
 with_first_letters b [] h = let both = and_parts (list_all is_ascii (b ∷ [])) true h in ((and_parts (is_ascii b) true both.0).0, refl)

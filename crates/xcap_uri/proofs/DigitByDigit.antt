@@ -3,8 +3,8 @@ use Rattle.std.proofs.Common.{◌≡◌, ℕ, ◌+◌, ◌-◌, ◌*◌, ◌≤�
 use Rattle.std.proofs.lemmas.Bool.{leb-true, leb-false, le-leb, lt-leb}
 use Rattle.std.specs.List.{list_all}
 use Rattle.std.specs.Char.{is_ascii_digit as is_digit}
-use Rattle.grammar_rules.specs.Digits.{decimal_digits}
-use Rattle.grammar_rules.specs.Rules.{number_from}
+use Rattle.xml_grammar.specs.Digits.{decimal_digits}
+use Rattle.xml_grammar.specs.Rules.{number_from}
 use Rattle.xcap_uri.specs.Numerals.{begins_with_digit, numeral_of}
 use Rattle.xcap_uri.specs.inner.Numerals.{number_behind}
 
@@ -15,7 +15,7 @@ top = 18446744073709551615
 abbrev whole : ℕ → List ℕ → Option ℕ
 whole n cs = cond (list_all is_digit cs && nat_le (number_from decimal_digits n cs) top) (Some (number_from decimal_digits n cs)) None
 
--- a number only grows with its digits
+-- a number never falls as digits are added
 grows : (n : ℕ) (cs : List ℕ) → n ≤ number_from decimal_digits n cs
 grows n [] = omega arith
 grows n (c ∷ cs) = let k = grows (n * 10 + (c - 48)) cs in omega arith

@@ -1,4 +1,4 @@
--- The printed id of a document without a name is that of its home and a slash.
+-- The printed id of a document with an empty name is its home's and a slash.
 use Rattle.std.proofs.Common.{◌≡◌, ℕ, List, [], ◌∷◌, ◌++◌, codes, refl, sym, ap, ◌∙◌, append_assoc, append-nil}
 use Rattle.doc_names.specs.Ids.{id_text}
 use Rattle.doc_names.specs.Usages.{auid_text}
@@ -8,7 +8,7 @@ use Rattle.doc_names.specs.declared.doc_id.Home.TheVariants.{Global, User}
 use Rattle.doc_names.specs.Escapes.{escaped_part as part_text}
 use Rattle.xcap_uri.specs.Ancestors.{home_uri}
 
--- the usage and the home, without the slash behind them
+-- the AUID and the home, without the slash after them
 pub home_front : Auid → Home → List ℕ
 home_front auid Global = auid_text auid ++ codes "/global"
 home_front auid (User xui) = auid_text auid ++ (codes "/users/" ++ part_text xui)

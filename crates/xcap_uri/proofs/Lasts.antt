@@ -5,7 +5,7 @@ use Rattle.std.proofs.Math.Seq.{take-append_seam, drop-append_seam}
 use Rattle.std.proofs.lemmas.List.{length-append, append-nil}
 use Rattle.std.proofs.lemmas.Str.{IsCharBoundary-from_take, IsUtf8-drop, chars-append, chars-nil, chars_past_char}
 
--- lists that end in an item each are equal in front of it
+-- lists that end in one item each and are equal begin equally
 same_front : (xs ys : List ℕ) (x y : ℕ) → xs ++ x ∷ [] ≡ ys ++ y ∷ [] → xs ≡ ys
 same_front [] [] x y e = refl
 same_front [] (b ∷ ys) x y e = absurd (omega (arith, ap length e, length-append ys (y ∷ [])))
@@ -16,7 +16,7 @@ same_front (a ∷ xs) (b ∷ ys) x y e =
     let fronts = same_front xs ys x y tails in
     cc
 
--- what stands behind a text in a text is a text
+-- what comes after a text in a text is a text
 behind : (rest tail : List ℕ) → IsUtf8 (rest ++ tail) → IsUtf8 rest → IsUtf8 tail
 behind rest tail whole front =
     let within : length rest ≤ length (rest ++ tail) = omega (arith, length-append rest tail) in
@@ -35,7 +35,7 @@ no_last : (text front : List ℕ) (c : ℕ) → length text ≡ 0 → chars text
 no_last [] front c none e = absurd (omega (arith, ap length (sym chars-nil ∙ e), length-append front (c ∷ [])))
 no_last (b ∷ bs) front c none e = absurd (omega arith)
 
--- what is left of a text where its last character, if it has one, was taken
+-- what is left of a text after its last character, if it has one, was taken
 pub left_over : {X : Type 0} (r : Option ℕ) (text rest front : List ℕ) (c : ℕ) → (X → rest ≡ text) → IsUtf8 text → IsUtf8 rest
     → MatchOption r ((length text ≡ 0) × X) (λ d. text ≡ rest ++ encode_utf8 d) → chars text ≡ front ++ c ∷ [] → chars rest ≡ front
 left_over None text rest front c same whole utf8 taken e = ap chars (same taken.1) ∙ no_last text front c taken.0 e

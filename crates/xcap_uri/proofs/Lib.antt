@@ -1,3 +1,4 @@
+pub mod Addressed
 mod Ascii
 mod Bindings
 mod DigitByDigit
@@ -6,15 +7,18 @@ mod HomeIds
 mod Lasts
 mod Letters
 pub mod Nameable
+pub mod Octets
+mod Ordering
+pub mod Parts
 mod Pieces
+pub mod Printed
+mod QueryAnswers
+mod QueryItems
+mod QueryUris
 mod ReadsBack
 mod RootAnswers
-mod Separated
-mod UriChars
-mod Ordering
-mod QueryUris
-mod QueryItems
-mod QueryAnswers
 mod SegmentAnswers
+mod Separated
 mod ShapeAnswers
 pub mod TargetAnswers
+mod UriChars

@@ -1,4 +1,4 @@
--- Every id in a target can be named by an address.
+-- An address can name every id in a target.
 use Rattle.std.proofs.Common.{◌≡◌, ◌≢◌, ℕ, Bool, true, false, List, [], ◌∷◌, Option, None, Some, ap, IfSome, option_map, Result, Ok, Err, IfOk, refl, sym, ◌∙◌, true≢false, subst, ◌⊎◌, ⊎_elim, if◌then◌else◌}
 use Rattle.std.proofs.lemmas.Bool.{or_parts}
 use Rattle.std.specs.Cmp.Lexicographic.{bytes_decides}
@@ -15,10 +15,10 @@ use Rattle.xcap_uri.specs.declared.shape.Shape.{Shape}
 use Rattle.xcap_uri.specs.declared.shape.Shape.TheVariants.{Document, Node, Deep, Feed, ElementFeed, Flat}
 use Rattle.xcap_uri.specs.declared.target.Mode.{Mode}
 use Rattle.xcap_uri.specs.declared.target.Target.{Target}
-use Rattle.xcap_uri.specs.Cuts.{front_before, rest_behind, pieces}
+use Rattle.xcap_uri.specs.Delimiters.{front_before, rest_after, pieces}
 use Rattle.xcap_uri.specs.readers.Escapes.{text_read, optional_text_read}
 use Rattle.xcap_uri.specs.readers.Steps.{UriError, ◌>>=◌}
-use Rattle.doc_names.specs.Ids.{IsNameable, IsReadable, IsReadableHome}
+use Rattle.doc_names.specs.Ids.{IsNameable, IsAddressable, IsReadableHome}
 use Rattle.xcap_uri.specs.readers.Queries.{optional_bindings_read}
 use Rattle.xcap_uri.specs.Roots.{slash}
 use Rattle.xcap_uri.specs.Shapes.{doc_of, tag_spelled as tag_of}
@@ -28,7 +28,7 @@ use Rattle.xcap_uri.specs.readers.Targets.{segments_read, path_read, target_of, 
 use Rattle.xcap_uri.specs.Words.{users, global, feed, flat}
 use Rattle.doc_names.specs.Ids.{separator}
 
--- a step after another, and a choice
+-- a step after another, and a choice between two
 bind_ok : {A B : Type 0} (r : Result A UriError) (f : A → Result B UriError) (P : A → Type 0) (Q : B → Type 0) → IfOk r P → ((x : A) → P x → IfOk (f x) Q) → IfOk (r >>= f) Q
 bind_ok (Ok x) f P Q p g = g x p
 bind_ok (Err e) f P Q p g = tt
@@ -79,14 +79,14 @@ nameable (t ∷ ts) free e = let both = or_parts (Shapes.is_empty t) (list_any S
 -- ---- shapes
 
 ReadableShape : Shape → Type 0
-ReadableShape (Document doc) = IsReadable doc
-ReadableShape (Node doc text) = IsReadable doc
+ReadableShape (Document doc) = IsAddressable doc
+ReadableShape (Node doc text) = IsAddressable doc
 ReadableShape (Deep auid home) = IsReadableHome home
-ReadableShape (Feed mode tag doc) = IsReadable doc
-ReadableShape (ElementFeed tag doc text) = IsReadable doc
-ReadableShape (Flat doc service) = IsReadable doc
+ReadableShape (Feed mode tag doc) = IsAddressable doc
+ReadableShape (ElementFeed tag doc text) = IsAddressable doc
+ReadableShape (Flat doc service) = IsAddressable doc
 
-document_ok : (doc : DocId) (selector : Option (List ℕ)) → IsReadable doc → IfOk (Shapes.document doc selector) ReadableShape
+document_ok : (doc : DocId) (selector : Option (List ℕ)) → IsAddressable doc → IfOk (Shapes.document doc selector) ReadableShape
 unfolding ReadableShape
 document_ok doc None good = good
 document_ok doc (Some []) good = tt
@@ -110,27 +110,27 @@ usage_ok auid (tree ∷ rest) selector names =
     if_ok (bytes_eq tree global) (Shapes.in_home auid Global rest selector) (if bytes_eq tree users then Shapes.of_user auid rest selector else Err (Fault BadShape)) ReadableShape (home_ok auid Global rest selector (tt {0}) names.1)
     (if_ok (bytes_eq tree users) (Shapes.of_user auid rest selector) (Err (Fault BadShape)) ReadableShape (user_ok auid rest selector names.1) (tt {0}))
 
-mapped_ok : (auid : Option Auid) (f : Auid → DocId) → ((a : Auid) → IsReadable (f a)) → IfSome (option_map f auid) IsReadable
+mapped_ok : (auid : Option Auid) (f : Auid → DocId) → ((a : Auid) → IsAddressable (f a)) → IfSome (option_map f auid) IsAddressable
 mapped_ok None f good = tt
 mapped_ok (Some a) f good = good a
 
-chosen_ok : (b : Bool) (x : Option DocId) → IfSome x IsReadable → IfSome (if b then x else None) IsReadable
+chosen_ok : (b : Bool) (x : Option DocId) → IfSome x IsAddressable → IfSome (if b then x else None) IsAddressable
 chosen_ok true x good = good
 chosen_ok false x good = tt
 
-element_feed_ok : (tag : ℕ) (doc : DocId) (selector : Option (List ℕ)) → IsReadable doc → IfOk (Shapes.element_feed tag doc selector) ReadableShape
+element_feed_ok : (tag : ℕ) (doc : DocId) (selector : Option (List ℕ)) → IsAddressable doc → IfOk (Shapes.element_feed tag doc selector) ReadableShape
 unfolding ReadableShape
 element_feed_ok tag doc None good = tt
 element_feed_ok tag doc (Some []) good = tt
 element_feed_ok tag doc (Some (c ∷ cs)) good = good
 
-document_feed_ok : (mode : Option Mode) (tag : ℕ) (doc : DocId) (selector : Option (List ℕ)) → IsReadable doc → IfOk (Shapes.document_feed mode tag doc selector) ReadableShape
+document_feed_ok : (mode : Option Mode) (tag : ℕ) (doc : DocId) (selector : Option (List ℕ)) → IsAddressable doc → IfOk (Shapes.document_feed mode tag doc selector) ReadableShape
 unfolding ReadableShape
 document_feed_ok None tag doc selector good = tt
 document_feed_ok (Some mode) tag doc None good = good
 document_feed_ok (Some mode) tag doc (Some text) good = tt
 
-either_ok : (mode : List ℕ) (tag : Option ℕ) (doc : Option DocId) (selector : Option (List ℕ)) → IfSome doc IsReadable → IfOk (Shapes.either_feed mode tag doc selector) ReadableShape
+either_ok : (mode : List ℕ) (tag : Option ℕ) (doc : Option DocId) (selector : Option (List ℕ)) → IfSome doc IsAddressable → IfOk (Shapes.either_feed mode tag doc selector) ReadableShape
 either_ok mode None doc selector good = tt
 either_ok mode (Some tag) None selector good = tt
 either_ok mode (Some tag) (Some doc) selector good = if_ok _ _ _ ReadableShape (element_feed_ok tag doc selector good) (document_feed_ok (Shapes.mode_of mode) tag doc selector good)
@@ -174,17 +174,17 @@ target_ok (Feed mode tag doc) bindings raw good = good
 target_ok (ElementFeed tag doc text) bindings raw good = bind_ok (part_read bindings doc.auid text >>= about_element) _ (λ _. Unit {0}) IsReadableTarget (always _) (λ selector _. good)
 target_ok (Flat doc service) bindings raw good = good
 
--- what stands under the root
+-- what comes after the root
 rest_ok : (rest : List ℕ) → IfOk (rest_read rest) IsReadableTarget
 rest_ok rest =
     bind_ok (path_read (front_before question rest)) _ (λ x. AreFree x.0) IsReadableTarget (free (pieces slash (front_before question rest))) (λ path names.
     bind_ok (optional_text_read path.1) _ (λ _. Unit {0}) IsReadableTarget (always _) (λ selector _.
-    bind_ok (optional_text_read (rest_behind question rest)) _ (λ _. Unit {0}) IsReadableTarget (always _) (λ query _.
+    bind_ok (optional_text_read (rest_after question rest)) _ (λ _. Unit {0}) IsReadableTarget (always _) (λ query _.
     bind_ok (Shapes.shape_of path.0 selector) _ ReadableShape IsReadableTarget (unless_empty path.0 selector (list_any Shapes.is_empty path.0) refl names) (λ shape good.
     bind_ok (optional_bindings_read query) _ (λ _. Unit {0}) IsReadableTarget (always _) (λ bindings _.
-    target_ok shape bindings (raw_text path.1 (rest_behind question rest)) good)))))
+    target_ok shape bindings (raw_text path.1 (rest_after question rest)) good)))))
 
--- and where nothing does
+-- and where the target is outside the root
 under_ok : (rest : Option (List ℕ)) → IfOk (under_read rest) IsReadableTarget
 under_ok None = tt
 under_ok (Some rest) = rest_ok rest
@@ -192,6 +192,6 @@ under_ok (Some rest) = rest_ok rest
 pub target_readable : (root target : List ℕ) → IfOk (target_read root target) IsReadableTarget
 target_readable root target = under_ok (under_root root target)
 
--- what the code answers
+-- what the code returns
 pub answer_nameable : (stated r : Result Target UriError) → IfOk stated IsReadableTarget → (r ≡ stated) ⊎ (r ≡ Err NoMemory) → IfOk r IsReadableTarget
 answer_nameable stated r good which = ⊎_elim (λ e. subst (λ x. IfOk x IsReadableTarget) (sym e) good) (λ e. subst (λ x. IfOk x IsReadableTarget) (sym e) tt) which

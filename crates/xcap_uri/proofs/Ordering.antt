@@ -6,7 +6,7 @@ use Rattle.xcap_uri.specs.readers.Steps.{UriError, ◌>>=◌}
 use Rattle.xcap_uri.specs.Order.{Where, Given}
 use Rattle.xcap_uri.specs.declared.fault.UriFault.{UriFault}
 
--- what is found is an answer of which this holds, and no want of memory
+-- what is found is a result of which this holds, and not out of memory
 unfoldable pub Meets : {A : Type 0} → (Result A UriFault → Type 0) → Result A UriError → Type 0
 Meets P (Ok value) = P (Ok value)
 Meets P (Err (Fault fault)) = P (Err fault)
@@ -30,13 +30,13 @@ meets_so P Q h (Ok value) m = h (Ok value) m
 meets_so P Q h (Err (Fault fault)) m = h (Err fault) m
 meets_so P Q h (Err NoMemory) m = m
 
--- a step finds the value of which this holds, and where there is none, tells this fault
+-- a step finds the value of which this holds, and where there is none, reports this fault
 pub record Decides {A : Type 0} (Is : A → Type 0) (fault : UriFault) (r : Result A UriError) : Type 0 where
   pub sound : (a : A) → r ≡ Ok a → Is a
   pub complete : (a : A) → Is a → r ≡ Ok a
   pub refused : (e : UriError) → r ≡ Err e → e ≡ Fault fault
 
--- two values of one step are one
+-- two values of one step are equal
 pub same_ok : {A : Type 0} (r : Result A UriError) (a b : A) → r ≡ Ok a → r ≡ Ok b → a ≡ b
 same_ok (Ok x) a b p q = let i : x ≡ a = cc in let j : x ≡ b = cc in sym i ∙ j
 same_ok (Err e) a b p q = absurd cc
@@ -64,7 +64,7 @@ module _ {A B : Type 0} (Is : A → Type 0) (fault : UriFault) (Next : A → Res
   pub step : (r : Result A UriError) (next : A → Result B UriError) → Decides Is fault r → ((a : A) → Is a → Meets (Next a) (next a)) → Meets (Where Is fault Next) (r >>= next)
   step r next d h = by_result r r next d refl h
 
-  -- it has one answer
+  -- it has one result
   pub one_step : (r : Result A UriError) → Decides Is fault r → ((a : A) (x y : Result B UriFault) → Next a x → Next a y → x ≡ y) → (x y : Result B UriFault) → Where Is fault Next x → Where Is fault Next y → x ≡ y
   one_step r d h x y (inl p) (inl q) =
       let same : p.0 ≡ q.0 = same_ok r p.0 q.0 (d.complete p.0 p.1) (d.complete q.0 q.1) in

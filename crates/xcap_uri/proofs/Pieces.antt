@@ -3,33 +3,33 @@ use Rattle.std.proofs.Common.{◌≡◌, ℕ, Bool, true, false, not, ◌==◌, 
 use Rattle.std.proofs.lemmas.Bool.{eqb-true, eq-eqb}
 use Rattle.std.specs.List.{list_all, onto_first as with_first}
 use Rattle.tree_text.specs.Faults.{is_other}
-use Rattle.grammar_rules.specs.Reading.{after_front}
-use Rattle.grammar_rules.specs.Rules.{AllPass}
-use Rattle.xcap_uri.specs.Cuts.{rest_after_front, front_before, rest_behind, behind_first, pieces}
+use Rattle.xml_grammar.specs.Reading.{after_front}
+use Rattle.xml_grammar.specs.Rules.{AllPass}
+use Rattle.xcap_uri.specs.Delimiters.{rest_after_front, front_before, rest_after, behind_first, pieces}
 use Rattle.xcap_uri.specs.Roots.{is_some_of}
 
--- a test, either way
+-- a test, by its two results
 pub on_test : {P : Type 0} (b : Bool) → (b ≡ true → P) → (b ≡ false → P) → P
 on_test true f g = f refl
 on_test false f g = g refl
 
 -- ---- cut at a stop
 
--- the pieces of what is behind a cut
+-- the pieces of what comes after a cut
 abbrev pub pieces_behind : ℕ → Option (List ℕ) → List (List ℕ)
 pieces_behind stop None = []
 pieces_behind stop (Some rest) = pieces stop rest
 
--- one character more in front, which is the stop or isn't
-one_more : (stop b : ℕ) (bs : List ℕ) (t : Bool) → b == stop ≡ t → pieces stop bs ≡ front_before stop bs ∷ pieces_behind stop (rest_behind stop bs) → pieces stop (b ∷ bs) ≡ front_before stop (b ∷ bs) ∷ pieces_behind stop (rest_behind stop (b ∷ bs))
+-- one more character at the front, which is the stop or isn't
+one_more : (stop b : ℕ) (bs : List ℕ) (t : Bool) → b == stop ≡ t → pieces stop bs ≡ front_before stop bs ∷ pieces_behind stop (rest_after stop bs) → pieces stop (b ∷ bs) ≡ front_before stop (b ∷ bs) ∷ pieces_behind stop (rest_after stop (b ∷ bs))
 one_more stop b bs true h e = rw (h) refl
 one_more stop b bs false h e = rw (h) (ap (with_first b) e)
 
-pub pieces_cut : (stop : ℕ) (text : List ℕ) → pieces stop text ≡ front_before stop text ∷ pieces_behind stop (rest_behind stop text)
+pub pieces_cut : (stop : ℕ) (text : List ℕ) → pieces stop text ≡ front_before stop text ∷ pieces_behind stop (rest_after stop text)
 pieces_cut stop [] = refl
 pieces_cut stop (b ∷ bs) = one_more stop b bs (b == stop) refl (pieces_cut stop bs)
 
--- what is behind a stop is shorter than the text
+-- what comes after a stop is shorter than the text
 front_le : (p : ℕ → Bool) (c : ℕ) (cs : List ℕ) (t : Bool) → p c ≡ t → length (after_front p cs) ≤ length cs → length (after_front p (c ∷ cs)) ≤ suc (length cs)
 front_le p c cs true h le = rw h (omega (arith, le))
 front_le p c cs false h le = rw h (omega arith)
@@ -42,7 +42,7 @@ first_less : (rest tail : List ℕ) → behind_first rest ≡ Some tail → leng
 first_less [] tail e = cc
 first_less (b ∷ bs) tail e = let same : length bs ≡ length tail = ap (λ o. length (unwrap_or o [])) e in omega (arith, same)
 
-pub behind_shorter : (stop : ℕ) (text tail : List ℕ) → rest_behind stop text ≡ Some tail → length tail < length text
+pub behind_shorter : (stop : ℕ) (text tail : List ℕ) → rest_after stop text ≡ Some tail → length tail < length text
 behind_shorter stop text tail e = omega (arith, after_le (is_other stop) text, first_less (after_front (is_other stop) text) tail e)
 
 -- one or more of a class, where there is one
@@ -50,7 +50,7 @@ pub some_of : (p : ℕ → Bool) (piece : List ℕ) → 1 ≤ length piece → l
 some_of p [] some = absurd (omega arith)
 some_of p (c ∷ cs) some = refl
 
--- ---- cuts where nothing is cut, and behind a front
+-- ---- cuts where nothing is cut, and after a front
 
 not_true : (t : Bool) → not t ≡ true → t ≡ false
 not_true true h = sym h
@@ -64,7 +64,7 @@ after_all : (stop : ℕ) (xs : List ℕ) → AllPass (is_other stop) xs → afte
 after_all stop [] all = refl
 after_all stop (b ∷ bs) all = rw (not_true (b == stop) all.0) (after_all stop bs all.1)
 
-pub behind_all : (stop : ℕ) (xs : List ℕ) → AllPass (is_other stop) xs → rest_behind stop xs ≡ None
+pub behind_all : (stop : ℕ) (xs : List ℕ) → AllPass (is_other stop) xs → rest_after stop xs ≡ None
 behind_all stop xs all = ap behind_first (after_all stop xs all)
 
 pub pieces_one : (stop : ℕ) (xs : List ℕ) → AllPass (is_other stop) xs → pieces stop xs ≡ xs ∷ []

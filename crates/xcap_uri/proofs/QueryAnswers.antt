@@ -1,10 +1,10 @@
--- Reading a query finds bindings, or tells `BadQuery`.
+-- Reading a query finds bindings, or reports `BadQuery`.
 use Rattle.std.proofs.Common.{◌≡◌, ℕ, zero, suc, ◌+◌, ◌-◌, Bool, true, false, cond, List, [], ◌∷◌, ◌&&◌, ◌==◌, codes, length, Option, None, Some, Result, Ok, Err, refl, subst, ◌↔◌}
-use Rattle.grammar_rules.specs.Reading.{head_is, after_front}
+use Rattle.xml_grammar.specs.Reading.{head_is, after_front}
 use Rattle.xml_tree.specs.Characters.{is_name_start, is_space}
 use Rattle.xml_tree.specs.declared.names.Decl.{Decl}
 use Rattle.xml_tree.specs.declared.read_error.ReadError.TheVariants.{Fault}
-use Rattle.xcap_uri.specs.Cuts.{rest_after_front}
+use Rattle.xcap_uri.specs.Delimiters.{rest_after_front}
 use Rattle.xcap_uri.specs.readers.Steps.{UriError, ◌>>=◌}
 use Rattle.xcap_uri.specs.Queries.{is_bracket_or_caret, is_blank, IsQuery}
 use Rattle.xcap_uri.specs.readers.Queries
@@ -12,7 +12,7 @@ use Rattle.xcap_uri.specs.declared.fault.UriFault.TheVariants.{BadQuery}
 use Rattle.xcap_uri.proofs.Ordering.{Decides, same_ok}
 use Rattle.xcap_uri.proofs.QueryItems.{query_found, query_read}
 
--- if it is a fault, it is this one
+-- if the result is a fault, it is this one
 OnlyBad : {A : Type 0} → Result A UriError → Type 0
 OnlyBad (Ok value) = Unit {0}
 OnlyBad (Err e) = e ≡ Fault BadQuery

@@ -6,13 +6,13 @@ use Rattle.std.proofs.lemmas.List.{append-nil, length-append}
 use Rattle.std.specs.Cmp.Lexicographic.{bytes_decides}
 use Rattle.std.specs.List.{list_all}
 use Rattle.std.specs.Str.{bytes_eq}
-use Rattle.grammar_rules.specs.Reading.{head_is, front_of, after_front}
-use Rattle.grammar_rules.specs.Rules.{AllPass}
+use Rattle.xml_grammar.specs.Reading.{head_is, front_of, after_front}
+use Rattle.xml_grammar.specs.Rules.{AllPass}
 use Rattle.xml_tree.specs.Characters.{is_name, is_name_start, is_name_char, is_space}
 use Rattle.xml_tree.specs.declared.names.Decl.{Decl}
 use Rattle.xml_tree.specs.declared.read_error.ReadError.TheVariants.{Fault}
 use Rattle.tree_text.proofs.ReadParts.{space_no_name}
-use Rattle.xcap_uri.specs.Cuts.{rest_after_front}
+use Rattle.xcap_uri.specs.Delimiters.{rest_after_front}
 use Rattle.xcap_uri.specs.readers.Steps.{UriError, ◌>>=◌}
 use Rattle.xcap_uri.specs.Queries.{is_bracket_or_caret, is_blank, SpellsUri, ends, plain, escaped, nested, IsItem, AreItems, IsQuery}
 use Rattle.xcap_uri.specs.readers.Queries.{Read, past, equals_past, prefix_read, is_reserved, unreserved, free_prefix_read, some_uri, uri_chars, uri_read, item_read, items_read, optional_bindings_read}
@@ -25,7 +25,7 @@ use Rattle.xcap_uri.proofs.UriChars as chars
 abbrev Bound : Type 0
 Bound = Result (List Decl) UriError
 
--- ---- steps, one behind the other
+-- ---- steps, one after the other
 
 record Steps {A B : Type 0} (r : Result A UriError) (next : A → Result B UriError) (value : B) : Type 0 where
   pub first : A
@@ -45,7 +45,7 @@ freed : {A : Type 0} (b : Bool) (fault : UriError) (x y : A) → (let r : Result
 freed true fault x y e = absurd (no_fault fault y e)
 freed false fault x y e = (refl, cc)
 
--- ---- the characters of a class in front
+-- ---- leading characters of a class
 
 module _ (p : ℕ → Bool) where
   all_in_front : (u v : List ℕ) → AllPass p u → head_is p v ≡ false → (front_of p (u ++ v) ≡ u) × (after_front p (u ++ v) ≡ v)
@@ -73,7 +73,7 @@ module _ (p : ℕ → Bool) where
   each [] h = tt
   each (c ∷ u) h = let both = and_parts (p c) (list_all p u) h in (both.0, each u both.1)
 
--- ---- a word in front
+-- ---- a leading word
 
 past_there : (o : Option (List ℕ)) (rest : List ℕ) → past o ≡ Ok rest → o ≡ Some rest
 past_there None rest e = absurd (no_fault (Fault BadQuery) rest e)
@@ -112,7 +112,7 @@ neither false b h = (refl, h)
 free_of : (p : List ℕ) → is_reserved p ≡ false → (p ≢ codes "xml") × (p ≢ codes "xmlns")
 free_of p h = let both = neither (bytes_eq p (codes "xml")) (bytes_eq p (codes "xmlns")) h in (like p (codes "xml") both.0, like p (codes "xmlns") both.1)
 
--- what stands behind a prefix is no character of a name
+-- what comes after a prefix is no name character
 ends_name : (before rest : List ℕ) → AllPass is_space before → head_is is_name_char (before ++ (61 ∷ rest)) ≡ false
 ends_name [] rest h = refl
 ends_name (c ∷ cs) rest h = space_no_name c h.0
@@ -141,7 +141,7 @@ prefix_found text prefix rest e =
       free = free_of prefix (ap (λ (x : List ℕ × List ℕ). is_reserved x.0) (sym freed_so.1) ∙ freed_so.0);
     }
 
--- ---- `=`, with white space round it
+-- ---- `=`, with white space around it
 
 equals_there : (s t rest : List ℕ) → AllPass is_space s → AllPass is_space t → head_is is_space rest ≡ false → equals_past (s ++ (61 ∷ (t ++ rest))) ≡ Ok rest
 equals_there s t rest a b ended = rw ((all_in_front is_space s (61 ∷ (t ++ rest)) a refl).1, (all_in_front is_space t rest b ended).1) refl
@@ -284,7 +284,7 @@ item_found text binding tail e =
     let found = found_by text a.first b.first.1 d.first c.first.1 made word (prefix_found a.first b.first.0 b.first.1 b.first_is) (equals_found b.first.1 d.first d.first_is) (uri_found d.first c.first.0 c.first.1 d.then_is) in
     subst (λ (x : Decl × List ℕ). FoundItem text x.0 x.1) same found
 
--- ---- rows of items
+-- ---- sequences of items
 
 item_begins : (text : List ℕ) (binding : Decl) → IsItem text binding → (rest : List ℕ) × (text ≡ 120 ∷ rest)
 item_begins text binding is = (codes "mlns(" ++ (binding.prefix ++ (is.before ++ (codes "=" ++ (is.behind ++ (is.spelling ++ codes ")"))))), is.joined)

@@ -11,14 +11,14 @@ use Rattle.xcap_uri.proofs.Bindings.{no_char_yet}
 use Rattle.xcap_uri.proofs.Pieces.{on_test}
 use Rattle.xcap_uri.proofs.UriChars as chars
 
--- what is read is one thing, and no fault
+-- what is read is one value, and no fault
 pub same_read : {A : Type 0} (x y : A × List ℕ) → (let r : Read A = Ok x in r ≡ Ok y) → x ≡ y
 same_read x y e = cc
 
 pub no_fault : {A : Type 0} (fault : UriError) (y : A) → (let r : Result A UriError = Err fault in r ≡ Ok y) → ⊥
 no_fault fault y e = absurd cc
 
--- the characters that one is not
+-- a character that isn't special differs from each special one
 no_special : (c d : ℕ) → is_bracket_or_caret d ≡ true → is_bracket_or_caret c ≡ false → c ≢ d
 no_special c d is h e = true≢false (sym is ∙ ap is_bracket_or_caret (sym e) ∙ h)
 
@@ -53,13 +53,13 @@ read_on text uri (nested inner inside t u s r) n w =
 
 -- ---- what is read is spelled
 
--- a spelling, where so many `(` before it are open: each `)` that closes one stands between two
+-- a spelling, where n earlier `(` are open: each `)` that closes one is between two
 abbrev Closes : ℕ → List ℕ → List ℕ → Type 0
 Closes zero text uri = SpellsUri text uri
 Closes (suc n) text uri =
     (front : List ℕ) × (before : List ℕ) × (back : List ℕ) × (behind : List ℕ) × (text ≡ front ++ (41 ∷ back)) × (uri ≡ before ++ (41 ∷ behind)) × SpellsUri front before × Closes n back behind
 
--- what may stand in front of a spelling
+-- what may come before a spelling
 abbrev Leads : List ℕ → List ℕ → Type 0
 Leads front before = (text uri : List ℕ) → SpellsUri text uri → SpellsUri (front ++ text) (before ++ uri)
 
@@ -83,7 +83,7 @@ record Found (n : ℕ) (text uri rest : List ℕ) : Type 0 where
   pub joined : text ≡ spelling ++ (41 ∷ rest)
   pub closes : Closes n spelling uri
 
--- a character in front of what is read
+-- a character before what is read
 record Behind (c : ℕ) (read : Read (List ℕ)) (uri rest : List ℕ) : Type 0 where
   pub others : List ℕ
   pub read_is : read ≡ Ok (others, rest)
@@ -95,7 +95,7 @@ behind c (Ok (u, v)) uri rest e =
     record { others = u; read_is = ap (λ (l : List ℕ). let z : List ℕ × List ℕ = (u, l) in let r : Read (List ℕ) = Ok z in r) (ap (λ z. z.1) pair); uri_is = sym (ap (λ z. z.0) pair) }
 behind c (Err x) uri rest e = absurd cc
 
--- a front in front of what is found behind it
+-- a front before what is found after it
 found_behind : (n : ℕ) (c : ℕ) (front text uri rest : List ℕ) (read : Read (List ℕ)) → (b : Behind c read uri rest) → Leads front (c ∷ []) → Found n text b.others rest → Found n (front ++ text) uri rest
 found_behind n c front text uri rest read b h f = record {
   spelling = front ++ f.spelling;

@@ -8,7 +8,7 @@ use Rattle.std.specs.Fmt.{digit_glyph}
 use Rattle.std.specs.List.{list_all}
 use Rattle.std.specs.Str.{bytes_eq, chars, IsUtf8, IsAscii}
 use Rattle.tree_text.specs.Faults.{is_other}
-use Rattle.grammar_rules.specs.Rules.{AllPass}
+use Rattle.xml_grammar.specs.Rules.{AllPass}
 use Rattle.percent_encoding.specs.Percent.{percent_decode, percent_encode_byte}
 use Rattle.doc_names.specs.declared.doc_id.Auid.{Auid}
 use Rattle.doc_names.specs.declared.doc_id.Auid.TheVariants.{ResourceLists, RlsServices, XcapCaps}
@@ -18,11 +18,11 @@ use Rattle.doc_names.specs.declared.doc_id.DocId.{DocId}
 use Rattle.xcap_uri.specs.readers.Steps.{UriError}
 use Rattle.xcap_uri.specs.declared.shape.Shape.TheVariants as shapes
 use Rattle.xcap_uri.specs.declared.target.Target.TheVariants.{Document}
-use Rattle.xcap_uri.specs.Cuts.{pieces}
+use Rattle.xcap_uri.specs.Delimiters.{pieces}
 use Rattle.xcap_uri.specs.Escapes.{has_whole_escapes}
 use Rattle.xcap_uri.specs.readers.Escapes.{text_read}
 use Rattle.doc_names.specs.Escapes.{escaped, escaped_octet, is_plain, escaped_part as part_text}
-use Rattle.doc_names.specs.Ids.{IsNameable, IsReadable, IsReadableHome, home_text, id_text}
+use Rattle.doc_names.specs.Ids.{IsNameable, IsAddressable, IsReadableHome, home_text, id_text}
 use Rattle.doc_names.specs.Usages.{auid_text}
 use Rattle.xcap_uri.specs.Roots.{slash, path_in, path_of, is_root_text as is_root}
 use Rattle.xcap_uri.specs.readers.Shapes.{is_empty, shape_of}
@@ -254,18 +254,18 @@ stands_behind root rest = rw (inside root rest) refl
 
 -- ---- the whole
 
--- what stands under the root reads as the document
-document_read : (doc : DocId) → IsSpelledHome doc.home → IsSpelled doc.name → IsReadable doc → rest_read (id_text doc) ≡ Ok (Document doc)
+-- what comes after the root reads as the document
+document_read : (doc : DocId) → IsSpelledHome doc.home → IsSpelled doc.name → IsAddressable doc → rest_read (id_text doc) ≡ Ok (Document doc)
 document_read doc h n readable = by_home doc.home h readable.0
   where
     by_home : (home : Home) → IsSpelledHome home → IsReadableHome home → let doc : DocId = record { auid = doc.auid; home = home; name = doc.name } in rest_read (id_text doc) ≡ Ok (Document doc)
     by_home Global h good = rest_is (record { auid = doc.auid; home = Global; name = doc.name }) (chars (auid_text doc.auid) ∷ chars (codes "global") ∷ doc.name ∷ []) (global_path doc.auid doc.name n readable.1) (global_shape doc.auid doc.name (has_some doc.name readable.1.0))
     by_home (User xui) h good = rest_is (record { auid = doc.auid; home = User xui; name = doc.name }) (chars (auid_text doc.auid) ∷ chars (codes "users") ∷ xui ∷ doc.name ∷ []) (user_path doc.auid xui doc.name h n good readable.1) (user_shape doc.auid xui doc.name (has_some xui good.0) (has_some doc.name readable.1.0))
 
--- behind the root's path
-pub reads_back : (root : List ℕ) (doc : DocId) → is_root root ≡ true → IsSpelledHome doc.home → IsSpelled doc.name → IsReadable doc → target_read root (path_of root ++ (slash ∷ id_text doc)) ≡ Ok (Document doc)
+-- after the root's path
+pub reads_back : (root : List ℕ) (doc : DocId) → is_root root ≡ true → IsSpelledHome doc.home → IsSpelled doc.name → IsAddressable doc → target_read root (path_of root ++ (slash ∷ id_text doc)) ≡ Ok (Document doc)
 reads_back root doc is h n readable = rw (stands_under root (id_text doc) is) (document_read doc h n readable)
 
--- behind the whole root
-pub reads_back_whole : (root : List ℕ) (doc : DocId) → IsSpelledHome doc.home → IsSpelled doc.name → IsReadable doc → target_read root (root ++ (slash ∷ id_text doc)) ≡ Ok (Document doc)
+-- after the whole root
+pub reads_back_whole : (root : List ℕ) (doc : DocId) → IsSpelledHome doc.home → IsSpelled doc.name → IsAddressable doc → target_read root (root ++ (slash ∷ id_text doc)) ≡ Ok (Document doc)
 reads_back_whole root doc h n readable = rw (stands_behind root (id_text doc)) (document_read doc h n readable)

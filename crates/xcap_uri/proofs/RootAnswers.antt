@@ -7,11 +7,11 @@ use Rattle.std.specs.List.{list_all, join_with_byte as joined}
 use Rattle.std.specs.Option.{option_or}
 use Rattle.std.specs.Str.{bytes_eq}
 use Rattle.tree_text.specs.Faults.{is_other}
-use Rattle.grammar_rules.specs.Reading.{after_front}
-use Rattle.grammar_rules.specs.Rules.{AllPass}
-use Rattle.xcap_uri.specs.Cuts.{rest_after_front, front_before, rest_behind, pieces}
+use Rattle.xml_grammar.specs.Reading.{after_front}
+use Rattle.xml_grammar.specs.Rules.{AllPass}
+use Rattle.xcap_uri.specs.Delimiters.{rest_after_front, front_before, rest_after, pieces}
 use Rattle.xcap_uri.specs.Roots.{slash, is_authority_char, is_segment_char, is_some_of, path_in, IsRoot, is_scheme, are_root_parts, third, authority_of, path_of, is_root_text as is_root}
-use Rattle.xcap_uri.specs.readers.Roots.{behind_scheme, are_authority_and_segments, has_form, reads_as_root}
+use Rattle.xcap_uri.specs.readers.Roots.{behind_scheme, are_authority_and_segments, is_root_after_scheme, reads_as_root}
 use Rattle.xcap_uri.proofs.Pieces.{on_test, pieces_behind, pieces_cut, pieces_one, pieces_more, after_append, front_there}
 use Rattle.xcap_uri.proofs.Separated.{joined_pieces}
 
@@ -49,7 +49,7 @@ parts (s ∷ [] ∷ a ∷ ps) h =
 pub root_parts : (text : List ℕ) → is_root text ≡ true → Parts (pieces slash text)
 root_parts text is = parts (pieces slash text) (and_parts (nat_le (length text) 256) (are_root_parts (pieces slash text)) is).1
 
--- pieces with a slash in front of each
+-- pieces with a slash before each
 slashed : (p : List ℕ) (ps : List (List ℕ)) → joined slash (p ∷ ps) ≡ p ++ path_in ps
 slashed p [] = sym (append-nil p)
 slashed p (q ∷ ps) = ap (λ (l : List ℕ). p ++ (slash ∷ l)) (slashed q ps)
@@ -70,7 +70,7 @@ root_begins text is =
     (λ e. (codes "ttps:" ++ rest, spelled text h ∙ ap (λ (l : List ℕ). l ++ rest) e))
     h.scheme_is
 
--- ---- behind the scheme
+-- ---- after the scheme
 
 -- the pieces of what the code reads
 record Behind (text rest : List ℕ) : Type 0 where
@@ -92,7 +92,7 @@ by_scheme text rest None None e f h = absurd cc
 cut_behind : (text rest : List ℕ) → behind_scheme text ≡ Some rest → Behind text rest
 cut_behind text rest e = by_scheme text rest (rest_after_front (codes "http://") text) (rest_after_front (codes "https://") text) refl refl e
 
--- the code finds a scheme in front of each root
+-- the code finds a scheme at the front of each root
 some_or : (first second : Option (List ℕ)) (x : List ℕ) → second ≡ Some x → option_or first second ≡ None → ⊥
 some_or (Some y) second x e h = cc
 some_or None second x e h = let i : Some x ≡ None = sym e ∙ h in cc
@@ -110,12 +110,12 @@ not_behind text h none =
     some_or (rest_after_front (codes "http://") text) (rest_after_front (codes "https://") text) rest there none)
     h.scheme_is
 
--- what is found behind the scheme is judged as the pieces are
+-- what is found after the scheme is tested as the pieces are
 judged : (s : List ℕ) (ps : List (List ℕ)) → is_scheme s ≡ true → are_root_parts (s ∷ [] ∷ ps) ≡ are_authority_and_segments ps
 judged s [] h = refl
 judged s (a ∷ ps) h = rw h refl
 
-same_form : (text : List ℕ) (found : Option (List ℕ)) → behind_scheme text ≡ found → are_root_parts (pieces slash text) ≡ has_form found
+same_form : (text : List ℕ) (found : Option (List ℕ)) → behind_scheme text ≡ found → are_root_parts (pieces slash text) ≡ is_root_after_scheme found
 same_form text None e = on_test (are_root_parts (pieces slash text)) (λ t. absurd (not_behind text (parts (pieces slash text) t) e)) (λ f. f)
 same_form text (Some rest) e = let b = cut_behind text rest e in ap are_root_parts b.cut ∙ judged b.scheme (pieces slash rest) b.is
 
@@ -138,9 +138,9 @@ authority_behind text rest e = let b = cut_behind text rest e in ap third (b.cut
 
 -- the path begins at the first slash
 slashed_behind : (text : List ℕ) → path_in (pieces slash text) ≡ slash ∷ text
-slashed_behind text = ap path_in (pieces_cut slash text) ∙ ap (λ (l : List ℕ). slash ∷ l) (sym (slashed (front_before slash text) (pieces_behind slash (rest_behind slash text))) ∙ ap (joined slash) (sym (pieces_cut slash text)) ∙ joined_pieces slash text)
+slashed_behind text = ap path_in (pieces_cut slash text) ∙ ap (λ (l : List ℕ). slash ∷ l) (sym (slashed (front_before slash text) (pieces_behind slash (rest_after slash text))) ∙ ap (joined slash) (sym (pieces_cut slash text)) ∙ joined_pieces slash text)
 
-tail_behind : (rest : List ℕ) → path_in (pieces_behind slash (rest_behind slash rest)) ≡ after_front (is_other slash) rest
+tail_behind : (rest : List ℕ) → path_in (pieces_behind slash (rest_after slash rest)) ≡ after_front (is_other slash) rest
 tail_behind [] = refl
 tail_behind (c ∷ cs) =
     on_test (c == slash)

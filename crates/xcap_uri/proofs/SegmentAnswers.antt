@@ -6,7 +6,7 @@ use Rattle.std.specs.List.{join_with_byte as joined}
 use Rattle.percent_encoding.specs.Percent.{percent_decode}
 use Rattle.doc_names.specs.Ids.{separator}
 use Rattle.xml_tree.specs.declared.read_error.ReadError.TheVariants.{Fault}
-use Rattle.xcap_uri.specs.Cuts.{pieces}
+use Rattle.xcap_uri.specs.Delimiters.{pieces}
 use Rattle.xcap_uri.specs.Escapes.{StandsFor, StandForOptional}
 use Rattle.xcap_uri.specs.readers.Steps.{UriError, ◌>>=◌}
 use Rattle.xcap_uri.specs.Roots.{slash}
@@ -80,14 +80,14 @@ Path = List (List ℕ) × Option (List ℕ)
 abbrev Segments : Type 0
 Segments = Result Path UriError
 
--- these segments stand for such a path
+-- these segments decode to such a path
 abbrev Are : List (List ℕ) → Path → Type 0
 Are raws x = AreSegments raws x.0 x.1
 
 same_pair : (x : Path) (texts : List (List ℕ)) (selector : Option (List ℕ)) → x.0 ≡ texts → x.1 ≡ selector → (let s : Segments = Ok x in s ≡ Ok (texts, selector))
 same_pair x texts selector e f = ap (λ (z : List (List ℕ)). let s : Segments = Ok (z, x.1) in s) e ∙ ap (λ (z : Option (List ℕ)). let s : Segments = Ok (texts, z) in s) f
 
--- the separator: what stands behind it is the selector
+-- the separator: the selector comes after it
 at_separator : (raw : List ℕ) (raws : List (List ℕ)) → StandsFor raw separator → (let s : Segments = Ok ([], Some (joined slash raws)) in Decides (Are (raw ∷ raws)) BadEscape s)
 at_separator raw raws stands = record {
   sound = λ x h. subst (Are (raw ∷ raws)) (let i : ([], Some (joined slash raws)) ≡ x = cc in i) (stands, refl);
@@ -99,7 +99,7 @@ at_separator raw raws stands = record {
     complete [] selector h = ap (λ (z : Option (List ℕ)). let s : Segments = Ok ([], z) in s) (sym h.1)
     complete (text ∷ texts) selector h = absurd (h.1 (h.0.decoded ∙ sym stands.decoded))
 
--- another text: the segments behind it follow
+-- another text: the segments after it follow
 at_text : (raw : List ℕ) (raws : List (List ℕ)) (text : List ℕ) → StandsFor raw text → text ≢ separator → (r : Segments) → Decides (Are raws) BadEscape r
     → Decides (Are (raw ∷ raws)) BadEscape (r >>= λ x. let s : Segments = Ok (text ∷ x.0, x.1) in s)
 at_text raw raws text stands other (Ok x) d = record {

@@ -5,7 +5,7 @@ use Rattle.std.proofs.lemmas.List.{append-nil}
 use Rattle.std.specs.Str.{bytes_eq}
 use Rattle.std.specs.List.{onto_first as with_first, join_with_byte as joined}
 use Rattle.xml_tree.specs.declared.read_error.ReadError.TheVariants.{NoMemory}
-use Rattle.xcap_uri.specs.Cuts.{front_before, rest_behind, pieces}
+use Rattle.xcap_uri.specs.Delimiters.{front_before, rest_after, pieces}
 use Rattle.xcap_uri.specs.readers.Escapes.{text_read}
 use Rattle.xcap_uri.specs.readers.Steps.{UriError, ◌>>=◌}
 use Rattle.xcap_uri.specs.Roots.{slash}
@@ -16,11 +16,11 @@ use Rattle.xcap_uri.proofs.Pieces.{pieces_cut, pieces_behind}
 abbrev pub Segments : Type 0
 Segments = Result (List (List ℕ) × Option (List ℕ)) UriError
 
--- segments in front of those that are read: none at first
+-- segments before those that are read: none at first
 abbrev pub with_segments : List (List ℕ) → Segments → Segments
 with_segments front read = read >>= λ x. Ok (front ++ x.0, x.1)
 
--- a character in front of pieces, and a stop
+-- a character before pieces, and a stop
 joined_first : (stop b : ℕ) (ps : List (List ℕ)) → joined stop (with_first b ps) ≡ b ∷ joined stop ps
 joined_first stop b [] = refl
 joined_first stop b (p ∷ []) = refl
@@ -45,22 +45,22 @@ joined_behind stop None = refl
 joined_behind stop (Some rest) = joined_pieces stop rest
 
 -- one segment, and the others
-cut : (rest : List ℕ) → path_read rest ≡ segments_read (front_before slash rest ∷ pieces_behind slash (rest_behind slash rest))
+cut : (rest : List ℕ) → path_read rest ≡ segments_read (front_before slash rest ∷ pieces_behind slash (rest_after slash rest))
 cut rest = ap segments_read (pieces_cut slash rest)
 
 module _ (total : Segments) (front : List (List ℕ)) (rest : List ℕ) (so_far : total ≡ with_segments front (path_read rest)) where
   pub segment_fails : (e : UriError) → text_read (front_before slash rest) ≡ Err e → total ≡ Err e
   segment_fails e h = so_far ∙ rw (cut rest, h) refl
 
-  pub separated : (text : List ℕ) → text_read (front_before slash rest) ≡ Ok text → bytes_eq text separator ≡ true → total ≡ Ok (front, Some (unwrap_or (rest_behind slash rest) []))
+  pub separated : (text : List ℕ) → text_read (front_before slash rest) ≡ Ok text → bytes_eq text separator ≡ true → total ≡ Ok (front, Some (unwrap_or (rest_after slash rest) []))
   separated text h same =
       let empty : List (List ℕ) = [] in
-      so_far ∙ rw (cut rest, h, same) (ap (λ (l : List ℕ). let z : List (List ℕ) × Option (List ℕ) = (front ++ empty, Some l) in let r : Segments = Ok z in r) (joined_behind slash (rest_behind slash rest)) ∙ ap (λ (l : List (List ℕ)). let z : List (List ℕ) × Option (List ℕ) = (l, Some (unwrap_or (rest_behind slash rest) [])) in let r : Segments = Ok z in r) (append-nil front))
+      so_far ∙ rw (cut rest, h, same) (ap (λ (l : List ℕ). let z : List (List ℕ) × Option (List ℕ) = (front ++ empty, Some l) in let r : Segments = Ok z in r) (joined_behind slash (rest_after slash rest)) ∙ ap (λ (l : List (List ℕ)). let z : List (List ℕ) × Option (List ℕ) = (l, Some (unwrap_or (rest_after slash rest) [])) in let r : Segments = Ok z in r) (append-nil front))
 
-  pub last_segment : (text : List ℕ) → text_read (front_before slash rest) ≡ Ok text → bytes_eq text separator ≡ false → rest_behind slash rest ≡ None → total ≡ Ok (front ++ text ∷ [], None)
+  pub last_segment : (text : List ℕ) → text_read (front_before slash rest) ≡ Ok text → bytes_eq text separator ≡ false → rest_after slash rest ≡ None → total ≡ Ok (front ++ text ∷ [], None)
   last_segment text h other none = so_far ∙ rw (cut rest, h, other, none) refl
 
-  pub next_segment : (text tail : List ℕ) → text_read (front_before slash rest) ≡ Ok text → bytes_eq text separator ≡ false → rest_behind slash rest ≡ Some tail → total ≡ with_segments (front ++ text ∷ []) (path_read tail)
+  pub next_segment : (text tail : List ℕ) → text_read (front_before slash rest) ≡ Ok text → bytes_eq text separator ≡ false → rest_after slash rest ≡ Some tail → total ≡ with_segments (front ++ text ∷ []) (path_read tail)
   next_segment text tail h other some = so_far ∙ rw (cut rest, h, other, some) (longer text (path_read tail))
     where
       longer : (text : List ℕ) (out : Segments) → with_segments front (out >>= λ x. Ok (text ∷ x.0, x.1)) ≡ with_segments (front ++ text ∷ []) out
@@ -81,11 +81,11 @@ module _ (total : Segments) (front : List (List ℕ)) (rest raw : List ℕ) (cut
     is_read : text_read (front_before slash rest) ≡ Ok text
     is_read = ap text_read (sym cut_at) ∙ read_ok text raw read
 
-    pub at_separator : (back : List ℕ) → bytes_eq text separator ≡ true → back ≡ unwrap_or (rest_behind slash rest) [] → total ≡ Ok (front, Some back)
+    pub at_separator : (back : List ℕ) → bytes_eq text separator ≡ true → back ≡ unwrap_or (rest_after slash rest) [] → total ≡ Ok (front, Some back)
     at_separator back same e = separated total front rest so_far text is_read same ∙ ap (λ (l : List ℕ). let z : List (List ℕ) × Option (List ℕ) = (front, Some l) in let r : Segments = Ok z in r) (sym e)
 
-    pub at_last : bytes_eq text separator ≡ false → rest_behind slash rest ≡ None → total ≡ Ok (front ++ text ∷ [], None)
+    pub at_last : bytes_eq text separator ≡ false → rest_after slash rest ≡ None → total ≡ Ok (front ++ text ∷ [], None)
     at_last other none = last_segment total front rest so_far text is_read other none
 
-    pub at_next : (tail : List ℕ) → bytes_eq text separator ≡ false → rest_behind slash rest ≡ Some tail → total ≡ with_segments (front ++ text ∷ []) (path_read tail)
+    pub at_next : (tail : List ℕ) → bytes_eq text separator ≡ false → rest_after slash rest ≡ Some tail → total ≡ with_segments (front ++ text ∷ []) (path_read tail)
     at_next tail other some = next_segment total front rest so_far text tail is_read other some

@@ -36,7 +36,7 @@ no_word text word e same = true≢false (sym ((bytes_decides text word).1 same) 
 -- ---- what is read is named
 
 module _ (segments : List (List ℕ)) (selector : Option (List ℕ)) where
-  -- a shape that they name, or the fault that there is none
+  -- a shape that the segments name, or the fault that there is none
   abbrev pub Good : Result Shape UriError → Type 0
   Good (Ok shape) = Names segments selector shape
   Good (Err e) = e ≡ Fault BadShape
@@ -65,7 +65,7 @@ module _ (segments : List (List ℕ)) (selector : Option (List ℕ)) where
   usage_good auid [] s e h = refl
   usage_good auid (tree ∷ rest) s e h = tree_good auid tree rest s e h (bytes_eq tree global) refl (bytes_eq tree users) refl
 
-  -- ---- notices
+  -- ---- feeds
 
   module _ (digits xui name : List ℕ) (auid : Auid) (usage : Usage) (stored : usage_of auid ≡ Some usage) (tag : ℕ) (is_tag : tag_of digits ≡ Some tag) where
     abbrev Doc : DocId
@@ -132,7 +132,7 @@ module _ (segments : List (List ℕ)) (selector : Option (List ℕ)) where
   no_usage first rest a b c d f (inr (inr (RlsServices, e))) = no_word first rls_services d e
   no_usage first rest a b c d f (inr (inr (XcapCaps, e))) = no_word first xcap_caps f e
 
-  -- they begin rightly, and what is read is good; or they don't, and no usage is known
+  -- they begin rightly, and what is read is good; or they don't, and no AUID is known
   abbrev Judged : List (List ℕ) → Result Shape UriError → Type 0
   Judged all r = (BeginRightly all × Good r) ⊎ ((BeginRightly all → ⊥) × (r ≡ Err (Fault UnknownAuid)))
 

@@ -16,14 +16,14 @@ use Rattle.xml_tree.specs.Memory.{Answered}
 use Rattle.doc_names.specs.Usages.{namespace_of}
 use Rattle.doc_names.specs.declared.doc_id.Auid.{Auid}
 use Rattle.doc_names.specs.declared.doc_id.DocId.{DocId}
-use Rattle.xcap_uri.specs.Cuts.{front_before, rest_behind}
+use Rattle.xcap_uri.specs.Delimiters.{front_before, rest_after}
 use Rattle.xcap_uri.specs.Escapes.{StandForOptional}
 use Rattle.xcap_uri.specs.readers.Steps.{UriError, ◌>>=◌}
 use Rattle.xcap_uri.specs.Order.{Where, Given}
 use Rattle.xcap_uri.specs.Queries.{IsQuery}
 use Rattle.xcap_uri.specs.readers.Queries.{optional_bindings_read}
 use Rattle.xcap_uri.specs.Shapes.{Names, BeginRightly, AreNamed}
-use Rattle.xcap_uri.specs.Targets.{question, under_root, raw_text, IsPath, IsPartAnswer, node_of, is_element, element_feed_of, Means, NamedAnswer, RestAnswer, TargetAnswer, IsReadableTarget}
+use Rattle.xcap_uri.specs.Targets.{question, under_root, raw_text, IsPath, IsPartAnswer, node_of, is_element, element_feed_of, Means, NamedAnswer, RestAnswer, TargetResult, IsReadableTarget}
 use Rattle.xcap_uri.specs.readers.Escapes.{optional_text_read}
 use Rattle.xcap_uri.specs.readers.Shapes as reader
 use Rattle.xcap_uri.specs.readers.Targets.{error_of, as_target_part, part_read, ends_in_element, about_element, target_of, path_read, rest_read, under_read, target_read}
@@ -41,7 +41,7 @@ use Rattle.xcap_uri.proofs.ShapeAnswers.{Good, judged, good_decided, all_named, 
 
 -- ---- the selector of a part
 
--- the answer that a selector has
+-- the result for a selector
 abbrev stated : List Decl → Auid → List ℕ → Result Selector SelectorFault
 stated bindings auid text = selector_read bindings (chars (namespace_of auid)) (encode_utf8_all text)
 
@@ -169,11 +169,11 @@ module _ (segments : List (List ℕ)) (selector query : Option (List ℕ)) (raw 
   one_named : (x y : Answer) → NamedAnswer segments selector query raw x → NamedAnswer segments selector query raw y → x ≡ y
   one_named = one_given (AreNamed segments) BadShape Filled one_filled
 
--- ---- what stands under the root
+-- ---- what comes after the root
 
 module _ (rest : List ℕ) where
   abbrev Query : Option (List ℕ)
-  Query = rest_behind question rest
+  Query = rest_after question rest
 
   abbrev Path : Type 0
   Path = List (List ℕ) × Option (List ℕ)
@@ -224,18 +224,18 @@ unfolding Meets
 by_root under None e = inr (λ rest h. (let i : None ≡ Some rest = sym e ∙ h in absurd cc), refl)
 by_root under (Some rest) e = inside (λ rest. under ≡ Some rest) OutsideRoot RestAnswer rest e (rest_read rest) (rest_meets rest)
 
-target_meets : (root target : List ℕ) → Meets (TargetAnswer root target) (target_read root target)
+target_meets : (root target : List ℕ) → Meets (TargetResult root target) (target_read root target)
 target_meets root target = by_root (under_root root target) (under_root root target) refl
 
--- A target has an answer, which reading finds,
-pub read_answered : (root target : List ℕ) → Answered (TargetAnswer root target) (target_read root target)
-read_answered root target = met (TargetAnswer root target) (target_read root target) (target_meets root target)
+-- A target has a result, which reading finds,
+pub read_answered : (root target : List ℕ) → Answered (TargetResult root target) (target_read root target)
+read_answered root target = met (TargetResult root target) (target_read root target) (target_meets root target)
 
-pub some_target : (root target : List ℕ) → (answer : Answer) × TargetAnswer root target answer
-some_target root target = some_met (TargetAnswer root target) (target_read root target) (target_meets root target)
+pub some_target : (root target : List ℕ) → (answer : Answer) × TargetResult root target answer
+some_target root target = some_met (TargetResult root target) (target_read root target) (target_meets root target)
 
 -- and no other.
-pub one_target : (root target : List ℕ) (x y : Answer) → TargetAnswer root target x → TargetAnswer root target y → x ≡ y
+pub one_target : (root target : List ℕ) (x y : Answer) → TargetResult root target x → TargetResult root target y → x ≡ y
 one_target root target x y (inl p) (inl q) =
     let i : Some p.0 ≡ Some q.0 = sym p.1 ∙ q.1 in
     let same : p.0 ≡ q.0 = cc in
@@ -244,21 +244,21 @@ one_target root target x y (inl p) (inr q) = absurd (q.0 p.0 p.1)
 one_target root target x y (inr p) (inl q) = absurd (p.0 q.0 q.1)
 one_target root target x y (inr p) (inr q) = p.1 ∙ sym q.1
 
--- What the code answers is that, or want of memory.
-pub target_answered : (root target : List ℕ) (r : Result Target UriError) → (r ≡ target_read root target) ⊎ (r ≡ Err NoMemory) → Answered (TargetAnswer root target) r
-target_answered root target r (inl e) = subst (Answered (TargetAnswer root target)) (sym e) (read_answered root target)
-target_answered root target r (inr e) = subst (Answered (TargetAnswer root target)) (sym e) tt
+-- The code returns it, or out of memory.
+pub target_answered : (root target : List ℕ) (r : Result Target UriError) → (r ≡ target_read root target) ⊎ (r ≡ Err NoMemory) → Answered (TargetResult root target) r
+target_answered root target r (inl e) = subst (Answered (TargetResult root target)) (sym e) (read_answered root target)
+target_answered root target r (inr e) = subst (Answered (TargetResult root target)) (sym e) tt
 
--- The ids in a target can be named by an address.
-readable_of : (root target : List ℕ) (t : Target) (r : Result Target UriError) → IfOk r IsReadableTarget → Meets (TargetAnswer root target) r → TargetAnswer root target (Ok t) → IsReadableTarget t
+-- An address can name the ids in a target.
+readable_of : (root target : List ℕ) (t : Target) (r : Result Target UriError) → IfOk r IsReadableTarget → Meets (TargetResult root target) r → TargetResult root target (Ok t) → IsReadableTarget t
 unfolding Meets
 readable_of root target t (Ok s) good m is = let i : Ok s ≡ Ok t = one_target root target (Ok s) (Ok t) m is in let same : s ≡ t = cc in subst IsReadableTarget same good
 readable_of root target t (Err (Fault fault)) good m is = let i = one_target root target (Err fault) (Ok t) m is in absurd cc
 readable_of root target t (Err NoMemory) good m is = absurd m
 
-pub readable_target : (root target : List ℕ) (t : Target) → TargetAnswer root target (Ok t) → IsReadableTarget t
+pub readable_target : (root target : List ℕ) (t : Target) → TargetResult root target (Ok t) → IsReadableTarget t
 readable_target root target t is = readable_of root target t (target_read root target) (target_readable root target) (target_meets root target) is
 
--- What is read is the answer.
-pub read_is : (root target : List ℕ) (t : Target) → target_read root target ≡ Ok t → TargetAnswer root target (Ok t)
-read_is root target t e = subst (Answered (TargetAnswer root target)) e (read_answered root target)
+-- What is read is the result.
+pub read_is : (root target : List ℕ) (t : Target) → target_read root target ≡ Ok t → TargetResult root target (Ok t)
+read_is root target t e = subst (Answered (TargetResult root target)) e (read_answered root target)

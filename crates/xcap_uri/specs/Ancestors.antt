@@ -1,5 +1,6 @@
--- The URIs that a conflict document names where a node has no parent. RFC 4825, section 11: the closest ancestor that exists. A node's URI
--- is the document's, the separator `~~` and the node selector (section 6), in which `[` and `]` are escaped (RFC 3986, section 3.3).
+-- The URIs in an error document for a missing parent. RFC 4825, section 11: the closest ancestor
+-- that exists. A node's URI is the document's, the separator `~~` and the node selector (section
+-- 6), in which `[` and `]` are escaped (RFC 3986, section 3.3).
 use Rattle.std.specs.Prelude.{ℕ, nat_eq, List, [], ◌∷◌, ◌++◌, take, codes, flat_map, if◌then◌else◌}
 use Rattle.std.specs.Option.{option_map_or}
 use Rattle.xml_tree.specs.Tree.{Tree}
@@ -14,7 +15,7 @@ use Rattle.doc_names.specs.declared.doc_id.Home.TheVariants.{Global, User}
 use Rattle.doc_names.specs.declared.doc_id.DocId.{DocId}
 use Rattle.doc_names.specs.Escapes.{escaped_part}
 
--- the URI of a home: the root, the usage, and `global` or `users` and the user
+-- the URI of a home: the root, the AUID, and `global` or `users` and the user
 abbrev pub home_uri : List ℕ → Auid → Home → List ℕ
 home_uri root auid Global = root ++ (codes "/" ++ (auid_text auid ++ codes "/global"))
 home_uri root auid (User xui) = root ++ (codes "/" ++ (auid_text auid ++ (codes "/users/" ++ escaped_part xui)))
@@ -23,8 +24,8 @@ home_uri root auid (User xui) = root ++ (codes "/" ++ (auid_text auid ++ (codes 
 abbrev pub bracket_escape : ℕ → List ℕ
 bracket_escape c = if nat_eq c 91 then codes "%5B" else (if nat_eq c 93 then codes "%5D" else c ∷ [])
 
--- the URI of the closest ancestor of a node that isn't there: that of the element that the greatest number of first steps selects, or that
--- of the document where not even the first step selects the root
+-- the URI of the closest ancestor of a node that doesn't exist: of the element that the longest
+-- prefix of the steps selects, or of the document where not even the first step selects the root
 abbrev pub ancestor_uri : List ℕ → DocId → Tree → List Step → List ℕ
 ancestor_uri root id t steps =
     (root ++ (codes "/" ++ id_text id))

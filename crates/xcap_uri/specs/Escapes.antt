@@ -4,7 +4,7 @@ use Rattle.std.specs.Char.{is_ascii_hexdigit}
 use Rattle.std.specs.Str.{is_utf8}
 use Rattle.percent_encoding.specs.Percent.{percent_decode}
 
--- two hexadecimal digits follow each `%` (37)
+-- each `%` (37) is followed by two hexadecimal digits
 abbrev pub has_whole_escapes : List ℕ → Bool
 has_whole_escapes [] = true
 has_whole_escapes (b ∷ []) = not (b == 37)
@@ -12,12 +12,13 @@ has_whole_escapes (b ∷ c ∷ []) = not (b == 37) && not (c == 37)
 has_whole_escapes (b ∷ high ∷ low ∷ rest) =
     if b == 37 then is_ascii_hexdigit high && (is_ascii_hexdigit low && has_whole_escapes rest) else has_whole_escapes (high ∷ low ∷ rest)
 
--- a part of an address stands for this text: its escapes are whole, and the octets that they stand for, with the others, are UTF-8
+-- a part of an address decodes to this text: its escapes are complete, and the decoded octets are
+-- UTF-8
 pub record StandsFor (part text : List ℕ) : Type 0 where
   pub stands : (has_whole_escapes part && is_utf8 (percent_decode part)) ≡ true
   pub decoded : text ≡ chars (percent_decode part)
 
--- the same of a part that may be absent
+-- a part that may be absent decodes to this text, or to none
 abbrev pub StandForOptional : Option (List ℕ) → Option (List ℕ) → Type 0
 StandForOptional None text = text ≡ None
 StandForOptional (Some part) None = ⊥

@@ -1,12 +1,13 @@
 pub mod Ancestors
-pub mod Cuts
+pub mod Delimiters
 pub mod Escapes
+pub mod Naming
 pub mod Numerals
 pub mod Order
 pub mod Queries
-pub mod readers
 pub mod Roots
 pub mod Shapes
 pub mod Targets
 pub mod Words
 pub mod inner
+pub mod readers

@@ -1,14 +1,15 @@
--- The query of an address: bindings of prefixes. RFC 4825, section 6.4: a row of pointer parts of the xmlns() scheme (W3C XPointer xmlns()
--- Scheme, section 3; parentheses and `^` are those of the W3C XPointer Framework, section 3.1):
+-- The query of an address: bindings of prefixes. RFC 4825, section 6.4: a sequence of pointer
+-- parts of the xmlns() scheme (W3C XPointer xmlns() Scheme, section 3; parentheses and `^` by the
+-- W3C XPointer Framework, section 3.1):
 --
 --     query    = *SP *( item *SP )
 --     item     = "xmlns(" NCName [ S ] "=" [ S ] spelling ")"
 --     spelling = *( char / "^(" / "^)" / "^^" / "(" spelling ")" )
 --
--- where the NCName is neither `xml` nor `xmlns`, a char is any but `(`, `)` and `^`, and the URI of an item isn't empty. White space behind
--- the `=` is all of it that of the S: no URI begins with it.
+-- where the NCName is neither `xml` nor `xmlns`, a char is any but `(`, `)` and `^`, and the URI
+-- of an item isn't empty. All white space after the `=` belongs to the S: no URI begins with it.
 use Rattle.std.specs.Prelude.{◌≡◌, ◌≢◌, ℕ, Bool, true, false, ◌||◌, ◌==◌, List, [], ◌∷◌, ◌++◌, codes, Option, None, Some}
-use Rattle.grammar_rules.specs.Rules.{AllPass}
+use Rattle.xml_grammar.specs.Rules.{AllPass}
 use Rattle.xml_tree.specs.Characters.{is_name, is_space}
 use Rattle.xml_tree.specs.declared.names.Decl.{Decl}
 
@@ -22,11 +23,11 @@ is_blank c = c == 32
 
 -- a spelling, and the URI that it stands for
 pub data SpellsUri : List ℕ → List ℕ → Type 0 where
-  -- nothing
+  -- the empty spelling
   ends : SpellsUri [] []
   -- a char stands for itself
   plain : (c : ℕ) (text uri : List ℕ) → is_bracket_or_caret c ≡ false → SpellsUri text uri → SpellsUri (c ∷ text) (c ∷ uri)
-  -- `^` (94) and a `(`, a `)` or a `^` stand for the latter
+  -- `^` (94) and then `(`, `)` or `^`: stands for the second character
   escaped : (c : ℕ) (text uri : List ℕ) → is_bracket_or_caret c ≡ true → SpellsUri text uri → SpellsUri (94 ∷ c ∷ text) (c ∷ uri)
   -- a spelling in parentheses, `(` (40) and `)` (41), which stand for themselves
   nested : (inner inside text uri : List ℕ) → SpellsUri inner inside → SpellsUri text uri → SpellsUri (40 ∷ (inner ++ (41 ∷ text))) (40 ∷ (inside ++ (41 ∷ uri)))
@@ -44,14 +45,14 @@ pub record IsItem (text : List ℕ) (binding : Decl) : Type 0 where
   pub spelled : SpellsUri spelling binding.uri
   pub begins : (first : ℕ) × (rest : List ℕ) × (binding.uri ≡ first ∷ rest) × (is_space first ≡ false)
 
--- items, each with the spaces behind it
+-- items, each with the spaces after it
 abbrev pub AreItems : List ℕ → List Decl → Type 0
 AreItems text [] = text ≡ []
 AreItems text (binding ∷ bindings) =
     (item : List ℕ) × (spaces : List ℕ) × (rest : List ℕ) × (text ≡ item ++ (spaces ++ rest)) × IsItem item binding × AllPass is_blank spaces
     × AreItems rest bindings
 
--- a query has these bindings; where there is none, there are none
+-- a query has these bindings; an absent query has none
 abbrev pub IsQuery : Option (List ℕ) → List Decl → Type 0
 IsQuery None bindings = bindings ≡ []
 IsQuery (Some text) bindings = (spaces : List ℕ) × (rest : List ℕ) × (text ≡ spaces ++ rest) × AllPass is_blank spaces × AreItems rest bindings

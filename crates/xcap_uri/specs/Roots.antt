@@ -1,16 +1,18 @@
--- Roots, under which all addresses of a server stand. RFC 4825, section 6.1: the XCAP root is an HTTP or HTTPS URI; here
+-- XCAP roots, which begin all addresses of a server. RFC 4825, section 6.1: the XCAP root is an
+-- HTTP or HTTPS URI; here
 --
 --     root      = ( "http://" / "https://" ) authority *( "/" segment )
 --     authority = 1*( ALPHA / DIGIT / "." / "-" / ":" / "[" / "]" )
 --     segment   = 1*( ALPHA / DIGIT / "-" / "." / "_" / "~" )
 --
--- with at most `GREATEST_LENGTH` octets. Neither an authority nor a segment has a `/`, so a text is a root by its pieces between the slashes.
+-- with at most `MAX_ROOT_LEN` octets. Neither an authority nor a segment has a `/`, so a text
+-- is a root by its pieces between slashes.
 use Rattle.std.specs.Prelude.{◌≡◌, ◌⊎◌, ◌≤◌, ℕ, Bool, true, false, ◌&&◌, ◌||◌, ◌==◌, nat_le, List, [], ◌∷◌, ◌++◌, codes, length, drop, flat_map, if◌then◌else◌, Option, Some, None}
 use Rattle.std.specs.List.{list_any, list_all}
 use Rattle.std.specs.Char.{is_ascii_alphanumeric}
 use Rattle.std.specs.Str.{bytes_eq}
-use Rattle.xcap_uri.specs.Cuts.{pieces}
-use Rattle.xcap_uri.specs.declared.root.TheConstants.{GREATEST_LENGTH}
+use Rattle.xcap_uri.specs.Delimiters.{pieces}
+use Rattle.xcap_uri.specs.declared.root.TheConstants.{MAX_ROOT_LEN}
 
 -- `/`
 abbrev pub slash : ℕ
@@ -29,7 +31,7 @@ is_some_of p (c ∷ cs) = p c && list_all p cs
 
 -- ---- by the grammar
 
--- segments, with a slash in front of each
+-- segments, with a slash before each
 abbrev pub path_in : List (List ℕ) → List ℕ
 path_in segments = flat_map (λ segment. slash ∷ segment) segments
 
@@ -42,22 +44,22 @@ pub record IsRoot (text authority path : List ℕ) : Type 0 where
   pub authority_is : is_some_of is_authority_char authority ≡ true
   pub path_is : path ≡ path_in segments
   pub segments_are : list_all (is_some_of is_segment_char) segments ≡ true
-  pub short : length text ≤ GREATEST_LENGTH
+  pub short : length text ≤ MAX_ROOT_LEN
 
--- ---- the same by the pieces between the slashes (`roots_are_spelled_by_the_grammar`)
+-- ---- by the pieces between slashes (`roots_are_spelled_by_the_grammar`)
 
 -- the first piece of a root
 abbrev pub is_scheme : List ℕ → Bool
 is_scheme piece = bytes_eq piece (codes "http:") || bytes_eq piece (codes "https:")
 
--- the scheme, nothing between the two slashes behind it, the authority, and the segments
+-- the scheme, nothing between the two slashes after it, the authority, and the segments
 abbrev pub are_root_parts : List (List ℕ) → Bool
 are_root_parts (scheme ∷ [] ∷ authority ∷ segments) = is_scheme scheme && is_some_of is_authority_char authority && list_all (is_some_of is_segment_char) segments
 are_root_parts _ = false
 
 -- the text is a root
 abbrev pub is_root_text : List ℕ → Bool
-is_root_text text = nat_le (length text) GREATEST_LENGTH && are_root_parts (pieces slash text)
+is_root_text text = nat_le (length text) MAX_ROOT_LEN && are_root_parts (pieces slash text)
 
 -- the third piece
 abbrev pub third : List (List ℕ) → List ℕ

@@ -1,5 +1,6 @@
--- What the segments of an address name. The document selectors are those of RFC 4825, section 6.2; what stands under `~feed` and `~flat` is
--- this server's own. The segments are those before the separator, decoded; the selector is the text behind it, where there is a separator.
+-- What the segments of an address name. The document selectors are those of RFC 4825, section 6.2;
+-- the addresses under `~feed` and `~flat` are this server's own. The segments are those before the
+-- separator, decoded; the selector is the text after the separator, if there is one.
 use Rattle.std.specs.Prelude.{◌≡◌, ◌≢◌, ◌⊎◌, ℕ, List, [], ◌∷◌, ◌++◌, encode_utf8_all, Option, None, Some, chars, codes}
 use Rattle.doc_names.specs.declared.doc_id.Auid.{Auid}
 use Rattle.doc_names.specs.declared.doc_id.Auid.TheVariants.{RlsServices}
@@ -17,7 +18,7 @@ use Rattle.xcap_uri.specs.declared.shape.Shape.TheVariants.{Document, Node, Deep
 
 -- ---- the words
 
--- the name of a usage
+-- the AUID as a word
 abbrev pub auid_word : Auid → List ℕ
 auid_word auid = chars (auid_text auid)
 
@@ -26,13 +27,13 @@ abbrev pub home_words : Home → List (List ℕ)
 home_words Global = global ∷ []
 home_words (User xui) = users ∷ xui ∷ []
 
--- the name of a mode (RFC 5875, section 4.3)
+-- the name of a diff processing mode (RFC 5875, section 4.3)
 abbrev pub mode_word : Mode → List ℕ
 mode_word NoPatching = chars (codes "no-patching")
 mode_word XcapPatching = chars (codes "xcap-patching")
 mode_word Aggregate = chars (codes "aggregate")
 
--- the number of a tag, which is a numeral
+-- the number of an etag, which is a numeral
 abbrev pub tag_spelled : List ℕ → Option ℕ
 tag_spelled text = numeral_of (encode_utf8_all text)
 
@@ -41,39 +42,41 @@ tag_spelled text = numeral_of (encode_utf8_all text)
 abbrev pub doc_of : Auid → Home → List ℕ → DocId
 doc_of auid home name = record { auid = auid; home = home; name = name }
 
--- the segments of what stands in a home: the usage, the home and these
+-- the segments of what is in a home: the AUID, the home and these
 abbrev pub in_home : Auid → Home → List (List ℕ) → List (List ℕ)
 in_home auid home rest = auid_word auid ∷ (home_words home ++ rest)
 
--- those of a notice about a user's document: `~feed`, the mode, the tag, the usage, `users`, the user and the name
+-- the segments of the feed of a user's document: `~feed`, the mode, the etag, the AUID, `users`,
+-- the user and the name
 abbrev pub in_feed : List ℕ → List ℕ → Auid → List ℕ → List ℕ → List (List ℕ)
 in_feed mode digits auid xui name = feed ∷ mode ∷ digits ∷ auid_word auid ∷ users ∷ xui ∷ name ∷ []
 
 -- segments, and the text of a selector, name a shape, which is called as the target that it means
 pub data Names (segments : List (List ℕ)) (selector : Option (List ℕ)) : Shape → Type 0 where
-  -- a usage, a home and a name: a document
+  -- an AUID, a home and a name: a document
   names_document : (auid : Auid) (home : Home) (name : List ℕ) → segments ≡ in_home auid home (name ∷ []) → selector ≡ None → Names segments selector (Document (doc_of auid home name))
-  -- the same with a selector, which isn't empty: a node of the document
+  -- likewise with a selector, which isn't empty: a node of the document
   names_node : (auid : Auid) (home : Home) (name text : List ℕ) → segments ≡ in_home auid home (name ∷ []) → selector ≡ Some text → text ≢ [] → Names segments selector (Node (doc_of auid home name) text)
-  -- with further segments: what would lie below a document, where the selector isn't looked at
+  -- with further segments: what would be below a document; its selector isn't looked at
   names_deep : (auid : Auid) (home : Home) (name next : List ℕ) (more : List (List ℕ)) → segments ≡ in_home auid home (name ∷ next ∷ more) → Names segments selector (Deep auid home)
-  -- the notice about a document of a stored usage has a mode, and no selector
+  -- the feed of a document of a stored AUID has a mode, and no selector
   names_feed : (mode : Mode) (tag : ℕ) (digits : List ℕ) (auid : Auid) (usage : Usage) (xui name : List ℕ) → segments ≡ in_feed (mode_word mode) digits auid xui name
       → tag_spelled digits ≡ Some tag → usage_of auid ≡ Some usage → selector ≡ None → Names segments selector (Feed mode tag (doc_of auid (User xui) name))
-  -- the notice about an element has `element` in place of the mode, and a selector, which isn't empty
+  -- the feed of an element has `element` in place of the mode, and a selector, which isn't empty
   names_element_feed : (tag : ℕ) (digits : List ℕ) (auid : Auid) (usage : Usage) (xui name text : List ℕ) → segments ≡ in_feed element_word digits auid xui name
       → tag_spelled digits ≡ Some tag → usage_of auid ≡ Some usage → selector ≡ Some text → text ≢ [] → Names segments selector (ElementFeed tag (doc_of auid (User xui) name) text)
-  -- `~flat`, a user, a name and the address of a service, without selector: the flat list of that service
+  -- `~flat`, a user, a name and the address of a service, without selector: the flat list of that
+  -- service
   names_flat : (xui name service : List ℕ) → segments ≡ flat ∷ xui ∷ name ∷ service ∷ [] → selector ≡ None → Names segments selector (Flat (doc_of RlsServices (User xui) name) service)
 
 -- ---- how they begin
 
--- the first of them is `~feed`, `~flat` or the name of a usage
+-- the first segment is `~feed`, `~flat` or an AUID
 abbrev pub BeginRightly : List (List ℕ) → Type 0
 BeginRightly [] = ⊥
 BeginRightly (first ∷ rest) = (first ≡ feed) ⊎ ((first ≡ flat) ⊎ ((auid : Auid) × (first ≡ auid_word auid)))
 
--- none of them is empty
+-- no segment is empty
 abbrev pub AreNamed : List (List ℕ) → Type 0
 AreNamed [] = Unit {0}
 AreNamed (segment ∷ segments) = (segment ≢ []) × AreNamed segments

@@ -9,10 +9,10 @@ use Rattle.node_select.specs.declared.fault.SelectorFault.TheVariants as selecto
 use Rattle.node_select.specs.declared.selector.Selector.{Selector}
 use Rattle.node_select.specs.declared.selector.End.{End}
 use Rattle.node_select.specs.declared.selector.End.TheVariants as ends
-use Rattle.xcap_uri.specs.Cuts.{rest_after_front, front_before, rest_behind, pieces}
+use Rattle.xcap_uri.specs.Delimiters.{rest_after_front, front_before, rest_after, pieces}
 use Rattle.xcap_uri.specs.Escapes.{StandsFor, StandForOptional}
 use Rattle.doc_names.specs.Escapes.{escaped, is_visible}
-use Rattle.doc_names.specs.Ids.{IsReadable, IsReadableHome, separator}
+use Rattle.doc_names.specs.Ids.{IsAddressable, IsReadableHome, separator}
 use Rattle.doc_names.specs.Usages.{namespace_of}
 use Rattle.doc_names.specs.declared.doc_id.Auid.{Auid}
 use Rattle.doc_names.specs.declared.doc_id.DocId.{DocId}
@@ -31,20 +31,20 @@ use Rattle.xcap_uri.specs.declared.target.Target.TheVariants.{Document, Node, De
 abbrev pub question : ℕ
 question = 63
 
--- ---- first: the target stands under the root
+-- ---- first: the target is under the root
 
--- what follows a front and a slash
+-- what comes after a front and a slash
 abbrev pub rest_under : List ℕ → List ℕ → Option (List ℕ)
 rest_under front target = option_and_then (rest_after_front (slash ∷ [])) (rest_after_front front target)
 
--- what follows the whole root or the root's path, and a slash
+-- what comes after the whole root or the root's path, and a slash
 abbrev pub under_root : List ℕ → List ℕ → Option (List ℕ)
 under_root root target = option_or (rest_under root target) (rest_under (path_of root) target)
 
 -- ---- second: its segments
 
--- these segments of a path stand for these texts up to the first one that stands for the separator; where there is that one, this stands
--- behind it
+-- these segments of a path decode to these texts up to the first one that decodes to the
+-- separator; where there is one, this comes after it
 abbrev pub AreSegments : List (List ℕ) → List (List ℕ) → Option (List ℕ) → Type 0
 AreSegments [] texts selector = (texts ≡ []) × (selector ≡ None)
 AreSegments (segment ∷ segments) [] selector = StandsFor segment separator × (selector ≡ Some (join_with_byte slash segments))
@@ -54,12 +54,12 @@ AreSegments (segment ∷ segments) (text ∷ texts) selector = StandsFor segment
 abbrev pub IsPath : List ℕ → List (List ℕ) × Option (List ℕ) → Type 0
 IsPath path x = AreSegments (pieces slash path) x.0 x.1
 
--- what stands behind the separator and its slash, query included
+-- the text after the separator and its slash, query included
 abbrev pub with_query : List ℕ → Option (List ℕ) → List ℕ
 with_query selector None = selector
 with_query selector (Some query) = selector ++ (question ∷ query)
 
--- the same with every octet escaped that isn't visible
+-- that text with every octet escaped that isn't visible
 abbrev pub raw_text : Option (List ℕ) → Option (List ℕ) → List ℕ
 raw_text None query = []
 raw_text (Some selector) query = escaped is_visible (with_query selector query)
@@ -70,7 +70,8 @@ abbrev pub target_fault : SelectorFault → UriFault
 target_fault (selectors.BadSelector place) = BadSelector
 target_fault (selectors.UnboundPrefix place) = UnboundPrefix
 
--- the answer that the text of a selector has, with these bindings; unprefixed elements are in the namespace of the usage
+-- the result for the text of a selector, with these bindings; unprefixed elements are in the
+-- namespace of the AUID
 abbrev pub IsPartAnswer : List Decl → Auid → List ℕ → Result Selector SelectorFault → Type 0
 IsPartAnswer bindings auid text = IsSelectorAnswer bindings (chars (namespace_of auid)) (encode_utf8_all text)
 
@@ -79,17 +80,17 @@ abbrev pub node_of : DocId → Result Selector SelectorFault → Result Target U
 node_of doc (Ok selector) = Ok (Node doc selector)
 node_of doc (Err fault) = Err (target_fault fault)
 
--- a notice is about an element, and about nothing else
+-- a feed of a node is about an element, and about nothing else
 abbrev pub is_element : End → Bool
 is_element ends.Element = true
 is_element _ = false
 
--- the notice about an element, or the selector's fault
+-- the feed of an element, or the selector's fault
 abbrev pub element_feed_of : ℕ → DocId → List ℕ → Result Selector SelectorFault → Result Target UriFault
 element_feed_of tag doc raw (Ok selector) = if is_element selector.end then Ok (ElementFeed tag doc selector raw) else Err BadSelector
 element_feed_of tag doc raw (Err fault) = Err (target_fault fault)
 
--- what a shape means, with these bindings and what stands behind the separator
+-- what a shape means, with these bindings and the text after the separator
 abbrev pub Means : List Decl → List ℕ → Shape → Result Target UriFault → Type 0
 Means bindings raw (shapes.Document doc) answer = answer ≡ Ok (Document doc)
 Means bindings raw (shapes.Node doc text) answer = (read : Result Selector SelectorFault) × IsPartAnswer bindings doc.auid text read × (answer ≡ node_of doc read)
@@ -109,23 +110,23 @@ NamedAnswer segments selector query raw =
     Where (IsQuery query) BadQuery (λ bindings.
     Means bindings raw shape))))
 
--- what stands under the root: a path, and a query behind the first `?`
+-- what comes after the root: a path, and a query after the first `?`
 abbrev pub RestAnswer : List ℕ → Result Target UriFault → Type 0
 RestAnswer rest =
     Where (IsPath (front_before question rest)) BadEscape (λ path.
     Where (StandForOptional path.1) BadEscape (λ selector.
-    Where (StandForOptional (rest_behind question rest)) BadEscape (λ query.
-    NamedAnswer path.0 selector query (raw_text path.1 (rest_behind question rest)))))
+    Where (StandForOptional (rest_after question rest)) BadEscape (λ query.
+    NamedAnswer path.0 selector query (raw_text path.1 (rest_after question rest)))))
 
--- the answer for a target under a root: what it means, or the first of its faults
-abbrev pub TargetAnswer : List ℕ → List ℕ → Result Target UriFault → Type 0
-TargetAnswer root target = Where (λ rest. under_root root target ≡ Some rest) OutsideRoot RestAnswer
+-- the result for a target under a root: its meaning, or the first of its faults
+abbrev pub TargetResult : List ℕ → List ℕ → Result Target UriFault → Type 0
+TargetResult root target = Where (λ rest. under_root root target ≡ Some rest) OutsideRoot RestAnswer
 
--- the ids in a target can be named by an address
+-- an address can name the ids in a target
 abbrev pub IsReadableTarget : Target → Type 0
-IsReadableTarget (Document doc) = IsReadable doc
-IsReadableTarget (Node doc selector) = IsReadable doc
+IsReadableTarget (Document doc) = IsAddressable doc
+IsReadableTarget (Node doc selector) = IsAddressable doc
 IsReadableTarget (Deep auid home) = IsReadableHome home
-IsReadableTarget (Feed mode tag doc) = IsReadable doc
-IsReadableTarget (ElementFeed tag doc selector raw) = IsReadable doc
-IsReadableTarget (Flat doc service) = IsReadable doc
+IsReadableTarget (Feed mode tag doc) = IsAddressable doc
+IsReadableTarget (ElementFeed tag doc selector raw) = IsAddressable doc
+IsReadableTarget (Flat doc service) = IsAddressable doc

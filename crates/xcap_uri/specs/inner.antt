@@ -1,4 +1,4 @@
--- What private functions and proofs speak of. No clause of a public call needs it.
-pub mod Spelled
-pub mod Gives
+-- Definitions for private functions and proofs. No clause of a public call needs them.
 pub mod Numerals
+pub mod Results
+pub mod Spelled

@@ -1,10 +1,10 @@
--- How targets are read from left to right: what the code and the proofs speak of. What reading a target answers is
--- what the rules of targets say (`TargetAnswer`): of public clauses only those of laws lead here.
+-- Targets read from left to right, as code and proofs read them. That this reading follows the
+-- rules is proved.
 pub mod Escapes
 pub mod Queries
 pub mod Roots
 pub mod Shapes
+pub mod Steps
 pub mod Targets
 pub mod UriSteps
 pub mod Words
-pub mod Steps

@@ -1,6 +1,6 @@
-//! The URIs that a conflict document names where a node has no parent (RFC 4825, section 11).
+//! The URIs in an error document for a missing parent (RFC 4825, section 11).
 ghost use Rattle.std.specs.Prelude.{◌≡◌, ◌≤◌, ℕ, List, [], ◌∷◌, ◌++◌, IfOk, OnOk, chars, codes, flat_map, take};
-ghost use Rattle.xml_tree.specs.Limits.{most_levels};
+ghost use Rattle.xml_tree.specs.Limits.{max_levels};
 ghost use Rattle.xml_tree.specs.Tree.{height};
 ghost use Rattle.xml_tree.specs.PathTexts.{path_text};
 ghost use Rattle.node_select.specs.Selection.{longest_in, selected_in};
@@ -14,9 +14,9 @@ use std::alloc::Global;
 use tree_text::no_text;
 use xml_tree::{Element, NoMemory, Path, Text, print_path};
 
-// The URI of what has this path under the root.
+// The root, a slash and this path.
 fn uri_under(alloc: Global, root: &Root, path: &str) -> Result<Text, NoMemory>
-    ensures path_under_the_root { IfOk result (λ uri. uri ≡ root.now ++ (codes "/" ++ chars path.now)) }
+    ensures ok { IfOk result (λ uri. uri ≡ root.now ++ (codes "/" ++ chars path.now)) }
 {
     let mut uri = Text::from(alloc, root.text())?;
     uri.push('/')?;
@@ -26,16 +26,18 @@ fn uri_under(alloc: Global, root: &Root, path: &str) -> Result<Text, NoMemory>
 
 // A text without its last character.
 fn without_last(text: &str) -> &str
-    ensures leaves_out_the_last { (front : List ℕ) (c : ℕ) → chars text.now ≡ front ++ c ∷ [] → chars result.now ≡ front }
+    ensures drops_last { (front : List ℕ) (c : ℕ) → chars text.now ≡ front ++ c ∷ []
+        → chars result.now ≡ front }
 {
     let mut letters = text.chars();
     let _ = letters.next_back();
     letters.as_str()
 }
 
-// The id of a document without a name, which is that of its home and a slash.
+// The id of a document with an empty name: its home's and a slash.
 fn unnamed_id(alloc: Global, auid: Auid, home: &Home) -> Result<Text, NoMemory>
-    ensures id_without_a_name { IfOk result (λ id. id ≡ id_text (record { auid = auid; home = home.now; name = [] })) }
+    ensures ok { IfOk result
+        (λ id. id ≡ id_text (record { auid = auid; home = home.now; name = [] })) }
 {
     let home = home.copy(alloc)?;
     let unnamed = DocId {
@@ -46,12 +48,12 @@ fn unnamed_id(alloc: Global, auid: Auid, home: &Home) -> Result<Text, NoMemory>
     print_doc_id(alloc, &unnamed)
 }
 
-/// The URI of a home: the root, the usage, and `global` or `users` and the user, escaped.
+/// The URI of a home: the root, the AUID, and `global` or `users` and the user, escaped.
 ///
 /// # Errors
-/// `NoMemory` for want of memory.
+/// `NoMemory` when out of memory.
 pub fn home_uri(alloc: Global, root: &Root, auid: Auid, home: &Home) -> Result<Text, NoMemory>
-    ensures uri_of_the_home { IfOk result (λ uri. uri ≡ home_uri root.now auid home.now) }
+    ensures ok { IfOk result (λ uri. uri ≡ home_uri root.now auid home.now) }
 {
     let id = unnamed_id(alloc, auid, home)?;
     uri_under(alloc, root, without_last(id.as_str()))
@@ -59,16 +61,16 @@ pub fn home_uri(alloc: Global, root: &Root, auid: Auid, home: &Home) -> Result<T
 
 // The URI of a document.
 fn document_uri(alloc: Global, root: &Root, doc: &DocId) -> Result<Text, NoMemory>
-    ensures uri_of_the_document { IfOk result (λ uri. uri ≡ root.now ++ (codes "/" ++ id_text doc.now)) }
+    ensures ok { IfOk result (λ uri. uri ≡ root.now ++ (codes "/" ++ id_text doc.now)) }
 {
     let id = print_doc_id(alloc, doc)?;
     uri_under(alloc, root, id.as_str())
 }
 
-// Adds a character of a node selector.
+// Appends a character of a node selector.
 #[tactic(auto, using(crate::proofs::Letters::letters))]
 fn push_escaped(uri: &mut Text, c: char) -> Result<(), NoMemory>
-    ensures adds_the_escaped_character { OnOk result (uri.new ≡ uri.old ++ bracket_escape c) }
+    ensures appended { OnOk result (uri.new ≡ uri.old ++ bracket_escape c) }
 {
     match c {
         '[' => uri.push_str("%5B"),
@@ -77,9 +79,10 @@ fn push_escaped(uri: &mut Text, c: char) -> Result<(), NoMemory>
     }
 }
 
-// Adds a node selector.
+// Appends a node selector.
 fn push_selector(uri: &mut Text, selector: &str) -> Result<(), NoMemory>
-    ensures adds_the_escaped_selector { OnOk result (uri.new ≡ uri.old ++ flat_map bracket_escape (chars selector.now)) }
+    ensures appended { OnOk result
+        (uri.new ≡ uri.old ++ flat_map bracket_escape (chars selector.now)) }
 {
     for c in selector.chars() {
         push_escaped(uri, c)?;
@@ -87,30 +90,33 @@ fn push_selector(uri: &mut Text, selector: &str) -> Result<(), NoMemory>
     Ok(())
 }
 
-// Adds what follows the document's URI in that of the element at a path.
+// Appends what comes after the document's URI in the URI of the element at a path.
 #[tactic(auto, using(crate::proofs::Letters::letters, std::proofs::Common::append_assoc))]
 fn push_path(alloc: Global, uri: &mut Text, path: &Path) -> Result<(), NoMemory>
-    ensures adds_the_escaped_path { OnOk result (uri.new ≡ uri.old ++ (codes "/~~/" ++ flat_map bracket_escape (path_text path.now))) }
+    ensures appended { OnOk result
+        (uri.new ≡ uri.old ++ (codes "/~~/" ++ flat_map bracket_escape (path_text path.now))) }
 {
     let selector = print_path(alloc, path)?;
     uri.push_str("/~~/")?;
     push_selector(uri, selector.as_str())
 }
 
-// The place of the element that the greatest number of first steps selects.
+// The path of the element that the longest prefix of the steps selects.
 fn closest(alloc: Global, tree: &Element, selector: &Selector) -> Option<Path>
-    requires { height tree.now ≤ most_levels }
-    ensures place_of_the_closest { result ≡ selected_in (take (longest_in selector.now.steps tree.now) selector.now.steps) tree.now }
+    requires { height tree.now ≤ max_levels }
+    ensures exact { result
+        ≡ selected_in (take (longest_in selector.now.steps tree.now) selector.now.steps) tree.now }
 {
     let matched = longest_match(alloc, tree, selector);
     select_steps(alloc, tree, &selector.steps.as_slice()[..matched])
 }
 
-/// The URI of the closest ancestor of a node that isn't there: of the element that the greatest number of first steps selects, or of the
-/// document where not even the first step selects the root. The element is named by its place, as `*/*[2]` with its brackets escaped.
+/// The URI of the closest ancestor of a node that doesn't exist: of the element that the longest
+/// prefix of the steps selects, or of the document where not even the first step selects the root.
+/// The element is named by its position, as `*/*[2]` with its brackets escaped.
 ///
 /// # Errors
-/// `NoMemory` for want of memory.
+/// `NoMemory` when out of memory.
 pub fn ancestor_uri(
     alloc: Global,
     root: &Root,
@@ -118,8 +124,9 @@ pub fn ancestor_uri(
     tree: &Element,
     selector: &Selector,
 ) -> Result<Text, NoMemory>
-    requires { height tree.now ≤ most_levels }
-    ensures uri_of_the_ancestor { IfOk result (λ uri. uri ≡ ancestor_uri root.now doc.now tree.now selector.now.steps) }
+    requires { height tree.now ≤ max_levels }
+    ensures ok { IfOk result
+        (λ uri. uri ≡ ancestor_uri root.now doc.now tree.now selector.now.steps) }
 {
     let mut uri = document_uri(alloc, root, doc)?;
     if let Some(path) = closest(alloc, tree, selector) {

@@ -1,7 +1,7 @@
-//! Escapes in parts of addresses (RFC 3986, section 2.1).
+//! Percent-escapes in parts of addresses (RFC 3986, section 2.1).
 ghost use Rattle.std.specs.Prelude.{◌≡◌, option_map};
 ghost use Rattle.xcap_uri.specs.Escapes.{has_whole_escapes};
-ghost use Rattle.xcap_uri.specs.inner.Gives.{StatedOr};
+ghost use Rattle.xcap_uri.specs.inner.Results.{StatedOr};
 ghost use Rattle.xcap_uri.specs.readers.Escapes.{optional_text_read, text_read};
 
 use crate::fault::UriFault;
@@ -9,9 +9,9 @@ use percent_encoding::{DecodeError, percent_decode};
 use std::alloc::Global;
 use xml_tree::{ReadError, Text};
 
-/// Whether two hexadecimal digits follow each `%`.
+/// Whether each `%` is followed by two hexadecimal digits.
 pub fn has_whole_escapes(part: &[u8]) -> bool
-    ensures tells_whether_all_are_whole { result ≡ has_whole_escapes part.now }
+    ensures exact { result ≡ has_whole_escapes part.now }
 {
     let mut rest = part;
     loop {
@@ -29,13 +29,14 @@ pub fn has_whole_escapes(part: &[u8]) -> bool
     }
 }
 
-/// The text that a part of an address stands for.
+/// Decodes a part of an address.
 ///
 /// # Errors
-/// `BadEscape` exactly where a `%` isn't followed by two hexadecimal digits, or the octets aren't UTF-8; `NoMemory` for want of memory.
+/// `BadEscape` exactly where a `%` isn't followed by two hexadecimal digits, or the octets aren't
+/// UTF-8; `NoMemory` when out of memory.
 #[tactic(auto, using(crate::proofs::Escaped::read_as_text, crate::proofs::Escaped::read_as_no_text, crate::proofs::Escaped::read_as_no_escapes))]
 pub fn read_part(alloc: Global, part: &[u8]) -> Result<Text, ReadError<UriFault>>
-    ensures reads_the_part { StatedOr ReadError.NoMemory (text_read part.now) result }
+    ensures exact { StatedOr ReadError.NoMemory (text_read part.now) result }
 {
     if !has_whole_escapes(part) {
         return Err(ReadError::Fault(UriFault::BadEscape));
@@ -50,7 +51,7 @@ pub fn read_part(alloc: Global, part: &[u8]) -> Result<Text, ReadError<UriFault>
     }
 }
 
-/// The same of a part that may be absent.
+/// Decodes a part that may be absent.
 ///
 /// # Errors
 /// As for `read_part`.
@@ -58,7 +59,8 @@ pub fn read_optional_part(
     alloc: Global,
     part: Option<&[u8]>,
 ) -> Result<Option<Text>, ReadError<UriFault>>
-    ensures reads_the_part_if_it_is_there { StatedOr ReadError.NoMemory (optional_text_read (option_map (λ x. x.now) part.entry)) result }
+    ensures reads_optional_part { StatedOr ReadError.NoMemory
+        (optional_text_read (option_map (λ x. x.now) part.entry)) result }
 {
     match part {
         None => Ok(None),

@@ -6,14 +6,15 @@ use node_select::SelectorFault;
 use thiserror::Error;
 use xml_tree::ReadError;
 
-/// Why a target is refused. Of several faults the first one in this order is told: `OutsideRoot`, `BadEscape`, then `BadShape` or
-/// `UnknownAuid`, then `BadQuery`, then `BadSelector` or `UnboundPrefix`.
+/// Why a target is refused. Of several faults the first in this order is reported: `OutsideRoot`,
+/// `BadEscape`, then `BadShape` or `UnknownAuid`, then `BadQuery`, then `BadSelector` or
+/// `UnboundPrefix`.
 #[derive(Clone, Copy, Debug, Drop, PartialEq, Eq, Error)]
 pub enum UriFault {
-    /// It doesn't stand under the root.
+    /// It is not under the root.
     #[error("outside the root")]
     OutsideRoot,
-    /// Its first segment is no usage.
+    /// Its first segment is no AUID.
     #[error("unknown application usage")]
     UnknownAuid,
     /// Its segments name nothing.
@@ -22,20 +23,20 @@ pub enum UriFault {
     /// A `%` without two hexadecimal digits, or octets that aren't UTF-8.
     #[error("bad escape")]
     BadEscape,
-    /// The query isn't a row of bindings.
+    /// The query isn't a sequence of bindings.
     #[error("bad query")]
     BadQuery,
-    /// A prefix in the selector is bound nowhere.
+    /// A prefix in the selector is not bound.
     #[error("unbound prefix")]
     UnboundPrefix,
-    /// The text behind the separator is no selector.
+    /// The text after the separator is no selector.
     #[error("bad selector")]
     BadSelector,
 }
 
-/// What an error of the selector says of the target.
+/// The target's fault for a fault of its selector.
 pub fn uri_error(error: ReadError<SelectorFault>) -> ReadError<UriFault>
-    ensures tells_what_was_wrong { result ≡ error_of error }
+    ensures exact { result ≡ error_of error }
 {
     match error {
         ReadError::Fault(SelectorFault::BadSelector(_)) => ReadError::Fault(UriFault::BadSelector),

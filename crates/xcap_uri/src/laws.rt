@@ -2,11 +2,11 @@
 ghost use Rattle.std.specs.Prelude.{◌≡◌, ◌↔◌, ◌++◌, ◌∷◌, ℕ, true, List, Option, Result, All, Ok};
 ghost use Rattle.xml_tree.specs.declared.names.Decl.{Decl};
 ghost use Rattle.xml_tree.specs.Memory.{Answered};
-ghost use Rattle.doc_names.specs.Ids.{IsReadable, id_text};
+ghost use Rattle.doc_names.specs.Ids.{IsAddressable, id_text};
 ghost use Rattle.xcap_uri.specs.Queries.{IsQuery};
 ghost use Rattle.xcap_uri.specs.Roots.{IsRoot, authority_of, path_of, slash, is_root_text};
 ghost use Rattle.xcap_uri.specs.inner.Spelled.{IsOctet, IsSpelled, IsSpelledHome};
-ghost use Rattle.xcap_uri.specs.Targets.{IsReadableTarget, TargetAnswer};
+ghost use Rattle.xcap_uri.specs.Targets.{IsReadableTarget, TargetResult};
 ghost use Rattle.xcap_uri.specs.declared.fault.UriFault.{UriFault};
 ghost use Rattle.xcap_uri.specs.declared.target.Target.{Target};
 ghost use Rattle.xcap_uri.specs.declared.target.Target.TheVariants as targets;
@@ -19,19 +19,19 @@ use xml_tree::Text;
 
 // Octets are small numbers.
 fn are_octets(octets: &[u8])
-    ensures each_is_an_octet { All IsOctet octets.now }
+    ensures all_octets { All IsOctet octets.now }
 {}
 
-// A text is spelled by its octets.
+// Every text is the decoding of some octets.
 fn is_spelled(text: &Text)
-    ensures spelled_by_its_octets { IsSpelled text.now }
+    ensures spelled_text { IsSpelled text.now }
 {
     are_octets(text.as_str().as_bytes());
 }
 
-// So is the user of a home.
+// The user of a home is the decoding of some octets.
 fn is_spelled_home(home: &Home)
-    ensures user_spelled_by_its_octets { IsSpelledHome home.now }
+    ensures spelled_home { IsSpelledHome home.now }
 {
     match home {
         Home::Global => {}
@@ -39,35 +39,48 @@ fn is_spelled_home(home: &Home)
     }
 }
 
-/// The printed id of a document that an address can name reads back as that document, behind the path of a root and a slash and behind the
-/// whole root and a slash (RFC 4825, section 6.2).
+/// A law: the printed id of a document that an address can name reads back as that document, after
+/// the path of a root and a slash and after the whole root and a slash (RFC 4825, section 6.2).
 pub fn printed_id_reads_back(root: &Root, doc: &DocId)
-    ensures below_the_path_of_the_root { IsReadable doc.now → TargetAnswer root.now (path_of root.now ++ (slash ∷ id_text doc.now)) (Ok (targets.Document doc.now)) }
-    ensures below_the_whole_root { IsReadable doc.now → TargetAnswer root.now (root.now ++ (slash ∷ id_text doc.now)) (Ok (targets.Document doc.now)) }
+    ensures below_root_path { IsAddressable doc.now
+        → TargetResult root.now (path_of root.now ++ (slash ∷ id_text doc.now))
+        (Ok (targets.Document doc.now)) }
+    ensures below_whole_root { IsAddressable doc.now
+        → TargetResult root.now (root.now ++ (slash ∷ id_text doc.now))
+        (Ok (targets.Document doc.now)) }
 {
     let _text = root.text();
     is_spelled_home(&doc.home);
     is_spelled(&doc.name);
 }
 
-/// By the rules each target has one answer under a root: what it means, or the first of its faults (RFC 4825, section 6). It is what reading
-/// from left to right gives, and an address can name each id in it.
+/// A law: by the rules each target has one result under a root: its meaning, or the first of its
+/// faults (RFC 4825, section 6). It is what reading from left to right gives, and an address can
+/// name each id in it.
 pub fn targets_have_one_answer()
-    ensures there_is_one { (root target : List ℕ) → (answer : Result Target UriFault) × TargetAnswer root target answer }
-    ensures there_is_no_other { (root target : List ℕ) (a b : Result Target UriFault) → TargetAnswer root target a → TargetAnswer root target b → a ≡ b }
-    ensures what_is_read_is_the_answer { (root target : List ℕ) → Answered (TargetAnswer root target) (target_read root target) }
-    ensures ids_are_readable { (root target : List ℕ) (t : Target) → TargetAnswer root target (Ok t) → IsReadableTarget t }
+    ensures exists_one { (root target : List ℕ) → (answer : Result Target UriFault)
+        × TargetResult root target answer }
+    ensures at_most_one { (root target : List ℕ) (a b : Result Target UriFault)
+        → TargetResult root target a → TargetResult root target b → a ≡ b }
+    ensures answer_is_exact { (root target : List ℕ)
+        → Answered (TargetResult root target) (target_read root target) }
+    ensures ids_are_readable { (root target : List ℕ) (t : Target) → TargetResult root target (Ok t)
+        → IsReadableTarget t }
 {}
 
-/// By the rules a query has at most one list of bindings, and it is what reading from left to right gives; where that gives none, there is
-/// none (RFC 4825, section 6.4).
+/// A law: by the rules a query has at most one list of bindings, and it is what reading from left
+/// to right gives; where that gives none, there is none (RFC 4825, section 6.4).
 pub fn queries_have_one_reading()
-    ensures what_is_read { (query : Option (List ℕ)) (bindings : List Decl) → IsQuery query bindings ↔ (optional_bindings_read query ≡ Ok bindings) }
-    ensures there_is_no_other { (query : Option (List ℕ)) (a b : List Decl) → IsQuery query a → IsQuery query b → a ≡ b }
+    ensures read_iff { (query : Option (List ℕ)) (bindings : List Decl)
+        → IsQuery query bindings ↔ (optional_bindings_read query ≡ Ok bindings) }
+    ensures at_most_one { (query : Option (List ℕ)) (a b : List Decl) → IsQuery query a
+        → IsQuery query b → a ≡ b }
 {}
 
-/// A text is a root by its pieces between the slashes exactly where the grammar spells it as one, with this authority and this path and no
-/// others (RFC 4825, section 6.1).
+/// A law: a text is a root by its pieces between slashes exactly where it is one by the grammar,
+/// with this authority and path and no others (RFC 4825, section 6.1).
 pub fn roots_are_spelled_by_the_grammar()
-    ensures root_by_its_pieces_alone { (text authority path : List ℕ) → IsRoot text authority path ↔ ((is_root_text text ≡ true) × (authority ≡ authority_of text) × (path ≡ path_of text)) }
+    ensures root_by_pieces { (text authority path : List ℕ)
+        → IsRoot text authority path
+        ↔ ((is_root_text text ≡ true) × (authority ≡ authority_of text) × (path ≡ path_of text)) }
 {}

@@ -1,18 +1,18 @@
-//! Numerals, as tags and counts are written: digits alone, of which the first is not 0.
+//! Numerals, as etags and counts are written: only digits, of which the first is not 0.
 ghost use Rattle.std.specs.Prelude.{◌≡◌};
 ghost use Rattle.xcap_uri.specs.Numerals.{begins_with_digit, numeral_of};
 ghost use Rattle.xcap_uri.specs.inner.Numerals.{number_behind};
 
 // Whether the first octet is a digit other than 0.
 fn begins_with_digit(octets: &[u8]) -> bool
-    ensures tells_whether_a_digit_begins { result ≡ begins_with_digit octets.now }
+    ensures exact { result ≡ begins_with_digit octets.now }
 {
     matches!(octets, [b'1'..=b'9', ..])
 }
 
-// The number that digits are worth, if it has at most 64 bits.
+// The number that digits write, if it has at most 64 bits.
 fn number_of(octets: &[u8]) -> Option<u64>
-    ensures number_of_the_digits { result ≡ number_behind 0 octets.now }
+    ensures exact { result ≡ number_behind 0 octets.now }
 {
     let mut number: u64 = 0;
     for &b in octets {
@@ -25,9 +25,9 @@ fn number_of(octets: &[u8]) -> Option<u64>
     Some(number)
 }
 
-/// The number of a numeral, if it is one and has at most 64 bits. Takes no memory.
+/// The number of a numeral, if it is one and has at most 64 bits. Does not allocate.
 pub fn numeral(octets: &[u8]) -> Option<u64>
-    ensures number_of_the_numeral { result ≡ numeral_of octets.now }
+    ensures exact { result ≡ numeral_of octets.now }
 {
     if !begins_with_digit(octets) {
         return None;

@@ -1,11 +1,12 @@
-//! Queries of addresses (RFC 4825, section 6.4): rows of `xmlns()` parts, which bind prefixes.
+//! Queries of addresses (RFC 4825, section 6.4): sequences of `xmlns()` parts, which bind
+//! prefixes.
 ghost use Rattle.std.specs.Prelude.{◌≡◌, ◌<◌, ◌+◌, ◌^◌, ◌∷◌, length, option_map};
 ghost use Rattle.std.specs.Str.{bytes_eq};
-ghost use Rattle.grammar_rules.specs.Reading.{after_front, head_is};
+ghost use Rattle.xml_grammar.specs.Reading.{after_front, head_is};
 ghost use Rattle.xml_tree.specs.Characters.{is_name_char, is_name_start, is_space};
 ghost use Rattle.tree_text.specs.readers.Runs.{run_len};
-ghost use Rattle.xcap_uri.specs.Cuts.{rest_after_front};
-ghost use Rattle.xcap_uri.specs.inner.Gives.{Gives, StatedOr};
+ghost use Rattle.xcap_uri.specs.Delimiters.{rest_after_front};
+ghost use Rattle.xcap_uri.specs.inner.Results.{Gives, StatedOr};
 ghost use Rattle.xcap_uri.specs.Queries.{is_blank, is_bracket_or_caret};
 ghost use Rattle.xcap_uri.specs.readers.Queries.{bindings_read, equals_past, is_reserved, item_read, optional_bindings_read, prefix_read, free_prefix_read, uri_chars, uri_read};
 ghost use Rattle.xcap_uri.specs.readers.UriSteps.{IsShorter, StepsTo, item_in};
@@ -13,20 +14,20 @@ ghost use Rattle.xcap_uri.specs.readers.UriSteps.{IsShorter, StepsTo, item_in};
 use crate::fault::UriFault;
 use node_select::Bindings;
 use std::alloc::Global;
-use tree_text::{decoded, no_text, text_of};
+use tree_text::{chars_of_text, no_text, text_of};
 use xml_tree::{ReadError, Text, is_name_char, is_name_start, is_space};
 
-// What comes next in the URI of an item.
+// The next step in the URI of an item.
 enum UriStep<'a> {
-    // The end, and what follows the item.
+    // The end, and what comes after the item.
     Ends(&'a [char]),
-    // A character, how many `(` are open then, and what follows it.
+    // A character, how many `(` are open then, and what comes after it.
     Goes(char, usize, &'a [char]),
-    // Nothing that may stand there.
+    // Nothing that is allowed there.
     Breaks,
 }
 
-// A binding, and what follows it.
+// A binding, and what comes after it.
 #[derive(Drop)]
 struct Item<'a> {
     prefix: Text,
@@ -34,10 +35,10 @@ struct Item<'a> {
     rest: &'a [char],
 }
 
-// How much white space stands in front.
+// The number of leading white space characters.
 #[tactic(auto, using(tree_text::proofs::RunLemmas::run_more, tree_text::proofs::RunLemmas::run_done))]
 fn space_len(text: &[char]) -> usize
-    ensures counts_the_white_space { result ≡ run_len is_space text.now }
+    ensures exact { result ≡ run_len is_space text.now }
 {
     let mut len = 0;
     for &c in text {
@@ -49,10 +50,10 @@ fn space_len(text: &[char]) -> usize
     len
 }
 
-// How many spaces stand in front.
+// The number of leading spaces.
 #[tactic(auto, using(tree_text::proofs::RunLemmas::run_more, tree_text::proofs::RunLemmas::run_done))]
 fn blank_len(text: &[char]) -> usize
-    ensures counts_the_spaces { result ≡ run_len is_blank text.now }
+    ensures exact { result ≡ run_len is_blank text.now }
 {
     let mut len = 0;
     for &c in text {
@@ -64,10 +65,10 @@ fn blank_len(text: &[char]) -> usize
     len
 }
 
-// How many characters of names stand in front.
+// The number of leading name characters.
 #[tactic(auto, using(tree_text::proofs::RunLemmas::run_more, tree_text::proofs::RunLemmas::run_done))]
 fn name_len(text: &[char]) -> usize
-    ensures counts_the_name_characters { result ≡ run_len is_name_char text.now }
+    ensures exact { result ≡ run_len is_name_char text.now }
 {
     let mut len = 0;
     for &c in text {
@@ -79,23 +80,23 @@ fn name_len(text: &[char]) -> usize
     len
 }
 
-// What follows the white space in front.
+// The text after leading white space.
 fn past_space(text: &[char]) -> &[char]
-    ensures rest_behind_white_space { result.now ≡ after_front is_space text.now }
+    ensures exact { result.now ≡ after_front is_space text.now }
 {
     text.split_at(space_len(text)).1
 }
 
-// What follows the spaces in front.
+// The text after leading spaces.
 fn past_blanks(text: &[char]) -> &[char]
-    ensures rest_behind_spaces { result.now ≡ after_front is_blank text.now }
+    ensures exact { result.now ≡ after_front is_blank text.now }
 {
     text.split_at(blank_len(text)).1
 }
 
-// What follows a word, where the text begins with it.
+// The text after `word`, if it begins with it.
 fn after<'a>(text: &'a [char], word: &[char]) -> Option<&'a [char]>
-    ensures rest_behind_the_word { option_map (λ x. x.now) result ≡ rest_after_front word.now text.now }
+    ensures exact { option_map (λ x. x.now) result ≡ rest_after_front word.now text.now }
 {
     let mut rest = text;
     for &expected in word {
@@ -107,9 +108,9 @@ fn after<'a>(text: &'a [char], word: &[char]) -> Option<&'a [char]>
     Some(rest)
 }
 
-// What follows `=`, with white space round it.
+// The text after `=` and the white space around it.
 fn past_equals(text: &[char]) -> Result<&[char], ReadError<UriFault>>
-    ensures reads_past_the_equals_sign { Gives (λ x. x.now) result (equals_past text.now) }
+    ensures reads_rule { Gives (λ x. x.now) result (equals_past text.now) }
 {
     match after(past_space(text), &['=']) {
         None => Err(ReadError::Fault(UriFault::BadQuery)),
@@ -117,9 +118,9 @@ fn past_equals(text: &[char]) -> Result<&[char], ReadError<UriFault>>
     }
 }
 
-// Whether a name begins the text.
+// Whether the text begins with a name.
 fn begins_name(text: &[char]) -> bool
-    ensures tells_whether_a_name_begins { result ≡ head_is is_name_start text.now }
+    ensures exact { result ≡ head_is is_name_start text.now }
 {
     match text {
         [] => false,
@@ -127,9 +128,9 @@ fn begins_name(text: &[char]) -> bool
     }
 }
 
-// A name, and what follows it.
+// A name, and what comes after it.
 fn name(text: &[char]) -> Result<(&[char], &[char]), ReadError<UriFault>>
-    ensures reads_a_name { Gives (λ x. (x.0.now, x.1.now)) result (prefix_read text.now) }
+    ensures reads_rule { Gives (λ x. (x.0.now, x.1.now)) result (prefix_read text.now) }
 {
     if !begins_name(text) {
         return Err(ReadError::Fault(UriFault::BadQuery));
@@ -137,16 +138,16 @@ fn name(text: &[char]) -> Result<(&[char], &[char]), ReadError<UriFault>>
     Ok(text.split_at(name_len(text)))
 }
 
-// Whether it is this word.
+// Whether the text is this word.
 fn is_word(text: &[char], word: &[char]) -> bool
-    ensures tells_whether_it_is_the_word { result ≡ bytes_eq text.now word.now }
+    ensures exact { result ≡ bytes_eq text.now word.now }
 {
     text == word
 }
 
-// Whether an item may not bind the prefix.
+// Whether an item may not bind this prefix.
 fn is_reserved(prefix: &[char]) -> bool
-    ensures tells_whether_it_is_reserved { result ≡ is_reserved prefix.now }
+    ensures exact { result ≡ is_reserved prefix.now }
 {
     if is_word(prefix, &['x', 'm', 'l']) {
         return true;
@@ -154,17 +155,17 @@ fn is_reserved(prefix: &[char]) -> bool
     is_word(prefix, &['x', 'm', 'l', 'n', 's'])
 }
 
-// Whether `^` escapes it.
+// Whether `^` escapes this character.
 fn is_escapable(c: char) -> bool
-    ensures tells_whether_it_is_escaped { result ≡ is_bracket_or_caret c }
+    ensures exact { result ≡ is_bracket_or_caret c }
 {
     matches!(c, '(' | ')' | '^')
 }
 
-// What follows a `^`.
+// The step after a `^`.
 fn escaped_step(depth: usize, rest: &[char]) -> UriStep<'_>
-    ensures steps_as_the_rule_does { StepsTo result (uri_chars depth (94 ∷ rest.now)) }
-    ensures rest_is_shorter { IsShorter depth (94 ∷ rest.now) result }
+    ensures steps_by_rule { StepsTo result (uri_chars depth (94 ∷ rest.now)) }
+    ensures rest_shrinks { IsShorter depth (94 ∷ rest.now) result }
 {
     match rest {
         [c, rest @ ..] if is_escapable(*c) => UriStep::Goes(*c, depth, rest),
@@ -172,10 +173,10 @@ fn escaped_step(depth: usize, rest: &[char]) -> UriStep<'_>
     }
 }
 
-// What a `)` is where so many `(` are open.
+// The step of a `)`, where `depth` parentheses are open.
 fn closing_step(depth: usize, rest: &[char]) -> UriStep<'_>
-    ensures steps_as_the_rule_does { StepsTo result (uri_chars depth (41 ∷ rest.now)) }
-    ensures rest_is_shorter { IsShorter depth (41 ∷ rest.now) result }
+    ensures steps_by_rule { StepsTo result (uri_chars depth (41 ∷ rest.now)) }
+    ensures rest_shrinks { IsShorter depth (41 ∷ rest.now) result }
 {
     if depth == 0 {
         return UriStep::Ends(rest);
@@ -183,11 +184,11 @@ fn closing_step(depth: usize, rest: &[char]) -> UriStep<'_>
     UriStep::Goes(')', depth - 1, rest)
 }
 
-// What a character is where so many `(` are open.
+// The step of a character, where `depth` parentheses are open.
 fn char_step(depth: usize, c: char, rest: &[char]) -> UriStep<'_>
     requires { depth + 1 < 2 ^ 64 }
-    ensures steps_as_the_rule_does { StepsTo result (uri_chars depth (c ∷ rest.now)) }
-    ensures rest_is_shorter { IsShorter depth (c ∷ rest.now) result }
+    ensures steps_by_rule { StepsTo result (uri_chars depth (c ∷ rest.now)) }
+    ensures rest_shrinks { IsShorter depth (c ∷ rest.now) result }
 {
     match c {
         '^' => escaped_step(depth, rest),
@@ -197,11 +198,11 @@ fn char_step(depth: usize, c: char, rest: &[char]) -> UriStep<'_>
     }
 }
 
-// What comes next where so many `(` are open.
+// The next step, where `depth` parentheses are open.
 fn uri_step(depth: usize, text: &[char]) -> UriStep<'_>
     requires { depth + length text.now < 2 ^ 64 }
-    ensures steps_as_the_rule_does { StepsTo result (uri_chars depth text.now) }
-    ensures rest_is_shorter { IsShorter depth text.now result }
+    ensures steps_by_rule { StepsTo result (uri_chars depth text.now) }
+    ensures rest_shrinks { IsShorter depth text.now result }
 {
     match text {
         [] => UriStep::Breaks,
@@ -209,9 +210,9 @@ fn uri_step(depth: usize, text: &[char]) -> UriStep<'_>
     }
 }
 
-// The URI up to the `)` that ends its item, and what follows.
+// The URI up to the `)` that ends its item, and what comes after that.
 fn uri_chars(alloc: Global, text: &[char]) -> Result<(Text, &[char]), ReadError<UriFault>>
-    ensures reads_the_characters_of_a_uri { Gives (λ x. (x.0, x.1.now)) result (uri_chars 0 text.now) }
+    ensures reads_rule { Gives (λ x. (x.0, x.1.now)) result (uri_chars 0 text.now) }
 {
     let mut uri = no_text(alloc);
     let mut depth = 0;
@@ -229,9 +230,9 @@ fn uri_chars(alloc: Global, text: &[char]) -> Result<(Text, &[char]), ReadError<
     }
 }
 
-// The same, where the URI isn't empty.
+// A URI that isn't empty, and what comes after its `)`.
 fn uri(alloc: Global, text: &[char]) -> Result<(Text, &[char]), ReadError<UriFault>>
-    ensures reads_a_uri { Gives (λ x. (x.0, x.1.now)) result (uri_read text.now) }
+    ensures reads_rule { Gives (λ x. (x.0, x.1.now)) result (uri_read text.now) }
 {
     let (uri, rest) = uri_chars(alloc, text)?;
     if uri.is_empty() {
@@ -240,9 +241,9 @@ fn uri(alloc: Global, text: &[char]) -> Result<(Text, &[char]), ReadError<UriFau
     Ok((uri, rest))
 }
 
-// A prefix that an item may bind, and what follows it.
+// A prefix that an item may bind, and what comes after it.
 fn prefix(text: &[char]) -> Result<(&[char], &[char]), ReadError<UriFault>>
-    ensures reads_a_free_prefix { Gives (λ x. (x.0.now, x.1.now)) result (free_prefix_read text.now) }
+    ensures reads_rule { Gives (λ x. (x.0.now, x.1.now)) result (free_prefix_read text.now) }
 {
     let (prefix, rest) = name(text)?;
     if is_reserved(prefix) {
@@ -251,9 +252,9 @@ fn prefix(text: &[char]) -> Result<(&[char], &[char]), ReadError<UriFault>>
     Ok((prefix, rest))
 }
 
-// An item, and what follows it.
+// An item, and what comes after it.
 fn read_item(alloc: Global, text: &[char]) -> Result<Item<'_>, ReadError<UriFault>>
-    ensures reads_an_item { Gives item_in result (item_read text.now) }
+    ensures reads_rule { Gives item_in result (item_read text.now) }
 {
     let Some(inner) = after(text, &['x', 'm', 'l', 'n', 's', '(']) else {
         return Err(ReadError::Fault(UriFault::BadQuery));
@@ -267,7 +268,7 @@ fn read_item(alloc: Global, text: &[char]) -> Result<Item<'_>, ReadError<UriFaul
 
 // The bindings of a query.
 fn read_items(alloc: Global, text: &[char]) -> Result<Bindings, ReadError<UriFault>>
-    ensures reads_all_items { StatedOr ReadError.NoMemory (bindings_read text.now) result }
+    ensures exact { StatedOr ReadError.NoMemory (bindings_read text.now) result }
 {
     let mut bindings = Bindings::none(alloc);
     let mut rest = past_blanks(text);
@@ -285,17 +286,17 @@ fn read_items(alloc: Global, text: &[char]) -> Result<Bindings, ReadError<UriFau
     Err(ReadError::Fault(UriFault::BadQuery))
 }
 
-/// The bindings of a query, none where there is no query.
+/// The bindings of a query; none where there is no query.
 ///
 /// # Errors
-/// `BadQuery` exactly where the query isn't a row of items, `NoMemory` for want of memory.
+/// `BadQuery` exactly where the query isn't a sequence of items; `NoMemory` when out of memory.
 pub fn read_query(alloc: Global, query: &Option<Text>) -> Result<Bindings, ReadError<UriFault>>
-    ensures reads_the_query { StatedOr ReadError.NoMemory (optional_bindings_read query.now) result }
+    ensures exact { StatedOr ReadError.NoMemory (optional_bindings_read query.now) result }
 {
     match query {
         None => Ok(Bindings::none(alloc)),
         Some(text) => {
-            let text = decoded(alloc, text.as_str())?;
+            let text = chars_of_text(alloc, text.as_str())?;
             read_items(alloc, &text)
         }
     }

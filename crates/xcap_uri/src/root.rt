@@ -1,20 +1,20 @@
-//! Roots (RFC 4825, section 6.1): the URI under which all addresses of a server stand.
+//! XCAP roots (RFC 4825, section 6.1): the URI that begins all addresses of a server.
 ghost use Rattle.std.specs.Prelude.{◌≡◌, true, IfOk, chars, option_map, Some};
 ghost use Rattle.std.specs.List.{list_all};
-ghost use Rattle.xcap_uri.specs.Cuts.{pieces};
+ghost use Rattle.xcap_uri.specs.Delimiters.{pieces};
 ghost use Rattle.xcap_uri.specs.Roots.{authority_of, is_authority_char, is_segment_char, is_some_of, path_of, root_of, slash, is_root_text};
 ghost use Rattle.xcap_uri.specs.readers.Roots.{are_authority_and_segments, behind_scheme};
 
-use crate::cutting::{after, cut, cut_before};
+use crate::delimiters::{after, cut, cut_before};
 use std::alloc::{AllocError, Global};
 use std::marker::Model;
 use tree_text::no_text;
 use xml_tree::Text;
 
-/// How many octets a root has at most.
-const GREATEST_LENGTH: usize = 256;
+/// The greatest number of octets of a root.
+const MAX_ROOT_LEN: usize = 256;
 
-/// A root. Contracts see its text, whose characters are ASCII.
+/// An XCAP root. Contracts see its text, which is ASCII.
 #[derive(Drop)]
 pub struct Root {
     text: Text,
@@ -34,35 +34,35 @@ impl Model for Root {
 }
 
 impl Root {
-    /// The text of the root. Takes no memory.
+    /// The text of the root. Does not allocate.
     pub fn text(&self) -> &str
-        ensures lends_its_text { chars result.now ≡ self.now }
-        ensures text_is_a_root { is_root_text self.now ≡ true }
+        ensures exact { chars result.now ≡ self.now }
+        ensures valid_root_text { is_root_text self.now ≡ true }
     {
         self.text.as_str()
     }
 
-    /// Its authority. Takes no memory.
+    /// Its authority. Does not allocate.
     pub fn authority(&self) -> &str
-        ensures tells_the_authority { chars result.now ≡ authority_of self.now }
+        ensures exact { chars result.now ≡ authority_of self.now }
     {
         self.authority.as_str()
     }
 
-    /// Its path: empty, or segments with a slash in front of each. Takes no memory.
+    /// Its path: empty, or segments with a slash before each. Does not allocate.
     pub fn path(&self) -> &str
-        ensures path_of_the_root { chars result.now ≡ path_of self.now }
-        ensures text_is_a_root { is_root_text self.now ≡ true }
+        ensures root_path { chars result.now ≡ path_of self.now }
+        ensures valid_root_text { is_root_text self.now ≡ true }
     {
         self.path.as_str()
     }
 
-    /// An equal root.
+    /// A copy of the root.
     ///
     /// # Errors
-    /// `NoMemory` for want of memory.
+    /// `NoMemory` when out of memory.
     pub fn copy(&self, alloc: Global) -> Result<Root, AllocError>
-        ensures makes_an_equal_root { IfOk result (λ made. made ≡ self.now) }
+        ensures equal_copy { IfOk result (λ made. made ≡ self.now) }
     {
         let text = self.text.copy(alloc)?;
         let authority = self.authority.copy(alloc)?;
@@ -75,38 +75,38 @@ impl Root {
     }
 }
 
-// Whether a character can stand in an authority.
+// Whether an authority may have this character.
 fn is_authority_char(b: u8) -> bool
-    ensures tells_whether_authorities_have_it { result ≡ is_authority_char b }
+    ensures exact { result ≡ is_authority_char b }
 {
     b.is_ascii_alphanumeric() || matches!(b, b'.' | b'-' | b':' | b'[' | b']')
 }
 
-// Whether a character can stand in a segment of a root's path.
+// Whether a segment of a root's path may have this character.
 fn is_segment_char(b: u8) -> bool
-    ensures tells_whether_segments_have_it { result ≡ is_segment_char b }
+    ensures exact { result ≡ is_segment_char b }
 {
     b.is_ascii_alphanumeric() || matches!(b, b'-' | b'.' | b'_' | b'~')
 }
 
-// Whether each can stand in an authority.
+// Whether an authority may have all these characters.
 fn are_authority_chars(piece: &[u8]) -> bool
-    ensures tells_whether_authorities_have_all { result ≡ list_all is_authority_char piece.now }
+    ensures exact { result ≡ list_all is_authority_char piece.now }
 {
     piece.iter().all(|b| is_authority_char(*b))
 }
 
-// Whether each can stand in a segment.
+// Whether a segment of a root's path may have all these characters.
 fn are_segment_chars(piece: &[u8]) -> bool
-    ensures tells_whether_segments_have_all { result ≡ list_all is_segment_char piece.now }
+    ensures exact { result ≡ list_all is_segment_char piece.now }
 {
     piece.iter().all(|b| is_segment_char(*b))
 }
 
-// Whether it is an authority.
+// Whether the piece is an authority.
 #[tactic(auto, using(crate::proofs::Pieces::some_of))]
 fn is_authority(piece: &[u8]) -> bool
-    ensures tells_whether_it_is_an_authority { result ≡ is_some_of is_authority_char piece.now }
+    ensures exact { result ≡ is_some_of is_authority_char piece.now }
 {
     match piece {
         [] => false,
@@ -114,10 +114,10 @@ fn is_authority(piece: &[u8]) -> bool
     }
 }
 
-// Whether it is a segment of a root's path.
+// Whether the piece is a segment of a root's path.
 #[tactic(auto, using(crate::proofs::Pieces::some_of))]
 fn is_segment(piece: &[u8]) -> bool
-    ensures tells_whether_it_is_a_segment { result ≡ is_some_of is_segment_char piece.now }
+    ensures exact { result ≡ is_some_of is_segment_char piece.now }
 {
     match piece {
         [] => false,
@@ -125,10 +125,10 @@ fn is_segment(piece: &[u8]) -> bool
     }
 }
 
-// Whether segments stand between the slashes.
+// Whether the pieces between slashes are segments.
 #[tactic(auto, using(crate::proofs::Pieces::pieces_cut))]
 fn are_segments(text: &[u8]) -> bool
-    ensures tells_whether_all_are_segments { result ≡ list_all (is_some_of is_segment_char) (pieces slash text.now) }
+    ensures exact { result ≡ list_all (is_some_of is_segment_char) (pieces slash text.now) }
 {
     let mut rest = text;
     'segments: loop {
@@ -143,9 +143,9 @@ fn are_segments(text: &[u8]) -> bool
     }
 }
 
-// What follows the scheme.
+// The text after the scheme.
 fn behind_scheme(text: &[u8]) -> Option<&[u8]>
-    ensures rest_behind_the_scheme { option_map (λ x. x.now) result ≡ behind_scheme text.now }
+    ensures exact { option_map (λ x. x.now) result ≡ behind_scheme text.now }
 {
     match after(text, b"http://") {
         Some(rest) => Some(rest),
@@ -153,10 +153,10 @@ fn behind_scheme(text: &[u8]) -> Option<&[u8]>
     }
 }
 
-// Whether an authority stands in front, and segments behind it.
+// Whether the text is an authority and then segments.
 #[tactic(auto, using(crate::proofs::Pieces::pieces_cut))]
 fn are_authority_and_segments(rest: &[u8]) -> bool
-    ensures tells_whether_segments_follow_an_authority { result ≡ are_authority_and_segments (pieces slash rest.now) }
+    ensures exact { result ≡ are_authority_and_segments (pieces slash rest.now) }
 {
     let (authority, behind) = cut(rest, b'/');
     if !is_authority(authority) {
@@ -170,7 +170,7 @@ fn are_authority_and_segments(rest: &[u8]) -> bool
 
 // A text with a character for each octet.
 fn letters(alloc: Global, octets: &[u8]) -> Result<Text, AllocError>
-    ensures letter_of_each_octet { IfOk result (λ text. text ≡ octets.now) }
+    ensures ok { IfOk result (λ text. text ≡ octets.now) }
 {
     let mut text = no_text(alloc);
     for &b in octets {
@@ -179,12 +179,12 @@ fn letters(alloc: Global, octets: &[u8]) -> Result<Text, AllocError>
     Ok(text)
 }
 
-// The root of a text that is one, with what follows its scheme.
+// The root of a text that is one, given the text after its scheme.
 #[tactic(auto, using(crate::proofs::RootAnswers::authority_behind, crate::proofs::RootAnswers::path_behind))]
 fn make_root(alloc: Global, text: &[u8], rest: &[u8]) -> Result<Root, AllocError>
-    requires root { is_root_text text.now ≡ true }
-    requires rest { behind_scheme text.now ≡ Some rest.now }
-    ensures root_of_the_text { IfOk result (λ made. made ≡ text.now) }
+    requires valid_root_text { is_root_text text.now ≡ true }
+    requires after_scheme { behind_scheme text.now ≡ Some rest.now }
+    ensures ok { IfOk result (λ made. made ≡ text.now) }
 {
     let (authority, path) = cut_before(rest, b'/');
     let text = letters(alloc, text)?;
@@ -200,16 +200,16 @@ fn make_root(alloc: Global, text: &[u8], rest: &[u8]) -> Result<Root, AllocError
 /// The root that a text is, if it is one.
 ///
 /// # Errors
-/// `AllocError` for want of memory.
+/// `AllocError` when out of memory.
 #[tactic(auto, unfolding(crate::specs::Roots::root_of), using(crate::proofs::RootAnswers::read_as_root))]
 pub fn read_root(alloc: Global, text: &str) -> Result<Option<Root>, AllocError>
-    ensures reads_the_root { IfOk result (λ root. root ≡ root_of text.now) }
+    ensures ok { IfOk result (λ root. root ≡ root_of text.now) }
 {
     let text = text.as_bytes();
     let Some(rest) = behind_scheme(text) else {
         return Ok(None);
     };
-    if text.len() > GREATEST_LENGTH {
+    if text.len() > MAX_ROOT_LEN {
         return Ok(None);
     }
     if !are_authority_and_segments(rest) {

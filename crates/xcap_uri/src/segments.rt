@@ -1,26 +1,27 @@
-//! The segments of a path (RFC 3986, section 3.3), decoded, up to the separator (RFC 4825, section 6).
+//! The segments of a path (RFC 3986, section 3.3), decoded, up to the separator (RFC 4825, section
+//! 6).
 ghost use Rattle.std.specs.Prelude.{◌≡◌, [], option_map, unwrap_or};
 ghost use Rattle.std.specs.Str.{bytes_eq};
-ghost use Rattle.xcap_uri.specs.inner.Gives.{Gives};
+ghost use Rattle.xcap_uri.specs.inner.Results.{Gives};
 ghost use Rattle.xcap_uri.specs.readers.Targets.{path_read};
 ghost use Rattle.doc_names.specs.Ids.{separator};
 
-use crate::cutting::cut;
+use crate::delimiters::cut;
 use crate::escapes::read_part;
 use crate::fault::UriFault;
 use std::alloc::Global;
 use xml_tree::{ReadError, Text};
 
-// Whether it is the segment behind which a selector stands.
+// Whether it is the separator `~~`, after which comes the node selector.
 fn is_separator(segment: &Text) -> bool
-    ensures tells_whether_it_separates { result ≡ bytes_eq segment.now separator }
+    ensures exact { result ≡ bytes_eq segment.now separator }
 {
     segment.is("~~")
 }
 
-// What stands behind a segment, nothing where the path ends.
+// The text after a segment, empty where the path ends.
 fn or_nothing(behind: Option<&[u8]>) -> &[u8]
-    ensures nothing_where_the_path_ends { result.now ≡ unwrap_or (option_map (λ x. x.now) behind.entry) [] }
+    ensures exact { result.now ≡ unwrap_or (option_map (λ x. x.now) behind.entry) [] }
 {
     match behind {
         None => &[],
@@ -28,15 +29,18 @@ fn or_nothing(behind: Option<&[u8]>) -> &[u8]
     }
 }
 
-/// The segments before the separator, decoded, and where it is there, what stands behind it and its slash.
+/// The segments before the separator, decoded, and where there is one, the text after it and its
+/// slash.
 ///
 /// # Errors
-/// `BadEscape` exactly where a segment up to the separator stands for no text, `NoMemory` for want of memory.
+/// `BadEscape` exactly where a segment up to the separator decodes to no text; `NoMemory` when out
+/// of memory.
 pub fn read_path(
     alloc: Global,
     path: &[u8],
 ) -> Result<(Vec<Text>, Option<&[u8]>), ReadError<UriFault>>
-    ensures reads_the_path { Gives (λ x. (x.0.items, option_map (λ y. y.now) x.1)) result (path_read path.now) }
+    ensures reads_rule { Gives (λ x. (x.0.items, option_map (λ y. y.now) x.1)) result
+        (path_read path.now) }
 {
     let mut segments = Vec::new(alloc);
     let mut rest = path;

@@ -1,5 +1,5 @@
-//! What the segments of an address name: a document or a node of one (RFC 4825, section 6.2), or under `~feed` and `~flat`, which are this
-//! server's own, what changed and the flat list of a service.
+//! What the segments of an address name: a document or a node of one (RFC 4825, section 6.2); or,
+//! under `~feed` and `~flat`, which are this server's own, changes and the flat list of a service.
 ghost use Rattle.std.specs.Prelude.{◌≡◌};
 ghost use Rattle.std.specs.List.{list_any};
 ghost use Rattle.xcap_uri.specs.Shapes.{doc_of, tag_spelled};
@@ -14,26 +14,27 @@ use std::mem;
 use tree_text::no_text;
 use xml_tree::{ReadError, Text};
 
-/// What the segments of an address name, called as the target that it means, with the text of the selector, which isn't read yet.
+/// What the segments of an address name. The variants are those of `Target`, with the selector as
+/// a text that isn't parsed yet.
 #[derive(Drop)]
 pub enum Shape {
     /// A document.
     Document(DocId),
     /// A node of a document.
     Node(DocId, Text),
-    /// Something below a document, where nothing can be.
+    /// Something below a document, where nothing can exist.
     Deep(Auid, Home),
-    /// The changes of a document since a tag.
+    /// The changes of a document since an etag.
     Feed(Mode, u64, DocId),
-    /// Whether an element may have changed since a tag.
+    /// Whether an element may have changed since an etag.
     ElementFeed(u64, DocId, Text),
-    /// The addresses behind a service of a document.
+    /// The flat list of a service of a document.
     Flat(DocId, Text),
 }
 
-// The usage of this name.
+// The AUID of this name.
 fn auid_of(name: &Text) -> Option<Auid>
-    ensures usage_of_the_name { result ≡ auid_of name.now }
+    ensures exact { result ≡ auid_of name.now }
 {
     if name.is("resource-lists") {
         return Some(Auid::ResourceLists);
@@ -47,9 +48,9 @@ fn auid_of(name: &Text) -> Option<Auid>
     None
 }
 
-// The usage of this name, where its documents are stored.
+// The AUID of this name, if its documents are stored.
 fn stored_auid_of(name: &Text) -> Option<Auid>
-    ensures stored_usage_of_the_name { result ≡ stored_auid_of name.now }
+    ensures exact { result ≡ stored_auid_of name.now }
 {
     if name.is("resource-lists") {
         return Some(Auid::ResourceLists);
@@ -60,9 +61,9 @@ fn stored_auid_of(name: &Text) -> Option<Auid>
     None
 }
 
-// The mode of this name.
+// The diff processing mode of this name.
 fn mode_of(name: &Text) -> Option<Mode>
-    ensures mode_of_the_name { result ≡ mode_of name.now }
+    ensures exact { result ≡ mode_of name.now }
 {
     if name.is("no-patching") {
         return Some(Mode::NoPatching);
@@ -76,23 +77,23 @@ fn mode_of(name: &Text) -> Option<Mode>
     None
 }
 
-// The number of a tag.
+// The number of an etag.
 fn tag_of(text: &Text) -> Option<u64>
-    ensures number_of_the_tag { result ≡ tag_spelled text.now }
+    ensures exact { result ≡ tag_spelled text.now }
 {
     numeral(text.as_str().as_bytes())
 }
 
-// The text of a segment, which is left empty.
-fn taken(alloc: Global, segment: &mut Text) -> Text
-    ensures text_that_stood_there { result ≡ segment.old }
+// Takes the text of a segment, and leaves it empty.
+fn take_text(alloc: Global, segment: &mut Text) -> Text
+    ensures exact { result ≡ segment.old }
 {
     mem::replace(segment, no_text(alloc))
 }
 
 // A document, or with a selector a node of it.
 fn document(doc: DocId, selector: Option<Text>) -> Result<Shape, ReadError<UriFault>>
-    ensures names_the_document { result ≡ document doc selector }
+    ensures exact { result ≡ document doc selector }
 {
     match selector {
         None => Ok(Shape::Document(doc)),
@@ -105,7 +106,7 @@ fn document(doc: DocId, selector: Option<Text>) -> Result<Shape, ReadError<UriFa
     }
 }
 
-// What is named in a home.
+// What is named after a home.
 fn in_home(
     alloc: Global,
     auid: Auid,
@@ -113,44 +114,44 @@ fn in_home(
     rest: &mut [Text],
     selector: Option<Text>,
 ) -> Result<Shape, ReadError<UriFault>>
-    ensures names_what_is_in_the_home { result ≡ in_home auid home rest.old selector }
+    ensures exact { result ≡ in_home auid home rest.old selector }
 {
     match rest {
         [] => Err(ReadError::Fault(UriFault::BadShape)),
         [name] => {
-            let name = taken(alloc, name);
+            let name = take_text(alloc, name);
             document(DocId { auid, home, name }, selector)
         }
         _ => Ok(Shape::Deep(auid, home)),
     }
 }
 
-// What is named behind `users`.
+// What is named after `users`.
 fn of_user(
     alloc: Global,
     auid: Auid,
     rest: &mut [Text],
     selector: Option<Text>,
 ) -> Result<Shape, ReadError<UriFault>>
-    ensures names_what_the_user_has { result ≡ of_user auid rest.old selector }
+    ensures exact { result ≡ of_user auid rest.old selector }
 {
     match rest.split_first_mut() {
         None => Err(ReadError::Fault(UriFault::BadShape)),
         Some((xui, rest)) => {
-            let xui = taken(alloc, xui);
+            let xui = take_text(alloc, xui);
             in_home(alloc, auid, Home::User(xui), rest, selector)
         }
     }
 }
 
-// What is named behind a usage.
+// What is named after an AUID.
 fn in_usage(
     alloc: Global,
     auid: Auid,
     rest: &mut [Text],
     selector: Option<Text>,
 ) -> Result<Shape, ReadError<UriFault>>
-    ensures names_what_is_in_the_usage { result ≡ in_usage auid rest.old selector }
+    ensures exact { result ≡ in_usage auid rest.old selector }
 {
     match rest.split_first_mut() {
         None => Err(ReadError::Fault(UriFault::BadShape)),
@@ -166,7 +167,7 @@ fn in_usage(
     }
 }
 
-// The document of a user in a stored usage.
+// The document of a user in a stored application usage.
 fn stored_doc(
     alloc: Global,
     auid: &Text,
@@ -174,7 +175,7 @@ fn stored_doc(
     xui: &mut Text,
     name: &mut Text,
 ) -> Option<DocId>
-    ensures document_if_it_is_stored { result ≡ stored_doc auid.now tree.now xui.old name.old }
+    ensures exact { result ≡ stored_doc auid.now tree.now xui.old name.old }
 {
     if !tree.is("users") {
         return None;
@@ -182,16 +183,16 @@ fn stored_doc(
     match stored_auid_of(auid) {
         None => None,
         Some(auid) => {
-            let home = Home::User(taken(alloc, xui));
-            let name = taken(alloc, name);
+            let home = Home::User(take_text(alloc, xui));
+            let name = take_text(alloc, name);
             Some(DocId { auid, home, name })
         }
     }
 }
 
-// The feed of an element, which has a selector.
+// The feed of an element, which needs a selector.
 fn element_feed(tag: u64, doc: DocId, selector: Option<Text>) -> Result<Shape, ReadError<UriFault>>
-    ensures names_the_feed_of_an_element { result ≡ element_feed tag doc selector }
+    ensures exact { result ≡ element_feed tag doc selector }
 {
     match selector {
         None => Err(ReadError::Fault(UriFault::BadShape)),
@@ -204,14 +205,14 @@ fn element_feed(tag: u64, doc: DocId, selector: Option<Text>) -> Result<Shape, R
     }
 }
 
-// The feed of a document, which has a mode and no selector.
+// The feed of a document, which needs a mode and no selector.
 fn document_feed(
     mode: Option<Mode>,
     tag: u64,
     doc: DocId,
     selector: Option<Text>,
 ) -> Result<Shape, ReadError<UriFault>>
-    ensures names_the_feed_of_a_document { result ≡ document_feed mode tag doc selector }
+    ensures exact { result ≡ document_feed mode tag doc selector }
 {
     match (mode, selector) {
         (Some(mode), None) => Ok(Shape::Feed(mode, tag, doc)),
@@ -219,14 +220,14 @@ fn document_feed(
     }
 }
 
-// Either of the feeds.
+// The feed of a document or of an element.
 fn either_feed(
     mode: &Text,
     tag: Option<u64>,
     doc: Option<DocId>,
     selector: Option<Text>,
 ) -> Result<Shape, ReadError<UriFault>>
-    ensures names_either_feed { result ≡ either_feed mode.now tag doc selector }
+    ensures exact { result ≡ either_feed mode.now tag doc selector }
 {
     let Some(tag) = tag else {
         return Err(ReadError::Fault(UriFault::BadShape));
@@ -240,13 +241,13 @@ fn either_feed(
     document_feed(mode_of(mode), tag, doc, selector)
 }
 
-// What is named behind `~feed`.
+// What is named after `~feed`.
 fn feed_shape(
     alloc: Global,
     rest: &mut [Text],
     selector: Option<Text>,
 ) -> Result<Shape, ReadError<UriFault>>
-    ensures names_the_feed { result ≡ feed_shape rest.old selector }
+    ensures exact { result ≡ feed_shape rest.old selector }
 {
     let Some((mode, rest)) = rest.split_first_mut() else {
         return Err(ReadError::Fault(UriFault::BadShape));
@@ -274,23 +275,24 @@ fn feed_shape(
 
 // The flat list of a service of this document.
 fn flat_list(alloc: Global, xui: &mut Text, name: &mut Text, service: &mut Text) -> Shape
-    ensures names_the_flat_list { result ≡ Shape.Flat (doc_of Auid.RlsServices (Home.User xui.old) name.old) service.old }
+    ensures exact { result
+        ≡ Shape.Flat (doc_of Auid.RlsServices (Home.User xui.old) name.old) service.old }
 {
     let doc = DocId {
         auid: Auid::RlsServices,
-        home: Home::User(taken(alloc, xui)),
-        name: taken(alloc, name),
+        home: Home::User(take_text(alloc, xui)),
+        name: take_text(alloc, name),
     };
-    Shape::Flat(doc, taken(alloc, service))
+    Shape::Flat(doc, take_text(alloc, service))
 }
 
-// What is named behind `~flat`.
+// What is named after `~flat`.
 fn flat_shape(
     alloc: Global,
     rest: &mut [Text],
     selector: Option<Text>,
 ) -> Result<Shape, ReadError<UriFault>>
-    ensures names_what_is_flat { result ≡ flat_shape rest.old selector }
+    ensures exact { result ≡ flat_shape rest.old selector }
 {
     let Some((xui, rest)) = rest.split_first_mut() else {
         return Err(ReadError::Fault(UriFault::BadShape));
@@ -304,14 +306,14 @@ fn flat_shape(
     }
 }
 
-// What is named behind a usage, if it is one.
+// What is named after an AUID, if it is one.
 fn of_usage(
     alloc: Global,
     auid: Option<Auid>,
     rest: &mut [Text],
     selector: Option<Text>,
 ) -> Result<Shape, ReadError<UriFault>>
-    ensures names_what_the_usage_has { result ≡ of_usage auid rest.old selector }
+    ensures exact { result ≡ of_usage auid rest.old selector }
 {
     match auid {
         None => Err(ReadError::Fault(UriFault::UnknownAuid)),
@@ -319,13 +321,13 @@ fn of_usage(
     }
 }
 
-// What segments name that aren't empty.
+// What segments that aren't empty name.
 fn named(
     alloc: Global,
     segments: &mut [Text],
     selector: Option<Text>,
 ) -> Result<Shape, ReadError<UriFault>>
-    ensures names_by_its_segments { result ≡ named segments.old selector }
+    ensures exact { result ≡ named segments.old selector }
 {
     match segments.split_first_mut() {
         None => Err(ReadError::Fault(UriFault::UnknownAuid)),
@@ -343,21 +345,21 @@ fn named(
 
 // Whether a segment is empty.
 fn is_empty(segment: &Text) -> bool
-    ensures tells_whether_it_is_empty { result ≡ is_empty segment.now }
+    ensures exact { result ≡ is_empty segment.now }
 {
     segment.is_empty()
 }
 
-// Whether one of them is empty.
+// Whether one of the segments is empty.
 fn has_empty(segments: &[Text]) -> bool
-    ensures tells_whether_one_is_empty { result ≡ list_any is_empty segments.now }
+    ensures exact { result ≡ list_any is_empty segments.now }
 {
     segments.iter().any(|segment| is_empty(segment))
 }
 
-/// What the segments of an address name, decoded, with the text of the selector behind them.
+/// What the segments of an address, decoded, name with the text of the selector after them.
 ///
-/// Names are moved out of the segments, so this wants no memory.
+/// Names are moved out of the segments, so this does not allocate.
 ///
 /// # Errors
 /// `BadShape` or `UnknownAuid`, the first that applies.
@@ -366,7 +368,7 @@ pub fn shape_of(
     segments: &mut [Text],
     selector: Option<Text>,
 ) -> Result<Shape, ReadError<UriFault>>
-    ensures shape_of_the_segments { result ≡ shape_of segments.old selector }
+    ensures exact { result ≡ shape_of segments.old selector }
 {
     if has_empty(segments) {
         return Err(ReadError::Fault(UriFault::BadShape));

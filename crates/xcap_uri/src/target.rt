@@ -1,13 +1,13 @@
-//! Targets of requests (RFC 4825, section 6): what the address in a request means under the root.
+//! Request targets (RFC 4825, section 6): what the address in a request means under the root.
 ghost use Rattle.std.specs.Prelude.{◌≡◌, ◌++◌, None, Err, option_map, IfOk, OnOk, string_bytes};
 ghost use Rattle.doc_names.specs.Escapes.{escaped, is_visible};
 ghost use Rattle.xcap_uri.specs.Roots.{path_of};
-ghost use Rattle.xcap_uri.specs.inner.Gives.{StatedOr};
+ghost use Rattle.xcap_uri.specs.inner.Results.{StatedOr};
 ghost use Rattle.xml_tree.specs.Memory.{Answered};
-ghost use Rattle.xcap_uri.specs.Targets.{IsReadableTarget, TargetAnswer, raw_text, rest_under, under_root, with_query};
+ghost use Rattle.xcap_uri.specs.Targets.{IsReadableTarget, TargetResult, raw_text, rest_under, under_root, with_query};
 ghost use Rattle.xcap_uri.specs.readers.Targets.{about_element, part_read, rest_read, target_of, target_read};
 
-use crate::cutting::{after, cut};
+use crate::delimiters::{after, cut};
 use crate::escapes::read_optional_part;
 use crate::fault::{UriFault, uri_error};
 use crate::query::read_query;
@@ -20,7 +20,7 @@ use std::alloc::{AllocError, Global};
 use tree_text::no_text;
 use xml_tree::{ReadError, Text};
 
-/// How the changes of a document are told (RFC 5875, section 4.3).
+/// The diff processing of a feed (RFC 5875, section 4.3).
 #[derive(Clone, Copy, PartialEq, Eq)]
 pub enum Mode {
     NoPatching,
@@ -28,39 +28,39 @@ pub enum Mode {
     Aggregate,
 }
 
-/// What a target means.
+/// The meaning of a target.
 #[derive(Drop)]
 pub enum Target {
     /// A document.
     Document(DocId),
     /// A node of a document.
     Node(DocId, Selector),
-    /// Something below a document, where nothing can be.
+    /// Something below a document, where nothing can exist.
     Deep(Auid, Home),
-    /// The changes of a document since a tag.
+    /// The changes of a document since an etag.
     Feed {
         mode: Mode,
         tag: u64,
         doc: DocId,
     },
-    /// Whether an element may have changed since a tag. `raw` is what stands behind the separator and its slash, query included, with each
-    /// octet escaped that isn't a visible one of ASCII.
+    /// Whether an element may have changed since an etag. `raw` is the text after the separator
+    /// and its slash, query included, with each octet escaped that isn't visible ASCII.
     ElementFeed {
         tag: u64,
         doc: DocId,
         selector: Selector,
         raw: Text,
     },
-    /// The addresses behind a service of a document.
+    /// The flat list of a service of a document.
     Flat {
         doc: DocId,
         service: Text,
     },
 }
 
-// What follows a front and a slash, where the target begins with them.
+// What comes after `front` and a slash, if the target begins with them.
 fn under<'a>(target: &'a [u8], front: &[u8]) -> Option<&'a [u8]>
-    ensures rest_behind_front_and_slash { option_map (λ x. x.now) result ≡ rest_under front.now target.now }
+    ensures exact { option_map (λ x. x.now) result ≡ rest_under front.now target.now }
 {
     let rest = after(target, front)?;
     after(rest, b"/")
@@ -68,20 +68,20 @@ fn under<'a>(target: &'a [u8], front: &[u8]) -> Option<&'a [u8]>
 
 // The octets of the root's text, and of its path.
 fn text_octets(root: &Root) -> &[u8]
-    ensures octets_of_the_root { result.now ≡ root.now }
+    ensures exact { result.now ≡ root.now }
 {
     root.text().as_bytes()
 }
 
 fn path_octets(root: &Root) -> &[u8]
-    ensures octets_of_the_path { result.now ≡ path_of root.now }
+    ensures exact { result.now ≡ path_of root.now }
 {
     root.path().as_bytes()
 }
 
-// What follows the root, or its path, and a slash.
+// What comes after the root, or its path, and a slash.
 fn under_root<'a>(root: &Root, target: &'a [u8]) -> Option<&'a [u8]>
-    ensures rest_under_the_root { option_map (λ x. x.now) result ≡ under_root root.now target.now }
+    ensures exact { option_map (λ x. x.now) result ≡ under_root root.now target.now }
 {
     match under(target, text_octets(root)) {
         Some(rest) => Some(rest),
@@ -89,14 +89,14 @@ fn under_root<'a>(root: &Root, target: &'a [u8]) -> Option<&'a [u8]>
     }
 }
 
-// The selector that a text spells in a document of this usage.
+// The selector that a text spells in a document of this AUID.
 fn part(
     alloc: Global,
     bindings: &Bindings,
     auid: Auid,
     text: &Text,
 ) -> Result<Selector, ReadError<UriFault>>
-    ensures reads_the_selector { StatedOr ReadError.NoMemory (part_read bindings.now auid text.now) result }
+    ensures exact { StatedOr ReadError.NoMemory (part_read bindings.now auid text.now) result }
 {
     match read_selector(alloc, text.as_str(), bindings, auid.namespace()) {
         Ok(selector) => Ok(selector),
@@ -104,9 +104,9 @@ fn part(
     }
 }
 
-// The selector, if it ends in an element.
+// The selector, if it selects an element.
 fn about_element(selector: Selector) -> Result<Selector, ReadError<UriFault>>
-    ensures only_if_it_is_of_an_element { result ≡ about_element selector }
+    ensures exact { result ≡ about_element selector }
 {
     match &selector.end {
         End::Element => Ok(selector),
@@ -114,9 +114,12 @@ fn about_element(selector: Selector) -> Result<Selector, ReadError<UriFault>>
     }
 }
 
-// Adds the selector behind the separator, and the query.
+// Appends the selector after the separator, and the query.
 fn push_raw(line: &mut String, selector: &[u8], query: Option<&[u8]>) -> Result<(), AllocError>
-    ensures adds_what_is_raw { OnOk result (string_bytes line.new ≡ string_bytes line.old ++ escaped is_visible (with_query selector.now (option_map (λ x. x.now) query.entry))) }
+    ensures appended { OnOk result
+        (string_bytes line.new
+        ≡ string_bytes line.old ++ escaped is_visible
+        (with_query selector.now (option_map (λ x. x.now) query.entry))) }
 {
     push_visible(line, selector)?;
     match query {
@@ -128,13 +131,15 @@ fn push_raw(line: &mut String, selector: &[u8], query: Option<&[u8]>) -> Result<
     }
 }
 
-// What stands behind the separator and its slash, escaped.
+// The text after the separator and its slash, escaped.
 fn raw_text(
     alloc: Global,
     selector: Option<&[u8]>,
     query: Option<&[u8]>,
 ) -> Result<Text, AllocError>
-    ensures text_of_what_is_raw { IfOk result (λ text. text ≡ raw_text (option_map (λ x. x.now) selector.entry) (option_map (λ x. x.now) query.entry)) }
+    ensures ok { IfOk result
+        (λ text. text ≡ raw_text (option_map (λ x. x.now) selector.entry)
+        (option_map (λ x. x.now) query.entry)) }
 {
     match selector {
         None => Ok(no_text(alloc)),
@@ -146,7 +151,8 @@ fn raw_text(
     }
 }
 
-// The target of a shape, with the bindings of the query. What stands behind the separator is escaped only for the feed of an element.
+// The target of a shape, with the bindings of the query. The text after the separator is escaped
+// only for the feed of an element.
 fn target_of(
     alloc: Global,
     shape: Shape,
@@ -154,7 +160,10 @@ fn target_of(
     raw_selector: Option<&[u8]>,
     raw_query: Option<&[u8]>,
 ) -> Result<Target, ReadError<UriFault>>
-    ensures target_of_the_shape { StatedOr ReadError.NoMemory (target_of shape bindings.now (raw_text (option_map (λ x. x.now) raw_selector.entry) (option_map (λ x. x.now) raw_query.entry))) result }
+    ensures target_of_shape { StatedOr ReadError.NoMemory
+        (target_of shape bindings.now
+        (raw_text (option_map (λ x. x.now) raw_selector.entry)
+        (option_map (λ x. x.now) raw_query.entry))) result }
 {
     match shape {
         Shape::Document(doc) => Ok(Target::Document(doc)),
@@ -179,9 +188,9 @@ fn target_of(
     }
 }
 
-// What stands under the root.
+// Reads the target after the root.
 fn read_rest(alloc: Global, rest: &[u8]) -> Result<Target, ReadError<UriFault>>
-    ensures reads_what_is_under_the_root { StatedOr ReadError.NoMemory (rest_read rest.now) result }
+    ensures reads_below_root { StatedOr ReadError.NoMemory (rest_read rest.now) result }
 {
     let (path, raw_query) = cut(rest, b'?');
     let (mut segments, raw_selector) = read_path(alloc, path)?;
@@ -192,10 +201,11 @@ fn read_rest(alloc: Global, rest: &[u8]) -> Result<Target, ReadError<UriFault>>
     target_of(alloc, shape, &bindings, raw_selector, raw_query)
 }
 
-// What stands under the root, or that nothing does.
+// Reads the target, which may be outside the root.
 fn read(alloc: Global, root: &Root, target: &[u8]) -> Result<Target, ReadError<UriFault>>
-    ensures answer_or_want_of_memory { StatedOr ReadError.NoMemory (target_read root.now target.now) result }
-    ensures outside_the_root_is_told_so { under_root root.now target.now ≡ None → result ≡ Err (ReadError.Fault UriFault.OutsideRoot) }
+    ensures stated_answer { StatedOr ReadError.NoMemory (target_read root.now target.now) result }
+    ensures outside_is_refused { under_root root.now target.now ≡ None
+        → result ≡ Err (ReadError.Fault UriFault.OutsideRoot) }
 {
     match under_root(root, target) {
         None => Err(ReadError::Fault(UriFault::OutsideRoot)),
@@ -203,14 +213,16 @@ fn read(alloc: Global, root: &Root, target: &[u8]) -> Result<Target, ReadError<U
     }
 }
 
-/// What a target means under a root. It begins with the whole root or with its path, and then a slash.
+/// What a target means under a root. It begins with the whole root or with its path, and then a
+/// slash.
 ///
 /// # Errors
-/// The first fault in the order that `UriFault` states, exactly where there is one; `NoMemory` for want of memory, which is never answered
-/// where the target is outside the root.
+/// The first fault in the order that `UriFault` gives, exactly where there is one; `NoMemory` when
+/// out of memory, never where the target is outside the root.
 pub fn read_target(alloc: Global, root: &Root, target: &[u8]) -> Result<Target, ReadError<UriFault>>
-    ensures answer_by_the_rules { Answered (TargetAnswer root.now target.now) result }
-    ensures outside_without_memory { under_root root.now target.now ≡ None → result ≡ Err (ReadError.Fault UriFault.OutsideRoot) }
+    ensures rules_answer { Answered (TargetResult root.now target.now) result }
+    ensures outside_without_memory { under_root root.now target.now ≡ None
+        → result ≡ Err (ReadError.Fault UriFault.OutsideRoot) }
     ensures readable_ids { IfOk result IsReadableTarget }
 {
     read(alloc, root, target)

@@ -1,7 +1,9 @@
-//! The program `xcapd`: it reads the words of the command line, makes the real streams and sockets and an audit of changes on the
-//! stream for errors, and ends with the status that `start` answers over them. What it promises is what `start` promises; it
-//! adds nothing of its own.
-//! RFC 4825 is the standard that its commands follow.
+//! The program `xcapd`: it reads the words of the command line, opens the real streams and sockets
+//! and an audit of changes on the stream for errors, and exits with the status that `start`
+//! returns over them.
+//! It promises what `start` promises, and adds nothing of its own.
+//! The standard that its commands follow is RFC 4825.
+//! Without memory for the words `start` gets None in their place, and ends with 7.
 #![tactic(auto)]
 
 use std::process::ExitCode;
@@ -11,8 +13,9 @@ use watchers::Audit;
 use xcap_app::start;
 use xcap_io::{StdSink, StdSource, TcpPeer, TcpPort};
 
-// The words of the command line, without the program's name. A word that is no text spells no command, so there are no words
-// then. None without memory for them, for which alone `args` fails otherwise.
+// The words of the command line, without the program's name. A word that is no UTF-8 spells no
+// command, so there are no words then. None when out of memory for them, which is the only other
+// reason for `args` to fail.
 fn words_of<R: Env + Alloc>(rt: &R) -> Option<Vec<String<R::A>, R::A>> {
     let mut words = Vec::new(rt.alloc());
     match env::args(rt) {

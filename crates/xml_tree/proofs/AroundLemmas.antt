@@ -1,4 +1,4 @@
--- What is declared inside an element: what it declares itself, or what is declared around it.
+-- The declarations in force inside an element: its own, or the ones around it.
 use Rattle.std.proofs.Common.{◌≡◌, ℕ, List, [], ◌∷◌, ◌++◌, sym, ap, ◌∙◌, append-nil, append_assoc}
 use Rattle.std.specs.Option.{option_or}
 use Rattle.xml_tree.specs.declared.names.Decl.{Decl}

@@ -4,7 +4,7 @@ use Rattle.std.specs.List.{slice_get, find}
 use Rattle.xml_tree.specs.Attributes.{change_first, remove_first, change_item}
 use Rattle.xml_tree.specs.inner.Attributes.{first_place}
 
--- what holds for both answers of a test
+-- what holds for both results of a test
 pub tested : {A : Type 0} (p : A → Bool) (x : A) (P : Bool → Type 0) → (p x ≡ true → P true) → (p x ≡ false → P false) → P (p x)
 tested p x P pass fail = by (p x) refl
   where
@@ -13,7 +13,7 @@ tested p x P pass fail = by (p x) refl
     by false e = fail e
 
 module _ {A : Type 0} (p : A → Bool) where
-  -- it is there where its place is one of the list's
+  -- the item exists where its place is in the list
   pub find-place : (xs : List A) → first_place p xs < length xs → find p xs ≡ slice_get xs (first_place p xs)
   find-place [] h = absurd (omega arith)
   find-place (x ∷ xs) h =
@@ -40,7 +40,7 @@ module _ {A : Type 0} (p : A → Bool) where
       tested p x (λ b. ((if b then 0 else suc (first_place p xs)) < length (x ∷ xs) → ⊥) → (if b then (f x ∷ xs) else (x ∷ change_first p f d xs)) ≡ x ∷ (xs ++ d ∷ []))
       (λ e k. absurd (k (omega arith))) (λ e k. ap (λ l. x ∷ l) (change_first-none f d xs (λ l. k (omega arith)))) h
 
-  -- the first item is taken out at its place
+  -- the first item is removed at its place
   pub remove_first-place : (xs : List A) → first_place p xs < length xs → remove_first p xs ≡ remove xs (first_place p xs)
   remove_first-place [] h = absurd (omega arith)
   remove_first-place (x ∷ xs) h =

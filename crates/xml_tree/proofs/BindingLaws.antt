@@ -1,4 +1,4 @@
--- What is gathered of a scope: what it binds, and in which order it stands.
+-- The declarations collected of a scope: what they bind, and their order.
 use Rattle.std.proofs.Common.{◌≡◌, Ordering, Less, Equal, Greater, ℕ, Bool, true, false, cond, List, [], ◌∷◌, filter, not, ◌&&◌, Option, Some, None, IsTrue, bytes_eq, refl, sym, ap, ◌∙◌, subst, append-nil}
 use Rattle.std.specs.Cmp.Lexicographic.{bytes_decides, nat_list_cmp_total}
 use Rattle.std.specs.List.{AllByRecursion}
@@ -10,7 +10,7 @@ use Rattle.xml_tree.specs.inner.Gathering.{gathered, gathered_bindings, placed}
 use Rattle.xml_tree.proofs.ByteOrder.{order, order_same, order_equal}
 use Rattle.xml_tree.proofs.ScopeLemmas.{option_or-assoc, option_or-none}
 
--- what one declaration declares of a prefix
+-- the URI that one declaration declares for a prefix
 abbrev of_one : Decl → List ℕ → Option (List ℕ)
 of_one d p = cond (bytes_eq d.prefix p) (Some d.uri) None
 
@@ -86,7 +86,7 @@ none_behind : (p : List ℕ) (ds : List Decl) → Behind p ds → declared ds p 
 none_behind p [] h = refl
 none_behind p (x ∷ ds) h = rw (none_behind p ds h.1, apart x p h.0) refl
 
--- the first of a list in order is the only one of its prefix
+-- the first of an ordered list is the only one of its prefix
 pub sole : (d : Decl) (p : List ℕ) (ds : List Decl) → Behind d.prefix ds → bytes_eq d.prefix p ≡ true → declared ds p ≡ None
 sole d p ds h is = none_behind p ds (subst (λ q. Behind q ds) ((bytes_decides d.prefix p).0 is) h)
 
@@ -159,7 +159,7 @@ some_of : (u : List ℕ) → bytes_eq u [] ≡ false → some_text (Some u) ≡ 
 some_of [] h = cc
 some_of (c ∷ cs) h = refl
 
--- what the first of a list in order declares
+-- what the first of an ordered list declares
 of_first : (d : Decl) (ds : List Decl) → Behind d.prefix ds → IsTrue (binds d) → some_text (declared (d ∷ ds) d.prefix) ≡ Some d.uri
 of_first d ds h b = rw (none_behind d.prefix ds h, (bytes_decides d.prefix d.prefix).1 refl) (some_of d.uri (from_binds d b).0)
 

@@ -1,4 +1,4 @@
--- The bindings of a scope: which they are, in which order they stand, and that they are those that are gathered.
+-- The bindings of a scope: which they are, their order, and that they are the collected ones.
 use Rattle.std.proofs.Common.{◌≡◌, Ordering, Less, Equal, Greater, ℕ, Bool, true, false, cond, List, [], ◌∷◌, ◌++◌, map, filter, filter_map, not, ◌&&◌, ◌||◌, Option, Some, None, option_map, IsTrue, bytes_eq, refl, sym, ap, ◌∙◌, subst, append-nil}
 use Rattle.std.proofs.lemmas.Option.{same_Some}
 use Rattle.std.specs.Cmp.Lexicographic.{bytes_decides, nat_list_cmp_total}
@@ -22,7 +22,7 @@ turned p q o h = nat_list_cmp_total.antisymm q p ∙ ap ordering_reverse h
 
 -- ---- texts in order
 
--- p stands before each of these, and each of these before p
+-- p is before each of these, and each of these before p
 abbrev Above : List ℕ → List (List ℕ) → Type 0
 Above p qs = AllByRecursion (λ q. order p q ≡ Less) qs
 
@@ -118,7 +118,7 @@ both-ways true false = refl
 both-ways false true = refl
 both-ways false false = refl
 
--- p is among those before q, or is q, or is among those behind it
+-- p is among those before q, or is q, or is among those after it
 among : (p q : List ℕ) (m t : Bool) (o : Ordering) → order p q ≡ o → bytes_eq q p ≡ t → ((is_before p q && m) || (t || (is_before q p && m))) ≡ (t || m)
 among p q m t Less h e =
     ap (λ (o : Ordering). (is_lt o && m) || (t || (is_before q p && m))) h ∙ ap (λ (o : Ordering). m || (t || (is_lt o && m))) (turned p q Less h) ∙ both-ways m t
@@ -184,7 +184,7 @@ told-binds c (q ∷ qs) = told-binds-step c q (told c qs) (binding c q) refl (to
 abbrev if-in : Bool → Option (List ℕ) → Option (List ℕ)
 if-in is u = cond is u None
 
--- p is told here, or another prefix is
+-- p is equal to this prefix, or is another one
 here : (p : List ℕ) (rest : List Decl) (m : Bool) (u : Option (List ℕ)) → declared rest p ≡ if-in m u → declared (cons_option (option_map (decl_of p) u) rest) p ≡ u
 here p rest true None h = h
 here p rest false None h = h
@@ -211,7 +211,7 @@ module _ (c : List (List Decl)) (p : List ℕ) (other : bytes_eq p xml_prefix �
   declared-told [] = refl
   declared-told (q ∷ qs) = declared-told-step q qs (bytes_eq q p) refl (declared-told qs)
 
--- ---- those of a scope
+-- ---- the bindings of a scope
 
 abbrev prefixes : List Decl → List (List ℕ)
 prefixes ds = map (λ (d : Decl). d.prefix) ds
@@ -257,7 +257,7 @@ AreInOrder-bindings_in c = told-in-order c (in_order (prefixes (joined c))) (in_
 pub binds-bindings_in : (c : List (List Decl)) → AllByRecursion (λ d. IsTrue (binds d)) (bindings_in c)
 binds-bindings_in c = told-binds c (in_order (prefixes (joined c)))
 
--- what is gathered of a scope are its bindings
+-- the declarations collected of a scope are its bindings
 pub gathered_are : (c : List (List Decl)) → gathered_bindings c ≡ bindings_in c
 gathered_are c = sym (gathered_bindings-sole c (bindings_in c) (AreInOrder-bindings_in c) (binds-bindings_in c) (bound-bindings_in c))
 

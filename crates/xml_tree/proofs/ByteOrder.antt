@@ -1,4 +1,4 @@
--- Texts stand in one order by their characters and by the bytes of their UTF-8.
+-- Texts have the same order by their characters and by the bytes of their UTF-8.
 use Rattle.std.proofs.Common.{◌≡◌, Ordering, Less, Equal, Greater, ◌⊎◌, inl, inr, ℕ, ◌+◌, ◌/◌, ◌%◌, ◌<◌, ◌≤◌, List, [], ◌∷◌, ◌++◌, encode_utf8_all, refl, sym, ap, ◌∙◌, arith}
 use Rattle.std.specs.Cmp.Lexicographic.{slice_cmp, nat_list_cmp_total}
 use Rattle.std.specs.Ordering.{nat_cmp, ordering_then, ordering_reverse}

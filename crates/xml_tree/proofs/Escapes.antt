@@ -1,4 +1,5 @@
--- Characters that are written as references: all of them are ASCII, so the bytes of a text can be escaped one by one.
+-- Characters that are written as references: all of them are ASCII, so the bytes of a text can be
+-- escaped one by one.
 use Rattle.std.proofs.Common.{◌≡◌, ℕ, ◌+◌, ◌/◌, ◌<◌, ◌≤◌, ◌==◌, Bool, true, false, List, [], ◌∷◌, ◌++◌, length, take, get_or, flat_map, encode_utf8_all, refl, sym, ap, ◌∙◌, arith, append-nil}
 use Rattle.std.specs.List.{AllByRecursion}
 use lib.Utf8.{encode}
@@ -72,7 +73,7 @@ encode-value cs = encode-escaped value_escape value_low value_high cs
 
 -- ---- bytes that are written as themselves
 
--- one more behind those in front
+-- one more after those in front
 pub plain_more : (f : ℕ → List ℕ) (bs : List ℕ) (i : ℕ) → i < length bs → flat_map f (take i bs) ≡ take i bs → f (get_or bs i 0) ≡ get_or bs i 0 ∷ [] → flat_map f (take (i + 1) bs) ≡ take (i + 1) bs
 plain_more f bs i within so_far one =
     let more = take_more bs i 0 within in

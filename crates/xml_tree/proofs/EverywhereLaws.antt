@@ -4,7 +4,7 @@ use Rattle.std.specs.List.{AllByRecursion, slice_get}
 use Rattle.xml_tree.specs.declared.names.Decl.{Decl}
 use Rattle.xml_tree.specs.declared.tree.Node.{Node}
 use Rattle.xml_tree.specs.declared.tree.Node.TheVariants.{Elem, Chars, Comment}
-use Rattle.xml_tree.specs.Tree.{Content, last, more, note, Tree, tree_of, at, kids, kids_of}
+use Rattle.xml_tree.specs.Tree.{Content, last, more, comment_node, Tree, tree_of, at, child_elements, child_elements_of}
 use Rattle.xml_tree.specs.Edits.{with_text_before, change, change_at, cut, parent_path, put}
 use Rattle.xml_tree.specs.Nodes.{content_of}
 use Rattle.xml_tree.specs.Scopes.{scope_around, scope_at}
@@ -12,17 +12,17 @@ use Rattle.xml_tree.specs.Proper.{Part, Everywhere, Letters, OfNode, Throughout}
 
 -- ---- the scopes of places
 
--- the scope around a place below an element child begins with the element's declarations
-pub scope_around-below : (n : ℕ) (p : List ℕ) (t k : Tree) → slice_get (kids_of t) n ≡ Some k → scope_around (n ∷ p) t ≡ t.decls ∷ scope_around p k
+-- the scope around a place below a child element begins with the element's declarations
+pub scope_around-below : (n : ℕ) (p : List ℕ) (t k : Tree) → slice_get (child_elements_of t) n ≡ Some k → scope_around (n ∷ p) t ≡ t.decls ∷ scope_around p k
 scope_around-below n [] t k is = refl
 scope_around-below n (m ∷ p) t k is = ap (λ o. t.decls ∷ unwrap_or (option_map (scope_at (parent_path (m ∷ p))) o) []) is
 
--- the scope at a place is that around it with the declarations of the element there
+-- the scope at a place is the scope around it with the declarations of the element there
 pub scope_at-around : (p : List ℕ) (t e : Tree) → at p t ≡ Some e → scope_at p t ≡ scope_around p t ++ e.decls ∷ []
 scope_at-around [] t e there = let same : t ≡ e = cc in ap (λ (x : Tree). x.decls ∷ []) same
-scope_at-around (n ∷ p) t e there = by (slice_get (kids_of t) n) refl there (λ k. scope_at-around p k e)
+scope_at-around (n ∷ p) t e there = by (slice_get (child_elements_of t) n) refl there (λ k. scope_at-around p k e)
   where
-    by : (o : Option Tree) → slice_get (kids_of t) n ≡ o → option_and_then (at p) o ≡ Some e → ((k : Tree) → at p k ≡ Some e → scope_at p k ≡ scope_around p k ++ e.decls ∷ [])
+    by : (o : Option Tree) → slice_get (child_elements_of t) n ≡ o → option_and_then (at p) o ≡ Some e → ((k : Tree) → at p k ≡ Some e → scope_at p k ≡ scope_around p k ++ e.decls ∷ [])
         → scope_at (n ∷ p) t ≡ scope_around (n ∷ p) t ++ e.decls ∷ []
     by None is h f = cc
     by (Some k) is h f =
@@ -46,12 +46,12 @@ module _ (P : List (List Decl) → Part → Type 0) where
   pub Everywhere-before : (c : List (List Decl)) (t : List ℕ) (k : Content) → Letters P c t → Everywhere P c k → Everywhere P c (with_text_before t k)
   Everywhere-before c t (last u) h g = Letters-append c t u h g
   Everywhere-before c t (more u n ds ats k rest) h g = (Letters-append c t u h g.0, g.1, g.2, g.3)
-  Everywhere-before c t (note u x rest) h g = (Letters-append c t u h g.0, g.1, g.2)
+  Everywhere-before c t (comment_node u x rest) h g = (Letters-append c t u h g.0, g.1, g.2)
 
   parts-before : (c : List (List Decl)) (t : List ℕ) (k : Content) → Everywhere P c (with_text_before t k) → Letters P c t × Everywhere P c k
   parts-before c t (last u) h = (first_letters c t u h, last_letters c t u h)
   parts-before c t (more u n ds ats k rest) h = (first_letters c t u h.0, (last_letters c t u h.0, h.1, h.2, h.3))
-  parts-before c t (note u x rest) h = (first_letters c t u h.0, (last_letters c t u h.0, h.1, h.2))
+  parts-before c t (comment_node u x rest) h = (first_letters c t u h.0, (last_letters c t u h.0, h.1, h.2))
 
   -- a content of nodes, node by node
   pub Everywhere-content_of : (c : List (List Decl)) (ns : List Node) → AllByRecursion (OfNode P c) ns → Everywhere P c (content_of ns)
@@ -66,55 +66,55 @@ module _ (P : List (List Decl) → Part → Type 0) where
   nodes-Everywhere c (Chars t ∷ ns) h = let parts = parts-before c t (content_of ns) h in (parts.0, nodes-Everywhere c ns parts.1)
   nodes-Everywhere c (Comment x ∷ ns) h = (h.1, nodes-Everywhere c ns h.2)
 
-  -- ---- element children
-  pub Everywhere-kid : (c : List (List Decl)) (n : ℕ) (k : Content) (x : Tree) → slice_get (kids k) n ≡ Some x → Everywhere P c k → Throughout P c x
-  Everywhere-kid c n (last t) x is h = cc
-  Everywhere-kid c zero (more t m ds ats k rest) x is h = let same : tree_of m ds ats k ≡ x = cc in subst (Throughout P c) same (h.1, h.2)
-  Everywhere-kid c (suc n) (more t m ds ats k rest) x is h = Everywhere-kid c n rest x is h.3
-  Everywhere-kid c n (note t y rest) x is h = Everywhere-kid c n rest x is h.2
+  -- ---- child elements
+  pub Everywhere-child_element : (c : List (List Decl)) (n : ℕ) (k : Content) (x : Tree) → slice_get (child_elements k) n ≡ Some x → Everywhere P c k → Throughout P c x
+  Everywhere-child_element c n (last t) x is h = cc
+  Everywhere-child_element c zero (more t m ds ats k rest) x is h = let same : tree_of m ds ats k ≡ x = cc in subst (Throughout P c) same (h.1, h.2)
+  Everywhere-child_element c (suc n) (more t m ds ats k rest) x is h = Everywhere-child_element c n rest x is h.3
+  Everywhere-child_element c n (comment_node t y rest) x is h = Everywhere-child_element c n rest x is h.2
 
   pub Everywhere-change : (c : List (List Decl)) (n : ℕ) (g : Tree → Tree) (k : Content)
-      → ((x : Tree) → slice_get (kids k) n ≡ Some x → Throughout P c x → Throughout P c (g x)) → Everywhere P c k → Everywhere P c (change n g k)
+      → ((x : Tree) → slice_get (child_elements k) n ≡ Some x → Throughout P c x → Throughout P c (g x)) → Everywhere P c k → Everywhere P c (change n g k)
   Everywhere-change c n g (last t) f h = h
   Everywhere-change c zero g (more t m ds ats k rest) f h = let r = f (tree_of m ds ats k) refl (h.1, h.2) in (h.0, r.0, r.1, h.3)
   Everywhere-change c (suc n) g (more t m ds ats k rest) f h = (h.0, h.1, h.2, Everywhere-change c n g rest f h.3)
-  Everywhere-change c n g (note t x rest) f h = (h.0, h.1, Everywhere-change c n g rest f h.2)
+  Everywhere-change c n g (comment_node t x rest) f h = (h.0, h.1, Everywhere-change c n g rest f h.2)
 
   pub Everywhere-put : (c : List (List Decl)) (j : ℕ) (e : Tree) (k : Content) → Throughout P c e → Everywhere P c k → Everywhere P c (put j e k)
   Everywhere-put c zero e k g h = (tt, g.0, g.1, h)
   Everywhere-put c (suc j) e (last t) g h = h
   Everywhere-put c (suc j) e (more t m ds ats k rest) g h = (h.0, h.1, h.2, Everywhere-put c j e rest g h.3)
-  Everywhere-put c (suc j) e (note t x rest) g h = (h.0, h.1, Everywhere-put c (suc j) e rest g h.2)
+  Everywhere-put c (suc j) e (comment_node t x rest) g h = (h.0, h.1, Everywhere-put c (suc j) e rest g h.2)
 
-  pub put-Everywhere : (c : List (List Decl)) (j : ℕ) (e : Tree) (k : Content) → j ≤ length (kids k) → Everywhere P c (put j e k) → Throughout P c e
+  pub put-Everywhere : (c : List (List Decl)) (j : ℕ) (e : Tree) (k : Content) → j ≤ length (child_elements k) → Everywhere P c (put j e k) → Throughout P c e
   put-Everywhere c zero e k within h = (h.1, h.2)
   put-Everywhere c (suc j) e (last t) within h = absurd (omega arith)
   put-Everywhere c (suc j) e (more t m ds ats k rest) within h = put-Everywhere c j e rest (omega arith) h.3
-  put-Everywhere c (suc j) e (note t x rest) within h = put-Everywhere c (suc j) e rest within h.2
+  put-Everywhere c (suc j) e (comment_node t x rest) within h = put-Everywhere c (suc j) e rest within h.2
 
   pub Everywhere-cut : (c : List (List Decl)) (i : ℕ) (k : Content) → Everywhere P c k → Everywhere P c (cut i k)
   Everywhere-cut c i (last t) h = h
   Everywhere-cut c zero (more t m ds ats k rest) h = Everywhere-before c t rest h.0 h.3
   Everywhere-cut c (suc i) (more t m ds ats k rest) h = (h.0, h.1, h.2, Everywhere-cut c i rest h.3)
-  Everywhere-cut c i (note t x rest) h = (h.0, h.1, Everywhere-cut c i rest h.2)
+  Everywhere-cut c i (comment_node t x rest) h = (h.0, h.1, Everywhere-cut c i rest h.2)
 
   -- ---- places
   scopes_join : (c s : List (List Decl)) (ds : List Decl) (r : List (List Decl)) → r ≡ ds ∷ s → (c ++ ds ∷ []) ++ s ≡ c ++ r
   scopes_join c s ds r is = append_assoc c (ds ∷ []) s ∙ ap (λ x. c ++ x) (sym is)
 
-  -- what stands at a place holds in the scope around it
+  -- the property holds of what is at a place, in the scope around it
   pub inside : (p : List ℕ) (c : List (List Decl)) (t e : Tree) → at p t ≡ Some e → Throughout P c t → Throughout P (c ++ scope_around p t) e
   inside [] c t e there h = let same : t ≡ e = cc in rw (append-nil c) (subst (Throughout P c) same h)
-  inside (n ∷ p) c t e there h = by (slice_get (kids_of t) n) refl there (λ k. inside p (c ++ t.decls ∷ []) k e)
+  inside (n ∷ p) c t e there h = by (slice_get (child_elements_of t) n) refl there (λ k. inside p (c ++ t.decls ∷ []) k e)
     where
-      by : (o : Option Tree) → slice_get (kids_of t) n ≡ o → option_and_then (at p) o ≡ Some e
+      by : (o : Option Tree) → slice_get (child_elements_of t) n ≡ o → option_and_then (at p) o ≡ Some e
           → ((k : Tree) → at p k ≡ Some e → Throughout P (c ++ t.decls ∷ []) k → Throughout P ((c ++ t.decls ∷ []) ++ scope_around p k) e) → Throughout P (c ++ scope_around (n ∷ p) t) e
       by None is g f = cc
       by (Some k) is g f =
           subst (λ s. Throughout P s e) (scopes_join c (scope_around p k) t.decls (scope_around (n ∷ p) t) (scope_around-below n p t k is))
-          (f k g (Everywhere-kid (c ++ t.decls ∷ []) n t.content k is h.1))
+          (f k g (Everywhere-child_element (c ++ t.decls ∷ []) n t.content k is h.1))
 
-  -- a tree that is changed at a place, where the change keeps what holds there
+  -- a tree that is changed at a place, where the change preserves the property there
   pub Throughout-change_at : (p : List ℕ) (f : Tree → Tree) (c : List (List Decl)) (t : Tree)
       → ((e : Tree) → at p t ≡ Some e → Throughout P (c ++ scope_around p t) e → Throughout P (c ++ scope_around p t) (f e)) → Throughout P c t → Throughout P c (change_at p f t)
   Throughout-change_at [] f c t keeps h = rw (append-nil c) at (keeps t refl (rw (append-nil c) h))

@@ -1,4 +1,4 @@
--- A map that gathers declarations, seen as its declarations in order.
+-- A map that collects declarations, seen as its declarations in order.
 use Rattle.std.proofs.Common.{◌≡◌, Ordering, Less, Equal, Greater, ℕ, List, [], ◌∷◌, ◌++◌, Bor, encode_utf8_all, map, refl, sym, ap, ◌∙◌}
 use Rattle.std.specs.BTreeMap.{insert_entry}
 use Rattle.std.specs.Map.{values_of}

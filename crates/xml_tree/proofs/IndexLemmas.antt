@@ -1,4 +1,4 @@
--- What is found in declarations that stand in the order of their prefixes.
+-- Look-ups in declarations that are in the order of their prefixes.
 use Rattle.std.proofs.Common.{◌≡◌, ◌≢◌, Ordering, Less, Equal, Greater, ◌⊎◌, inl, inr, ℕ, zero, suc, ◌+◌, ◌<◌, ◌≤◌, Bool, true, false, List, [], ◌∷◌, length, get_or, map, Option, Some, None, Bor, cond, bytes_eq, refl, sym, ap, ◌∙◌, subst, add-one, arith}
 use Rattle.std.specs.Cmp.Lexicographic.{bytes_decides, nat_list_cmp_total}
 use Rattle.std.specs.List.Sorted.{IsNonDecreasingBy, IsPartitionPoint}
@@ -66,7 +66,7 @@ module _ (p : List ℕ) where
   side : (k i : ℕ) → (k < i) ⊎ (i ≤ k)
   side k i = grind arith
 
-  -- a search that ends between the lesser and the greater found nothing
+  -- a search that ends between the lesser and the greater ones found nothing
   pub not_found : (ls : List (Bor Decl)) → AreInOrder (seen ls) → (i : ℕ)
       → (IsNonDecreasingBy (λ x. ordering_index (to_prefix x)) ls → IsPartitionPoint (λ x. to_prefix x ≡ Less) (λ x. to_prefix x ≡ Greater) ls i) → declared (seen ls) p ≡ None
   not_found ls h i parts = missing ls (λ k d short is.

@@ -18,13 +18,13 @@ last_at (x ∷ []) (suc i) d h = absurd (omega arith)
 last_at (x ∷ y ∷ ns) zero d h = absurd (omega arith)
 last_at (x ∷ y ∷ ns) (suc i) d h = last_at (y ∷ ns) i d (omega arith)
 
--- an element behind all others is the last
+-- an element after all other nodes is the last
 pub last_elem-push : (ns : List Node) (e : Tree) → last_elem (ns ++ Elem e ∷ []) ≡ Some e
 last_elem-push [] e = refl
 last_elem-push (x ∷ []) e = refl
 last_elem-push (x ∷ y ∷ ns) e = last_elem-push (y ∷ ns) e
 
--- the last one exchanged
+-- the last one replaced
 pub set-last : (ns : List Node) (x y : Node) → slice_set (ns ++ x ∷ []) (length (ns ++ x ∷ []) - 1) y ≡ ns ++ y ∷ []
 set-last ns x y =
     let i : length (ns ++ x ∷ []) - 1 ≡ length ns = omega (arith, length-append ns (x ∷ [])) in

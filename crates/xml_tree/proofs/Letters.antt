@@ -4,14 +4,14 @@ use Rattle.std.proofs.lemmas.Str.{chars-nil, encodes-chars}
 use Rattle.std.specs.Cmp.{both_ways}
 use Rattle.std.specs.Cmp.Lexicographic.{bytes_decides}
 
--- texts have the same bytes exactly where they have the same characters
+-- texts have the same bytes exactly when they have the same characters
 pub bytes_eq-chars : (a b : List ℕ) → IsUtf8 a → IsUtf8 b → bytes_eq a b ≡ bytes_eq (chars a) (chars b)
 bytes_eq-chars a b u v =
     both_ways _ _
     (λ h. (bytes_decides (chars a) (chars b)).1 (ap chars ((bytes_decides a b).0 h)))
     (λ h. (bytes_decides a b).1 (sym (encodes-chars a u) ∙ ap encode_utf8_all ((bytes_decides (chars a) (chars b)).0 h) ∙ encodes-chars b v))
 
--- no bytes are no characters, and the other way round
+-- no bytes are no characters, and vice versa
 pub chars_empty : (bs : List ℕ) → length bs ≡ 0 → chars bs ≡ []
 chars_empty [] h = chars-nil
 chars_empty (b ∷ bs) h = absurd (omega arith)

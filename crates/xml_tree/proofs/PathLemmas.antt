@@ -1,28 +1,28 @@
 -- The element at a path, after a change there.
 use Rattle.std.proofs.Common.{◌≡◌, ℕ, zero, suc, List, [], ◌∷◌, ◌++◌, Option, Some, None, IsSome, IsSomeAnd, option_and_then, refl, sym, ap, ◌∙◌, subst, ◌<◌, length, arith}
 use Rattle.std.specs.List.{slice_get}
-use Rattle.xml_tree.specs.Tree.{Content, last, more, note, more_of, Tree, kids, kids_of, at}
+use Rattle.xml_tree.specs.Tree.{Content, last, more, comment_node, more_of, Tree, child_elements, child_elements_of, at}
 use Rattle.xml_tree.specs.Edits.{change, change_at, put_over, parent_path, own_number}
 
--- functions that agree on the element change it alike
-change-agree : (n : ℕ) (f g : Tree → Tree) (c : Content) → ((k : Tree) → slice_get (kids c) n ≡ Some k → f k ≡ g k) → change n f c ≡ change n g c
+-- functions with equal results on the element change it alike
+change-agree : (n : ℕ) (f g : Tree → Tree) (c : Content) → ((k : Tree) → slice_get (child_elements c) n ≡ Some k → f k ≡ g k) → change n f c ≡ change n g c
 change-agree n f g (last t) h = refl
 change-agree zero f g (more t m ds ats c rest) h = ap (λ x. more_of t x rest) (h _ refl)
 change-agree (suc n) f g (more t m ds ats c rest) h = ap (more t m ds ats c) (change-agree n f g rest h)
-change-agree n f g (note t c rest) h = ap (note t c) (change-agree n f g rest h)
+change-agree n f g (comment_node t c rest) h = ap (comment_node t c) (change-agree n f g rest h)
 
 at_step : (o : Option Tree) (p : List ℕ) (k e : Tree) → option_and_then (at p) o ≡ Some k → o ≡ Some e → at p e ≡ Some k
 at_step (Some x) p k e is there = ap (at p) (sym (cc)) ∙ is
 at_step None p k e is there = cc
 
--- putting there what f makes of the element is changing it by f
+-- putting f's result for the element there is changing the element by f
 pub put_over-made : (p : List ℕ) (f : Tree → Tree) (k t : Tree) → at p t ≡ Some k → put_over p (f k) t ≡ change_at p f t
 put_over-made [] f k t is = ap f (sym (cc))
 put_over-made (n ∷ p) f k t is =
     ap (λ (x : Content). record t { content = x })
-    (change-agree n (put_over p (f k)) (change_at p f) t.content (λ e there. put_over-made p f k e (at_step (slice_get (kids_of t) n) p k e is there)))
+    (change-agree n (put_over p (f k)) (change_at p f) t.content (λ e there. put_over-made p f k e (at_step (slice_get (child_elements_of t) n) p k e is there)))
 
--- what an edit left there is what f makes of the element
+-- what an edit left there is f's result for the element
 pub made_at : (p : List ℕ) (f : Tree → Tree) (here left t new : Tree) → at p t ≡ Some here → left ≡ f here → new ≡ put_over p left t → new ≡ change_at p f t
 made_at p f here left t new there made put = put ∙ ap (λ w. put_over p w t) made ∙ put_over-made p f here t there
 
@@ -30,7 +30,7 @@ change-nothing : (n : ℕ) (f : Tree → Tree) (c : Content) → ((k : Tree) →
 change-nothing n f (last t) h = refl
 change-nothing zero f (more t m ds ats c rest) h = ap (λ x. more_of t x rest) (h _)
 change-nothing (suc n) f (more t m ds ats c rest) h = ap (more t m ds ats c) (change-nothing n f rest h)
-change-nothing n f (note t c rest) h = ap (note t c) (change-nothing n f rest h)
+change-nothing n f (comment_node t c rest) h = ap (comment_node t c) (change-nothing n f rest h)
 
 change_at-nothing : (p : List ℕ) (t : Tree) → change_at p (λ e. e) t ≡ t
 change_at-nothing [] t = refl
@@ -52,17 +52,17 @@ final-snoc [] n = refl
 final-snoc (m ∷ []) n = refl
 final-snoc (m ∷ k ∷ p) n = final-snoc (k ∷ p) n
 
--- the element at a path with a number more is a child of the element at the path
-pub at-snoc : (p : List ℕ) (n : ℕ) (t : Tree) → at (p ++ n ∷ []) t ≡ option_and_then (λ e. slice_get (kids_of e) n) (at p t)
-at-snoc [] n t = some_last (slice_get (kids_of t) n)
+-- the element at a path with one more number is a child of the element at the path
+pub at-snoc : (p : List ℕ) (n : ℕ) (t : Tree) → at (p ++ n ∷ []) t ≡ option_and_then (λ e. slice_get (child_elements_of e) n) (at p t)
+at-snoc [] n t = some_last (slice_get (child_elements_of t) n)
   where
     some_last : (o : Option Tree) → option_and_then (at []) o ≡ o
     some_last None = refl
     some_last (Some e) = refl
-at-snoc (m ∷ p) n t = through (slice_get (kids_of t) m) (at-snoc p n)
+at-snoc (m ∷ p) n t = through (slice_get (child_elements_of t) m) (at-snoc p n)
   where
-    through : (o : Option Tree) → ((e : Tree) → at (p ++ n ∷ []) e ≡ option_and_then (λ k. slice_get (kids_of k) n) (at p e))
-        → option_and_then (at (p ++ n ∷ [])) o ≡ option_and_then (λ e. slice_get (kids_of e) n) (option_and_then (at p) o)
+    through : (o : Option Tree) → ((e : Tree) → at (p ++ n ∷ []) e ≡ option_and_then (λ k. slice_get (child_elements_of k) n) (at p e))
+        → option_and_then (at (p ++ n ∷ [])) o ≡ option_and_then (λ e. slice_get (child_elements_of e) n) (option_and_then (at p) o)
     through None h = refl
     through (Some e) h = h e
 
@@ -71,16 +71,16 @@ there_below n [] h = cc
 there_below zero (y ∷ xs) h = omega arith
 there_below (suc n) (y ∷ xs) h = omega (arith, there_below n xs h)
 
--- a child that is there
-pub kid_there : (o : Option Tree) (n : ℕ) → IsSome (option_and_then (λ e. slice_get (kids_of e) n) o) → IsSomeAnd o (λ e. n < length (kids_of e))
+-- an existing child
+pub kid_there : (o : Option Tree) (n : ℕ) → IsSome (option_and_then (λ e. slice_get (child_elements_of e) n) o) → IsSomeAnd o (λ e. n < length (child_elements_of e))
 kid_there None n h = cc
-kid_there (Some e) n h = there_below n (kids_of e) h
+kid_there (Some e) n h = there_below n (child_elements_of e) h
 
-pub kid_is : (o : Option Tree) (n : ℕ) (k : Tree) → IsSomeAnd o (λ e. slice_get (kids_of e) n ≡ Some k) → option_and_then (λ e. slice_get (kids_of e) n) o ≡ Some k
+pub kid_is : (o : Option Tree) (n : ℕ) (k : Tree) → IsSomeAnd o (λ e. slice_get (child_elements_of e) n ≡ Some k) → option_and_then (λ e. slice_get (child_elements_of e) n) o ≡ Some k
 kid_is None n k h = absurd h
 kid_is (Some e) n k h = h
 
--- a fact about the element that is there
+-- a fact about an existing element
 pub with_there : (o : Option Tree) (P : Tree → Type 0) (e : Tree) → o ≡ Some e → P e → IsSomeAnd o P
 with_there None P e is h = absurd (cc)
 with_there (Some x) P e is h = let same : e ≡ x = cc in subst P same h

@@ -1,4 +1,4 @@
--- The text of a path is ASCII, so that its bytes are its characters.
+-- The text of a path is ASCII, so its bytes are its characters.
 use Rattle.std.proofs.Common.{◌≡◌, ℕ, zero, suc, ◌<◌, ◌≤◌, ◌^◌, List, [], ◌∷◌, ◌++◌, length, get_or, drop, sym, ap, ◌∙◌, subst, arith, append-nil, lit<}
 use Rattle.std.proofs.lemmas.List.{drop_all}
 use Rattle.std.proofs.lemmas.Str.{IsAscii-append, chars-IsAscii}

@@ -1,9 +1,9 @@
 -- The nodes of an element, beside its content.
 use Rattle.std.proofs.Common.{◌≡◌, ℕ, zero, suc, ◌<◌, ◌≤◌, List, [], ◌∷◌, ◌++◌, length, get_or, slice_set, insert, Some, IsSome, true, false, true≢false, refl, sym, ap, ◌∙◌, subst, arith, append_assoc, append-nil}
 use Rattle.std.specs.List.{slice_get}
-use Rattle.xml_tree.specs.Tree.{Content, last, more, note, more_of, Tree, tree_of, kids, content_height}
+use Rattle.xml_tree.specs.Tree.{Content, last, more, comment_node, more_of, Tree, tree_of, child_elements, content_height}
 use Rattle.xml_tree.specs.Edits.{with_text_before, put, change, with_comment, with_elem, with_text, IsFull}
-use Rattle.xml_tree.specs.inner.Falls.{content_height-before}
+use Rattle.xml_tree.specs.inner.Heights.{content_height-before}
 use Rattle.xml_tree.specs.Nodes.{content_of, nodes_of, text_node, is_text, node_height, StartsApart, AreNormal, place, gap_place, elem_of}
 use Rattle.xml_tree.specs.inner.Nodes.{ends_in_text, node_with}
 use Rattle.xml_tree.specs.declared.tree.Node.{Node}
@@ -14,38 +14,38 @@ use Rattle.xml_tree.specs.declared.tree.Node.TheVariants.{Elem, Chars, Comment}
 pub before-nil : (c : Content) → with_text_before [] c ≡ c
 before-nil (last u) = refl
 before-nil (more u n ds ats c rest) = refl
-before-nil (note u c rest) = refl
+before-nil (comment_node u c rest) = refl
 
 pub before-before : (t u : List ℕ) (c : Content) → with_text_before (t ++ u) c ≡ with_text_before t (with_text_before u c)
 before-before t u (last v) = ap last (append_assoc t u v)
 before-before t u (more v n ds ats c rest) = ap (λ x. more x n ds ats c rest) (append_assoc t u v)
-before-before t u (note v c rest) = ap (λ x. note x c rest) (append_assoc t u v)
+before-before t u (comment_node v c rest) = ap (λ x. comment_node x c rest) (append_assoc t u v)
 
-pub kids-before : (t : List ℕ) (c : Content) → kids (with_text_before t c) ≡ kids c
-kids-before t (last u) = refl
-kids-before t (more u n ds ats c rest) = refl
-kids-before t (note u c rest) = refl
+pub child_elements-before : (t : List ℕ) (c : Content) → child_elements (with_text_before t c) ≡ child_elements c
+child_elements-before t (last u) = refl
+child_elements-before t (more u n ds ats c rest) = refl
+child_elements-before t (comment_node u c rest) = refl
 
 pub change-before : (t : List ℕ) (c : Content) (i : ℕ) (f : Tree → Tree) → change i f (with_text_before t c) ≡ with_text_before t (change i f c)
 change-before t (last u) i f = refl
 change-before t (more u n ds ats c rest) zero f = refl
 change-before t (more u n ds ats c rest) (suc i) f = refl
-change-before t (note u c rest) i f = refl
+change-before t (comment_node u c rest) i f = refl
 
 pub put-before : (t : List ℕ) (c : Content) (j : ℕ) (e : Tree) → put (suc j) e (with_text_before t c) ≡ with_text_before t (put (suc j) e c)
 put-before t (last u) j e = refl
 put-before t (more u n ds ats c rest) j e = refl
-put-before t (note u c rest) j e = refl
+put-before t (comment_node u c rest) j e = refl
 
 -- ---- the place of an element among the nodes
 
 abbrev pub kids_in : List Node → List Tree
-kids_in ns = kids (content_of ns)
+kids_in ns = child_elements (content_of ns)
 
--- an element that is there has a place
+-- an existing element has a place
 pub place_there : (n : ℕ) (ns : List Node) → n < length (kids_in ns) → place n ns < length ns
 place_there n [] h = absurd (omega arith)
-place_there n (Chars t ∷ ns) h = omega (arith, place_there n ns (rw kids-before at h))
+place_there n (Chars t ∷ ns) h = omega (arith, place_there n ns (rw child_elements-before at h))
 place_there n (Comment c ∷ ns) h = omega (arith, place_there n ns h)
 place_there zero (Elem e ∷ ns) h = omega arith
 place_there (suc n) (Elem e ∷ ns) h = omega (arith, place_there n ns (omega arith))
@@ -53,28 +53,28 @@ place_there (suc n) (Elem e ∷ ns) h = omega (arith, place_there n ns (omega ar
 -- the node there is the element
 pub elem_at_place : (n : ℕ) (ns : List Node) (d : Node) → n < length (kids_in ns) → elem_of (get_or ns (place n ns) d) ≡ slice_get (kids_in ns) n
 elem_at_place n [] d h = absurd (omega arith)
-elem_at_place n (Chars t ∷ ns) d h = elem_at_place n ns d (rw kids-before at h) ∙ rw kids-before
+elem_at_place n (Chars t ∷ ns) d h = elem_at_place n ns d (rw child_elements-before at h) ∙ rw child_elements-before
 elem_at_place n (Comment c ∷ ns) d h = elem_at_place n ns d h
 elem_at_place zero (Elem e ∷ ns) d h = refl
 elem_at_place (suc n) (Elem e ∷ ns) d h = elem_at_place n ns d (omega arith)
 
 pub elem_there : (n : ℕ) (ns : List Node) (d : Node) → n < length (kids_in ns) → IsSome (elem_of (get_or ns (place n ns) d))
 elem_there n [] d h = absurd (omega arith)
-elem_there n (Chars t ∷ ns) d h = elem_there n ns d (rw kids-before at h)
+elem_there n (Chars t ∷ ns) d h = elem_there n ns d (rw child_elements-before at h)
 elem_there n (Comment c ∷ ns) d h = elem_there n ns d h
 elem_there zero (Elem e ∷ ns) d h = refl
 elem_there (suc n) (Elem e ∷ ns) d h = elem_there n ns d (omega arith)
 
--- ---- an element exchanged
+-- ---- an element replaced
 
--- at its place stands what f makes of it
-pub content_of-kid : (n : ℕ) (ns : List Node) (f : Tree → Tree) (k w : Tree) → slice_get (kids_in ns) n ≡ Some k → f k ≡ w
+-- at its place is the result of f
+pub content_of-child_element : (n : ℕ) (ns : List Node) (f : Tree → Tree) (k w : Tree) → slice_get (kids_in ns) n ≡ Some k → f k ≡ w
     → content_of (slice_set ns (place n ns) (Elem w)) ≡ change n f (content_of ns)
-content_of-kid n [] f k w is made = cc
-content_of-kid n (Chars t ∷ ns) f k w is made = ap (with_text_before t) (content_of-kid n ns f k w (rw kids-before at is) made) ∙ sym (change-before t (content_of ns) n f)
-content_of-kid n (Comment c ∷ ns) f k w is made = ap (note [] c) (content_of-kid n ns f k w is made)
-content_of-kid zero (Elem e ∷ ns) f k w is made = ap (λ x. more_of [] x (content_of ns)) (sym made ∙ ap f (sym (cc)))
-content_of-kid (suc n) (Elem e ∷ ns) f k w is made = ap (more_of [] e) (content_of-kid n ns f k w is made)
+content_of-child_element n [] f k w is made = cc
+content_of-child_element n (Chars t ∷ ns) f k w is made = ap (with_text_before t) (content_of-child_element n ns f k w (rw child_elements-before at is) made) ∙ sym (change-before t (content_of ns) n f)
+content_of-child_element n (Comment c ∷ ns) f k w is made = ap (comment_node [] c) (content_of-child_element n ns f k w is made)
+content_of-child_element zero (Elem e ∷ ns) f k w is made = ap (λ x. more_of [] x (content_of ns)) (sym made ∙ ap f (sym (cc)))
+content_of-child_element (suc n) (Elem e ∷ ns) f k w is made = ap (more_of [] e) (content_of-child_element n ns f k w is made)
 
 StartsApart-set : (n : ℕ) (ns : List Node) (w : Tree) → StartsApart ns → StartsApart (slice_set ns (place n ns) (Elem w))
 StartsApart-set n [] w a = tt
@@ -90,12 +90,12 @@ AreNormal-set n (Comment c ∷ ns) w a = AreNormal-set n ns w a
 AreNormal-set zero (Elem e ∷ ns) w a = a
 AreNormal-set (suc n) (Elem e ∷ ns) w a = AreNormal-set n ns w a
 
--- ---- an element put in a gap
+-- ---- an element inserted into a gap
 
 content_of-insert_behind : (j : ℕ) (ns : List Node) (e : Tree) → j < length (kids_in ns) → content_of (insert ns (suc (place j ns)) (Elem e)) ≡ put (suc j) e (content_of ns)
 content_of-insert_behind j [] e h = absurd (omega arith)
-content_of-insert_behind j (Chars t ∷ ns) e h = ap (with_text_before t) (content_of-insert_behind j ns e (rw kids-before at h)) ∙ sym (put-before t (content_of ns) j e)
-content_of-insert_behind j (Comment c ∷ ns) e h = ap (note [] c) (content_of-insert_behind j ns e h)
+content_of-insert_behind j (Chars t ∷ ns) e h = ap (with_text_before t) (content_of-insert_behind j ns e (rw child_elements-before at h)) ∙ sym (put-before t (content_of ns) j e)
+content_of-insert_behind j (Comment c ∷ ns) e h = ap (comment_node [] c) (content_of-insert_behind j ns e h)
 content_of-insert_behind zero (Elem k ∷ ns) e h = refl
 content_of-insert_behind (suc j) (Elem k ∷ ns) e h = ap (more_of [] k) (content_of-insert_behind j ns e (omega arith))
 
@@ -121,7 +121,7 @@ pub gap_there : (j : ℕ) (ns : List Node) → j ≤ length (kids_in ns) → gap
 gap_there zero ns h = omega arith
 gap_there (suc j) ns h = omega (arith, place_there j ns (omega arith))
 
--- ---- nodes behind nodes
+-- ---- nodes after nodes
 
 ends-cons : (x : Node) (xs : List Node) → ends_in_text xs ≡ true → ends_in_text (x ∷ xs) ≡ true
 ends-cons x [] h = absurd (true≢false (sym h))
@@ -132,7 +132,7 @@ StartsApart-append (Elem e) xs ys a = tt
 StartsApart-append (Chars t) xs ys a = absurd a
 StartsApart-append (Comment c) xs ys a = tt
 
--- normal nodes behind normal nodes are normal, unless two texts meet between them
+-- normal nodes after normal nodes are normal, unless two texts meet between them
 pub AreNormal-append : (xs ys : List Node) → AreNormal xs → AreNormal ys → (ends_in_text xs ≡ true → StartsApart ys) → AreNormal (xs ++ ys)
 AreNormal-append [] ys a b apart = b
 AreNormal-append (Elem e ∷ xs) ys a b apart = AreNormal-append xs ys a b (λ h. apart (ends-cons (Elem e) xs h))
@@ -140,46 +140,46 @@ AreNormal-append (Comment c ∷ xs) ys a b apart = AreNormal-append xs ys a b (�
 AreNormal-append (Chars t ∷ []) ys a b apart = (a.0, apart refl, b)
 AreNormal-append (Chars t ∷ x ∷ xs) ys a b apart = (a.0, StartsApart-append x xs ys a.1, AreNormal-append (x ∷ xs) ys a.2 b apart)
 
--- ---- an element behind all nodes
+-- ---- an element after all nodes
 
 with_elem-before : (t : List ℕ) (c : Content) (e : Tree) → with_elem e (with_text_before t c) ≡ with_text_before t (with_elem e c)
 with_elem-before t (last u) e = refl
 with_elem-before t (more u n ds ats c rest) e = refl
-with_elem-before t (note u c rest) e = refl
+with_elem-before t (comment_node u c rest) e = refl
 
 pub content_of-push_elem : (ns : List Node) (e : Tree) → content_of (ns ++ Elem e ∷ []) ≡ with_elem e (content_of ns)
 content_of-push_elem [] e = refl
 content_of-push_elem (Chars t ∷ ns) e = ap (with_text_before t) (content_of-push_elem ns e) ∙ sym (with_elem-before t (content_of ns) e)
 content_of-push_elem (Elem k ∷ ns) e = ap (more_of [] k) (content_of-push_elem ns e)
-content_of-push_elem (Comment c ∷ ns) e = ap (note [] c) (content_of-push_elem ns e)
+content_of-push_elem (Comment c ∷ ns) e = ap (comment_node [] c) (content_of-push_elem ns e)
 
 pub AreNormal-push_elem : (ns : List Node) (e : Tree) → AreNormal ns → AreNormal (ns ++ Elem e ∷ [])
 AreNormal-push_elem ns e a = AreNormal-append ns (Elem e ∷ []) a tt (λ h. tt)
 
--- ---- a comment behind all nodes
+-- ---- a comment after all nodes
 
 with_comment-before : (t : List ℕ) (c : Content) (s : List ℕ) → with_comment s (with_text_before t c) ≡ with_text_before t (with_comment s c)
 with_comment-before t (last u) s = refl
 with_comment-before t (more u n ds ats c rest) s = refl
-with_comment-before t (note u c rest) s = refl
+with_comment-before t (comment_node u c rest) s = refl
 
 pub content_of-push_comment : (ns : List Node) (s : List ℕ) → content_of (ns ++ Comment s ∷ []) ≡ with_comment s (content_of ns)
 content_of-push_comment [] s = refl
 content_of-push_comment (Chars t ∷ ns) s = ap (with_text_before t) (content_of-push_comment ns s) ∙ sym (with_comment-before t (content_of ns) s)
 content_of-push_comment (Elem k ∷ ns) s = ap (more_of [] k) (content_of-push_comment ns s)
-content_of-push_comment (Comment c ∷ ns) s = ap (note [] c) (content_of-push_comment ns s)
+content_of-push_comment (Comment c ∷ ns) s = ap (comment_node [] c) (content_of-push_comment ns s)
 
 pub AreNormal-push_comment : (ns : List Node) (s : List ℕ) → AreNormal ns → AreNormal (ns ++ Comment s ∷ [])
 AreNormal-push_comment ns s a = AreNormal-append ns (Comment s ∷ []) a tt (λ h. tt)
 
--- ---- a text behind all nodes
+-- ---- a text after all nodes
 
 with_text-before : (t : List ℕ) (c : Content) (s : List ℕ) → with_text s (with_text_before t c) ≡ with_text_before t (with_text s c)
 with_text-before t (last u) s = ap last (append_assoc t u s)
 with_text-before t (more u n ds ats c rest) s = refl
-with_text-before t (note u c rest) s = refl
+with_text-before t (comment_node u c rest) s = refl
 
--- what stands last
+-- the last node
 pub is_text-last : (ns : List Node) (i : ℕ) (d : Node) → suc i ≡ length ns → is_text (get_or ns i d) ≡ ends_in_text ns
 is_text-last [] i d h = absurd (omega arith)
 is_text-last (x ∷ []) zero d h = refl
@@ -199,10 +199,10 @@ content_of-join_at (Comment c ∷ ns) zero s d h e = cc
 content_of-join_at (Chars t ∷ []) zero s d h e = ap last (append-nil (t ++ s) ∙ ap (λ x. x ++ s) (sym (append-nil t)))
 content_of-join_at (Chars t ∷ x ∷ ns) zero s d h e = absurd (omega arith)
 content_of-join_at (Elem k ∷ ns) (suc i) s d h e = ap (more_of [] k) (content_of-join_at ns i s d (omega arith) e)
-content_of-join_at (Comment c ∷ ns) (suc i) s d h e = ap (note [] c) (content_of-join_at ns i s d (omega arith) e)
+content_of-join_at (Comment c ∷ ns) (suc i) s d h e = ap (comment_node [] c) (content_of-join_at ns i s d (omega arith) e)
 content_of-join_at (Chars t ∷ ns) (suc i) s d h e = ap (with_text_before t) (content_of-join_at ns i s d (omega arith) e) ∙ sym (with_text-before t (content_of ns) s)
 
--- a text that stands last grows
+-- a text that is the last node grows
 pub content_of-join : (ns : List Node) (i : ℕ) (x y : Node) (s : List ℕ) → suc i ≡ length ns → x ≡ get_or ns i x → is_text x ≡ true → y ≡ node_with s x
     → content_of (slice_set ns i y) ≡ with_text s (content_of ns)
 content_of-join ns i x y s h is e made = ap (λ z. content_of (slice_set ns i z)) (made ∙ ap (node_with s) is) ∙ content_of-join_at ns i s x h (ap is_text (sym is) ∙ e)
@@ -236,7 +236,7 @@ same_node [] i x is h = refl
 same_node (y ∷ ns) zero x is h = ap (λ z. z ∷ ns) is
 same_node (y ∷ ns) (suc i) x is h = ap (λ z. y ∷ z) (same_node ns i x is (omega arith))
 
--- written back as it was, a node changes nothing
+-- a node that is written back unchanged changes nothing
 pub content_of-unjoined : (ns : List Node) (i : ℕ) (x y : Node) → x ≡ get_or ns i x → i < length ns → y ≡ x → content_of (slice_set ns i y) ≡ content_of ns
 content_of-unjoined ns i x y is h made = ap (λ z. content_of (slice_set ns i z)) made ∙ ap content_of (same_node ns i x is h)
 
@@ -247,7 +247,7 @@ pub content_of-push_text : (ns : List Node) (s : List ℕ) → content_of (ns ++
 content_of-push_text [] s = rw append-nil
 content_of-push_text (Chars t ∷ ns) s = ap (with_text_before t) (content_of-push_text ns s) ∙ sym (with_text-before t (content_of ns) s)
 content_of-push_text (Elem k ∷ ns) s = ap (more_of [] k) (content_of-push_text ns s)
-content_of-push_text (Comment c ∷ ns) s = ap (note [] c) (content_of-push_text ns s)
+content_of-push_text (Comment c ∷ ns) s = ap (comment_node [] c) (content_of-push_text ns s)
 
 full : (s : List ℕ) → 0 < length s → IsFull s
 full [] h = absurd (omega arith)
@@ -266,7 +266,7 @@ AreNormal-push_own ns s h e a = AreNormal-append ns (Chars s ∷ []) a (nonempty
 pub with_text-nil : (c : Content) → with_text [] c ≡ c
 with_text-nil (last t) = rw append-nil
 with_text-nil (more t n ds ats c rest) = ap (more t n ds ats c) (with_text-nil rest)
-with_text-nil (note t c rest) = ap (note t c) (with_text-nil rest)
+with_text-nil (comment_node t c rest) = ap (comment_node t c) (with_text-nil rest)
 
 -- ---- the nodes of a content
 
@@ -276,8 +276,8 @@ OpensApart (last []) = Unit {0}
 OpensApart (last (c ∷ cs)) = ⊥
 OpensApart (more [] n ds ats c rest) = Unit {0}
 OpensApart (more (x ∷ xs) n ds ats c rest) = ⊥
-OpensApart (note [] c rest) = Unit {0}
-OpensApart (note (x ∷ xs) c rest) = ⊥
+OpensApart (comment_node [] c rest) = Unit {0}
+OpensApart (comment_node (x ∷ xs) c rest) = ⊥
 
 opens : (ns : List Node) → StartsApart ns → OpensApart (content_of ns)
 opens [] a = tt
@@ -291,17 +291,17 @@ nodes_of-before (x ∷ xs) (last []) f o = ap (λ z. Chars (x ∷ z) ∷ []) (ap
 nodes_of-before (x ∷ xs) (last (c ∷ cs)) f o = absurd o
 nodes_of-before (x ∷ xs) (more [] n ds ats c rest) f o = ap (λ z. Chars (x ∷ z) ∷ nodes_of (more [] n ds ats c rest)) (append-nil xs)
 nodes_of-before (x ∷ xs) (more (y ∷ ys) n ds ats c rest) f o = absurd o
-nodes_of-before (x ∷ xs) (note [] c rest) f o = ap (λ z. Chars (x ∷ z) ∷ nodes_of (note [] c rest)) (append-nil xs)
-nodes_of-before (x ∷ xs) (note (y ∷ ys) c rest) f o = absurd o
+nodes_of-before (x ∷ xs) (comment_node [] c rest) f o = ap (λ z. Chars (x ∷ z) ∷ nodes_of (comment_node [] c rest)) (append-nil xs)
+nodes_of-before (x ∷ xs) (comment_node (y ∷ ys) c rest) f o = absurd o
 
--- normal nodes are those of their content
+-- normal nodes are the nodes of their content
 pub nodes_of-content_of : (ns : List Node) → AreNormal ns → nodes_of (content_of ns) ≡ ns
 nodes_of-content_of [] a = refl
 nodes_of-content_of (Elem e ∷ ns) a = ap (λ x. Elem e ∷ x) (nodes_of-content_of ns a)
 nodes_of-content_of (Comment c ∷ ns) a = ap (λ x. Comment c ∷ x) (nodes_of-content_of ns a)
 nodes_of-content_of (Chars t ∷ ns) a = nodes_of-before t (content_of ns) a.0 (opens ns a.1) ∙ ap (λ x. Chars t ∷ x) (nodes_of-content_of ns a.2)
 
--- normal nodes of one content are the same nodes
+-- normal nodes of one content are equal
 pub same_nodes : (ns ms : List Node) → AreNormal ns → AreNormal ms → content_of ns ≡ content_of ms → ns ≡ ms
 same_nodes ns ms a b e = sym (nodes_of-content_of ns a) ∙ ap nodes_of e ∙ nodes_of-content_of ms b
 
@@ -309,25 +309,25 @@ text_content : (t : List ℕ) (ns : List Node) → content_of (text_node t ++ ns
 text_content [] ns = sym (before-nil (content_of ns))
 text_content (c ∷ cs) ns = refl
 
--- each content is that of its nodes
+-- each content is the content of its nodes
 pub content_of-nodes_of : (c : Content) → content_of (nodes_of c) ≡ c
 content_of-nodes_of (last []) = refl
 content_of-nodes_of (last (c ∷ cs)) = ap (λ x. last (c ∷ x)) (append-nil cs)
 content_of-nodes_of (more t n ds ats c rest) = text_content t _ ∙ (λ i. more (append-nil t i) n ds ats c (content_of-nodes_of rest i))
-content_of-nodes_of (note t c rest) = text_content t _ ∙ (λ i. note (append-nil t i) c (content_of-nodes_of rest i))
+content_of-nodes_of (comment_node t c rest) = text_content t _ ∙ (λ i. comment_node (append-nil t i) c (content_of-nodes_of rest i))
 
 text_apart : (t : List ℕ) (ns : List Node) → StartsApart ns → AreNormal ns → AreNormal (text_node t ++ ns)
 text_apart [] ns s a = a
 text_apart (c ∷ cs) ns s a = (tt, s, a)
 
--- which are normal
+-- the nodes of a content are normal
 pub AreNormal-nodes_of : (c : Content) → AreNormal (nodes_of c)
 AreNormal-nodes_of (last []) = tt
 AreNormal-nodes_of (last (c ∷ cs)) = (tt, tt, tt)
 AreNormal-nodes_of (more t n ds ats c rest) = text_apart t (Elem (tree_of n ds ats c) ∷ nodes_of rest) tt (AreNormal-nodes_of rest)
-AreNormal-nodes_of (note t c rest) = text_apart t (Comment c ∷ nodes_of rest) tt (AreNormal-nodes_of rest)
+AreNormal-nodes_of (comment_node t c rest) = text_apart t (Comment c ∷ nodes_of rest) tt (AreNormal-nodes_of rest)
 
--- each node is less high than the element
+-- each node has fewer levels than the element
 pub node_height-le : (ns : List Node) (i : ℕ) (d : Node) → i < length ns → node_height (get_or ns i d) ≤ content_height (content_of ns)
 node_height-le [] i d h = absurd (omega arith)
 node_height-le (Elem e ∷ ns) zero d h = omega arith
@@ -339,6 +339,6 @@ node_height-le (Comment c ∷ ns) (suc i) d h = node_height-le ns i d (omega ari
 
 pub ruleset texts = (is_text-last, ends_in-nothing, content_of-unjoined, AreNormal-unjoined, content_of-join, AreNormal-join, content_of-push_text, AreNormal-push_text, with_text-nil)
 
-pub ruleset places = (kids-before, place_there, gap_there, content_of-insert, AreNormal-insert, AreNormal-set, content_of-push_elem, AreNormal-push_elem, content_of-push_comment, AreNormal-push_comment)
+pub ruleset places = (child_elements-before, place_there, gap_there, content_of-insert, AreNormal-insert, AreNormal-set, content_of-push_elem, AreNormal-push_elem, content_of-push_comment, AreNormal-push_comment)
 
 pub ruleset pushes = (content_of-push_elem, content_of-push_comment, content_of-push_text)

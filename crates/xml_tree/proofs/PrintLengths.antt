@@ -13,7 +13,7 @@ use Rattle.xml_tree.proofs.Escapes.{encode-text, encode-value}
 pub byte_len-append : (t u : List ℕ) → byte_len (t ++ u) ≡ byte_len t + byte_len u
 byte_len-append t u = ap length (encodes-append t u) ∙ length-append (encode_utf8_all t) (encode_utf8_all u)
 
--- a character of ASCII, and more
+-- an ASCII character, and more
 pub ascii : (c : ℕ) (t : List ℕ) → c < 128 → byte_len (c ∷ t) ≡ byte_len t + 1
 ascii c t h = length-append (encode c) (encode_utf8_all t) ∙ ap (λ l. length l + byte_len t) (encode_ascii c h) ∙ omega arith
 
@@ -78,7 +78,7 @@ byte_len-prefixed n apart =
     unequal true f = absurd (f refl)
     unequal false f = refl
 
--- one more part of a row of them
+-- one more part in a list of parts
 pub byte_len-next : {A : Type 0} (f : A → List ℕ) (xs : List A) (i : ℕ) (x : A) → i < length xs → x ≡ get_or xs i x
     → byte_len (flat_map f (drop i xs)) ≡ byte_len (f x) + byte_len (flat_map f (drop (i + 1) xs))
 byte_len-next f xs i x within is = ap (λ l. byte_len (flat_map f l)) (drop_item xs i x within is) ∙ byte_len-append (f x) (flat_map f (drop (i + 1) xs))

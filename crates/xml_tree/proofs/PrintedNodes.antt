@@ -1,7 +1,7 @@
 -- The print of a content, node by node.
 use Rattle.std.proofs.Common.{◌≡◌, ℕ, ◌+◌, ◌<◌, ◌≤◌, min, true, false, List, [], ◌∷◌, ◌++◌, length, drop, get_or, refl, sym, ap, ◌∙◌, append_assoc, arith}
 use Rattle.std.proofs.lemmas.Grind.{flat_map-append}
-use Rattle.xml_tree.specs.Tree.{Content, last, more, note, Tree}
+use Rattle.xml_tree.specs.Tree.{Content, last, more, comment_node, Tree}
 use Rattle.xml_tree.specs.Edits.{with_text_before}
 use Rattle.xml_tree.specs.Nodes.{content_of, AreNormal}
 use Rattle.xml_tree.specs.declared.tree.Node.{Node}
@@ -16,7 +16,7 @@ print-before t (last u) = flat_map-append text_escape t u
 print-before t (more u n ds ats c rest) =
     let after = (opening n ds ats ++ ending n (is_empty c) (print_content c)) ++ print_content rest in
     ap (λ l. l ++ after) (flat_map-append text_escape t u) ∙ append_assoc (print_text t) (print_text u) after
-print-before t (note u x rest) =
+print-before t (comment_node u x rest) =
     let after = print_comment x ++ print_content rest in
     ap (λ l. l ++ after) (flat_map-append text_escape t u) ∙ append_assoc (print_text t) (print_text u) after
 
@@ -32,11 +32,11 @@ byte_len-nodes ns i n within is =
     ap (λ l. byte_len (print_content (content_of l))) (drop_item ns i n within is) ∙ ap byte_len (print-nodes n (drop (i + 1) ns))
     ∙ byte_len-append (print_node n) (print_content (content_of (drop (i + 1) ns)))
 
--- a content has no nodes where it is one of no nodes
+-- a content has no nodes where it is the content of no nodes
 before-full : (c : ℕ) (cs : List ℕ) (k : Content) → is_empty (with_text_before (c ∷ cs) k) ≡ false
 before-full c cs (last u) = refl
 before-full c cs (more u n ds ats k rest) = refl
-before-full c cs (note u x rest) = refl
+before-full c cs (comment_node u x rest) = refl
 
 pub no_nodes : (ns : List Node) (k : Content) → content_of ns ≡ k → length ns ≡ 0 → is_empty k ≡ true
 no_nodes [] k is h = ap is_empty (sym is)
@@ -70,7 +70,7 @@ byte_len-whole e h =
     let inside = byte_len-append (print_content e.content) (closing e.name) in
     omega (arith, parts, rest, mark, inside)
 
--- ---- sums that stop at the greatest number
+-- ---- sums capped at the greatest number
 module _ (m : ℕ) where
   pub bare_sum : (a o r p : ℕ) → o ≡ min a m → r ≡ min (o + 2) m → p ≡ a + 2 → r ≡ min p m
   bare_sum a o r p begins made whole = omega arith

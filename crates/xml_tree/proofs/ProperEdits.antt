@@ -4,7 +4,7 @@ use Rattle.std.proofs.Math.Seq.{take-nil, drop-nil}
 use Rattle.std.specs.List.{AllByRecursion, slice_get}
 use Rattle.xml_tree.specs.declared.names.Decl.{Decl}
 use Rattle.xml_tree.specs.declared.tree.Node.{Node}
-use Rattle.xml_tree.specs.Tree.{Content, last, more, note, Tree, tree_of, at, kids, kids_of}
+use Rattle.xml_tree.specs.Tree.{Content, last, more, comment_node, Tree, tree_of, at, child_elements, child_elements_of}
 use Rattle.xml_tree.specs.Edits.{change, change_at, cut, cut_out, own_number, parent_path, put, put_in, put_kid, put_over}
 use Rattle.xml_tree.specs.Nodes.{exchanged, exchange_nodes, nodes_of}
 use Rattle.xml_tree.specs.Scopes.{scope_around, scope_at}
@@ -13,30 +13,30 @@ use Rattle.xml_tree.proofs.EverywhereLaws.{scope_around-below, scope_at-around, 
 use Rattle.xml_tree.proofs.Places.{content_of-nodes_of}
 
 -- ---- the changed place in the changed tree
-kid-change : (n : ℕ) (g : Tree → Tree) (k : Content) (x : Tree) → slice_get (kids k) n ≡ Some x → slice_get (kids (change n g k)) n ≡ Some (g x)
-kid-change n g (last t) x is = cc
-kid-change zero g (more t m ds ats k rest) x is = let same : tree_of m ds ats k ≡ x = cc in ap (λ y. Some (g y)) same
-kid-change (suc n) g (more t m ds ats k rest) x is = kid-change n g rest x is
-kid-change n g (note t y rest) x is = kid-change n g rest x is
+child_element-change : (n : ℕ) (g : Tree → Tree) (k : Content) (x : Tree) → slice_get (child_elements k) n ≡ Some x → slice_get (child_elements (change n g k)) n ≡ Some (g x)
+child_element-change n g (last t) x is = cc
+child_element-change zero g (more t m ds ats k rest) x is = let same : tree_of m ds ats k ≡ x = cc in ap (λ y. Some (g y)) same
+child_element-change (suc n) g (more t m ds ats k rest) x is = child_element-change n g rest x is
+child_element-change n g (comment_node t y rest) x is = child_element-change n g rest x is
 
 pub at-change_at : (p : List ℕ) (f : Tree → Tree) (t e : Tree) → at p t ≡ Some e → at p (change_at p f t) ≡ Some (f e)
 at-change_at [] f t e there = let same : t ≡ e = cc in ap (λ y. Some (f y)) same
-at-change_at (n ∷ p) f t e there = by (slice_get (kids_of t) n) refl there (λ k. at-change_at p f k e)
+at-change_at (n ∷ p) f t e there = by (slice_get (child_elements_of t) n) refl there (λ k. at-change_at p f k e)
   where
-    by : (o : Option Tree) → slice_get (kids_of t) n ≡ o → option_and_then (at p) o ≡ Some e → ((k : Tree) → at p k ≡ Some e → at p (change_at p f k) ≡ Some (f e))
+    by : (o : Option Tree) → slice_get (child_elements_of t) n ≡ o → option_and_then (at p) o ≡ Some e → ((k : Tree) → at p k ≡ Some e → at p (change_at p f k) ≡ Some (f e))
         → at (n ∷ p) (change_at (n ∷ p) f t) ≡ Some (f e)
     by None is h go = cc
-    by (Some k) is h go = ap (option_and_then (at p)) (kid-change n (change_at p f) t.content k is) ∙ go k h
+    by (Some k) is h go = ap (option_and_then (at p)) (child_element-change n (change_at p f) t.content k is) ∙ go k h
 
 pub around-change_at : (p : List ℕ) (f : Tree → Tree) (t e : Tree) → at p t ≡ Some e → scope_around p (change_at p f t) ≡ scope_around p t
 around-change_at [] f t e there = refl
-around-change_at (n ∷ p) f t e there = by (slice_get (kids_of t) n) refl there (λ k. around-change_at p f k e)
+around-change_at (n ∷ p) f t e there = by (slice_get (child_elements_of t) n) refl there (λ k. around-change_at p f k e)
   where
-    by : (o : Option Tree) → slice_get (kids_of t) n ≡ o → option_and_then (at p) o ≡ Some e → ((k : Tree) → at p k ≡ Some e → scope_around p (change_at p f k) ≡ scope_around p k)
+    by : (o : Option Tree) → slice_get (child_elements_of t) n ≡ o → option_and_then (at p) o ≡ Some e → ((k : Tree) → at p k ≡ Some e → scope_around p (change_at p f k) ≡ scope_around p k)
         → scope_around (n ∷ p) (change_at (n ∷ p) f t) ≡ scope_around (n ∷ p) t
     by None is h go = cc
     by (Some k) is h go =
-        scope_around-below n p (change_at (n ∷ p) f t) (change_at p f k) (kid-change n (change_at p f) t.content k is) ∙ ap (λ s. t.decls ∷ s) (go k h)
+        scope_around-below n p (change_at (n ∷ p) f t) (change_at p f k) (child_element-change n (change_at p f) t.content k is) ∙ ap (λ s. t.decls ∷ s) (go k h)
         ∙ sym (scope_around-below n p t k is)
 
 -- an element with its content changed
@@ -44,11 +44,11 @@ abbrev pub with_content : (Content → Content) → Tree → Tree
 with_content f e = record e { content = f e.content }
 
 module _ (P : List (List Decl) → Part → Type 0) where
-  -- the scope of a place, behind a scope around the tree
+  -- the scope of a place, after a scope around the tree
   own : (c : List (List Decl)) (p : List ℕ) (t e : Tree) → at p t ≡ Some e → (c ++ scope_around p t) ++ e.decls ∷ [] ≡ c ++ scope_at p t
   own c p t e there = append_assoc c (scope_around p t) (e.decls ∷ []) ∙ ap (λ s. c ++ s) (sym (scope_at-around p t e there))
 
-  -- another content, where it holds in the scope of the place
+  -- another content, which is proper in the scope of the place
   pub with-content : (c : List (List Decl)) (p : List ℕ) (f : Content → Content) (t : Tree)
       → ((k : Content) → Everywhere P (c ++ scope_at p t) k → Everywhere P (c ++ scope_at p t) (f k)) → Throughout P c t → Throughout P c (change_at p (with_content f) t)
   with-content c p f t keeps = Throughout-change_at P p (with_content f) c t (λ e there h. (
@@ -91,8 +91,8 @@ module _ (P : List (List Decl) → Part → Type 0) where
       → Throughout P c (change_at p (exchange_nodes from to ns) t)
   with-nodes c p from to ns t h = with-content c p (exchanged from to ns) t (λ k g. Everywhere-exchanged (c ++ scope_at p t) from to ns k h g)
 
-  -- ---- what was put, in a tree in which it holds
-  pub put-element : (c : List (List Decl)) (p : List ℕ) (j : ℕ) (e t k : Tree) → at p t ≡ Some k → j ≤ length (kids_of k) → Throughout P c (put_in p j e t)
+  -- ---- what was put into a proper tree
+  pub put-element : (c : List (List Decl)) (p : List ℕ) (j : ℕ) (e t k : Tree) → at p t ≡ Some k → j ≤ length (child_elements_of k) → Throughout P c (put_in p j e t)
       → Throughout P (c ++ scope_at p t) e
   put-element c p j e t k there within h =
       let low = inside P p c (put_in p j e t) (put_kid j e k) (at-change_at p (put_kid j e) t k there) h in

@@ -1,34 +1,34 @@
--- A node taken out, and the texts beside it joined.
+-- A node removed, and the texts beside it joined.
 use Rattle.std.proofs.Common.{◌≡◌, ℕ, zero, suc, ◌+◌, ◌<◌, List, [], ◌∷◌, length, slice_set, remove, Option, Some, None, IsSome, false, refl, sym, ap, ◌∙◌, subst, arith}
 use Rattle.std.specs.List.{slice_get}
-use Rattle.xml_tree.specs.Tree.{Content, last, more, note, more_of, Tree}
+use Rattle.xml_tree.specs.Tree.{Content, last, more, comment_node, more_of, Tree}
 use Rattle.xml_tree.specs.Edits.{with_text_before, cut, IsFull, first_text, TextsMeet}
 use Rattle.xml_tree.specs.Nodes.{content_of, StartsApart, AreNormal, place, is_text, elem_of, text_of, text_at, joined_beside, text_of_both as joined}
 use Rattle.xml_tree.specs.inner.Nodes.{removed_joined}
 use Rattle.xml_tree.specs.declared.tree.Node.{Node}
 use Rattle.xml_tree.specs.declared.tree.Node.TheVariants.{Elem, Chars, Comment}
-use Rattle.xml_tree.proofs.Places.{before-nil, before-before, kids-before, kids_in, IsFull-append}
+use Rattle.xml_tree.proofs.Places.{before-nil, before-before, child_elements-before, kids_in, IsFull-append}
 
 pub cut-before : (t : List ℕ) (c : Content) (i : ℕ) → cut i (with_text_before t c) ≡ with_text_before t (cut i c)
 cut-before t (last u) i = refl
 cut-before t (more u n ds ats c rest) zero = before-before t u rest
 cut-before t (more u n ds ats c rest) (suc i) = refl
-cut-before t (note u c rest) i = refl
+cut-before t (comment_node u c rest) i = refl
 
--- the element taken out of the nodes is taken out of their content
+-- removing the element from the nodes removes it from their content
 pub content_of-remove : (n : ℕ) (ns : List Node) → n < length (kids_in ns) → content_of (remove ns (place n ns)) ≡ cut n (content_of ns)
 content_of-remove n [] h = absurd (omega arith)
-content_of-remove n (Chars t ∷ ns) h = ap (with_text_before t) (content_of-remove n ns (rw kids-before at h)) ∙ sym (cut-before t (content_of ns) n)
-content_of-remove n (Comment c ∷ ns) h = ap (note [] c) (content_of-remove n ns h)
+content_of-remove n (Chars t ∷ ns) h = ap (with_text_before t) (content_of-remove n ns (rw child_elements-before at h)) ∙ sym (cut-before t (content_of ns) n)
+content_of-remove n (Comment c ∷ ns) h = ap (comment_node [] c) (content_of-remove n ns h)
 content_of-remove zero (Elem e ∷ ns) h = sym (before-nil (content_of ns))
 content_of-remove (suc n) (Elem e ∷ ns) h = ap (more_of [] e) (content_of-remove n ns (omega arith))
 
 content_of-cons : (x : Node) (ns ms : List Node) → content_of ns ≡ content_of ms → content_of (x ∷ ns) ≡ content_of (x ∷ ms)
 content_of-cons (Elem e) ns ms h = ap (more_of [] e) h
 content_of-cons (Chars t) ns ms h = ap (with_text_before t) h
-content_of-cons (Comment c) ns ms h = ap (note [] c) h
+content_of-cons (Comment c) ns ms h = ap (comment_node [] c) h
 
--- two texts side by side may be exchanged for one
+-- two adjacent texts may be replaced by one
 rejoined : (i : ℕ) (ns : List Node) (t : List ℕ) → joined (text_at i ns) (text_at (suc (suc i)) ns) ≡ Some t
     → content_of (slice_set (remove (remove ns (suc i)) (suc i)) i (Chars t)) ≡ content_of (remove ns (suc i))
 rejoined i [] t is = cc
@@ -76,7 +76,7 @@ StartsApart-removed (suc i) (Elem e ∷ ns) a = subst StartsApart (sym (removed_
 StartsApart-removed zero (Comment c ∷ ns) a = tt
 StartsApart-removed (suc i) (Comment c ∷ ns) a = subst StartsApart (sym (removed_joined-cons (Comment c) i (joined_beside (suc i) ns) ns)) tt
 
--- a first node, the node behind it taken out
+-- a first node, with the node after it removed
 second_out : (x y : Node) (ns : List Node) → AreNormal (x ∷ y ∷ ns) → AreNormal (removed_joined 1 (joined_beside 1 (x ∷ y ∷ ns)) (x ∷ y ∷ ns))
 second_out (Elem e) y ns a = AreNormal-tail y ns a
 second_out (Comment c) y ns a = AreNormal-tail y ns a
@@ -103,7 +103,7 @@ AreNormal-removed_joined (suc i) ns a = AreNormal-removed i ns a
 
 -- ---- where texts meet
 
--- behind a node that is no text, the texts beside a place are those beside it where the node isn't there
+-- after a node that isn't a text, the texts beside a place are the ones without that node
 later : (x : Node) (ns : List Node) (k : ℕ) → is_text x ≡ false → IsSome (joined_beside (suc k) (x ∷ ns)) → IsSome (joined_beside k ns)
 later (Elem e) ns zero f h = cc
 later (Comment c) ns zero f h = cc
@@ -122,18 +122,18 @@ texts_meet_behind t zero (Elem e ∷ Chars u ∷ ns) f s h ih a m = (IsFull-appe
     first_full : (x : List ℕ) (c : Content) → IsFull x → IsFull (first_text (with_text_before x c))
     first_full x (last y) g = IsFull-append x y g
     first_full x (more y n' ds ats c rest) g = IsFull-append x y g
-    first_full x (note y c rest) g = IsFull-append x y g
+    first_full x (comment_node y c rest) g = IsFull-append x y g
 texts_meet_behind t (suc n) (Elem e ∷ ns) f s h ih a m = ih (suc n) h a m
 texts_meet_behind t n (Chars u ∷ ns) f s h ih a m = absurd s
 texts_meet_behind t n (Comment c ∷ ns) f s h ih a m = ih n h a m
 
--- only where texts meet is there a joined one
+-- there is a joined text only if texts meet
 pub TextsMeet-joined : (n : ℕ) (ns : List Node) → n < length (kids_in ns) → AreNormal ns → IsSome (joined_beside (place n ns) ns) → TextsMeet n (content_of ns)
 TextsMeet-joined n [] h a m = absurd (omega arith)
 TextsMeet-joined zero (Elem e ∷ ns) h a m = cc
 TextsMeet-joined (suc n) (Elem e ∷ ns) h a m = TextsMeet-joined n ns (omega arith) a (later (Elem e) ns (place n ns) refl m)
 TextsMeet-joined n (Comment c ∷ ns) h a m = TextsMeet-joined n ns h a (later (Comment c) ns (place n ns) refl m)
-TextsMeet-joined n (Chars t ∷ ns) h a m = let there = rw kids-before at h in
+TextsMeet-joined n (Chars t ∷ ns) h a m = let there = rw child_elements-before at h in
     texts_meet_behind t n ns a.0 a.1 there (λ k l b j. TextsMeet-joined k ns l b j) a.2 m
 
 -- ---- the parts of the code
@@ -141,7 +141,7 @@ TextsMeet-joined n (Chars t ∷ ns) h a m = let there = rw kids-before at h in
 -- the node at an element's place is the element
 pub elem_of-place : (n : ℕ) (ns : List Node) (x : Node) → n < length (kids_in ns) → slice_get ns (place n ns) ≡ Some x → elem_of x ≡ slice_get (kids_in ns) n
 elem_of-place n [] x h is = absurd (omega arith)
-elem_of-place n (Chars t ∷ ns) x h is = elem_of-place n ns x (rw kids-before at h) is ∙ rw kids-before
+elem_of-place n (Chars t ∷ ns) x h is = elem_of-place n ns x (rw child_elements-before at h) is ∙ rw child_elements-before
 elem_of-place n (Comment c ∷ ns) x h is = elem_of-place n ns x h is
 elem_of-place zero (Elem e ∷ ns) x h is = let same : x ≡ Elem e = cc in ap elem_of same
 elem_of-place (suc n) (Elem e ∷ ns) x h is = elem_of-place n ns x (omega arith) is

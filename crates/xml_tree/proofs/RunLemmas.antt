@@ -1,6 +1,6 @@
--- Runs of nodes, one behind another.
+-- Runs of nodes, one after another.
 use Rattle.std.proofs.Common.{◌≡◌, ℕ, zero, suc, ◌<◌, ◌≤◌, List, [], ◌∷◌, ◌++◌, length, take, drop, Some, None, false, true≢false, refl, sym, ap, ◌∙◌, arith}
-use Rattle.xml_tree.specs.Tree.{Content, last, more, note, more_of}
+use Rattle.xml_tree.specs.Tree.{Content, last, more, comment_node, more_of}
 use Rattle.xml_tree.specs.Edits.{with_text_before}
 use Rattle.xml_tree.specs.Nodes.{content_of, StartsApart, AreNormal, is_text, text_at}
 use Rattle.xml_tree.specs.inner.Nodes.{ends_in_text}
@@ -8,24 +8,24 @@ use Rattle.xml_tree.specs.declared.tree.Node.{Node}
 use Rattle.xml_tree.specs.declared.tree.Node.TheVariants.{Elem, Chars, Comment}
 use Rattle.xml_tree.proofs.Places.{AreNormal-append, before-nil, before-before}
 
--- a content behind another
+-- a content after another
 abbrev followed : Content → Content → Content
 followed (last t) d = with_text_before t d
 followed (more t n ds ats c rest) d = more t n ds ats c (followed rest d)
-followed (note t c rest) d = note t c (followed rest d)
+followed (comment_node t c rest) d = comment_node t c (followed rest d)
 
 followed-before : (t : List ℕ) (c d : Content) → followed (with_text_before t c) d ≡ with_text_before t (followed c d)
 followed-before t (last u) d = before-before t u d
 followed-before t (more u n ds ats c rest) d = refl
-followed-before t (note u c rest) d = refl
+followed-before t (comment_node u c rest) d = refl
 
 content_of-append : (xs ys : List Node) → content_of (xs ++ ys) ≡ followed (content_of xs) (content_of ys)
 content_of-append [] ys = sym (before-nil (content_of ys))
 content_of-append (Elem e ∷ xs) ys = ap (more_of [] e) (content_of-append xs ys)
-content_of-append (Comment c ∷ xs) ys = ap (note [] c) (content_of-append xs ys)
+content_of-append (Comment c ∷ xs) ys = ap (comment_node [] c) (content_of-append xs ys)
 content_of-append (Chars t ∷ xs) ys = ap (with_text_before t) (content_of-append xs ys) ∙ sym (followed-before t (content_of xs) (content_of ys))
 
--- what is behind and what is in front doesn't matter to what stands between
+-- the nodes between are independent of the nodes before and after
 pub content_of-between : (ws xs ys zs : List Node) → content_of xs ≡ content_of ys → content_of (ws ++ (xs ++ zs)) ≡ content_of (ws ++ (ys ++ zs))
 content_of-between ws xs ys zs h =
     content_of-append ws (xs ++ zs) ∙ ap (followed (content_of ws)) (content_of-append xs zs ∙ ap (λ c. followed c (content_of zs)) h ∙ sym (content_of-append ys zs))
@@ -34,7 +34,7 @@ content_of-between ws xs ys zs h =
 pub content_of-front : (xs ys zs : List Node) → content_of xs ≡ content_of ys → content_of (xs ++ zs) ≡ content_of (ys ++ zs)
 content_of-front xs ys zs h = content_of-append xs zs ∙ ap (λ c. followed c (content_of zs)) h ∙ sym (content_of-append ys zs)
 
--- normal runs with none of two texts meeting are normal together
+-- normal runs between which no two texts meet are normal together
 pub AreNormal-three : (xs ys zs : List Node) → AreNormal xs → AreNormal ys → AreNormal zs → ends_in_text xs ≡ false → StartsApart zs → AreNormal (xs ++ (ys ++ zs))
 AreNormal-three xs ys zs a b c e s =
     AreNormal-append xs (ys ++ zs) a (AreNormal-append ys zs b c (λ yes. s)) (λ yes. absurd (true≢false (sym yes ∙ e)))
@@ -71,7 +71,7 @@ ends-take_one : (x : Node) (i : ℕ) (ns : List Node) → i < length ns → ends
 ends-take_one x i [] h = absurd (omega arith)
 ends-take_one x i (y ∷ ns) h = refl
 
--- no text directly before a place: none stands last among the nodes before it
+-- no text directly before a place: none is last among the nodes before it
 pub ends-take_none : (i : ℕ) (ns : List Node) → suc i ≤ length ns → text_at i ns ≡ None → ends_in_text (take (suc i) ns) ≡ false
 ends-take_none i [] h is = absurd (omega arith)
 ends-take_none zero (Elem e ∷ ns) h is = refl
@@ -84,7 +84,7 @@ not_last x zero ns h e f = f refl
 not_last x (suc i) [] h e f = absurd (omega arith)
 not_last x (suc i) (y ∷ ns) h e f = e
 
--- a text directly before a place: none stands directly before that
+-- a text directly before a place: none is directly before that
 pub ends-take_some : (i : ℕ) (ns : List Node) (t : List ℕ) → AreNormal ns → text_at i ns ≡ Some t → ends_in_text (take i ns) ≡ false
 ends-take_some zero ns t a is = refl
 ends-take_some (suc i) [] t a is = refl
@@ -117,7 +117,7 @@ StartsApart-drop_some zero (Chars u ∷ ns) t a is = a.1
 StartsApart-drop_some zero (Comment c ∷ ns) t a is = cc
 StartsApart-drop_some (suc i) (x ∷ ns) t a is = StartsApart-drop_some i ns t (tail_normal x ns a) is
 
--- the text at a place, beside the nodes before it and behind it
+-- the text at a place, beside the nodes before it and after it
 pub take-text : (i : ℕ) (ns zs : List Node) (t : List ℕ) → text_at i ns ≡ Some t → take i ns ++ (Chars t ∷ zs) ≡ take (suc i) ns ++ zs
 take-text i [] zs t is = absurd (cc)
 take-text zero (Elem e ∷ ns) zs t is = cc

@@ -2,7 +2,7 @@
 use Rattle.std.proofs.Common.{◌≡◌, ℕ, suc, ◌+◌, ◌<◌, List, [], ◌∷◌, ◌++◌, length, drop, get_or, map, Option, Some, None, option_map, option_and_then, unwrap_or, slice_get, Bor, cond, bytes_eq, refl, sym, ap, ◌∙◌, add-one, drop-cons}
 use Rattle.std.specs.Option.{option_or}
 use Rattle.xml_tree.specs.declared.names.Decl.{Decl}
-use Rattle.xml_tree.specs.Tree.{Tree, at, kids_of}
+use Rattle.xml_tree.specs.Tree.{Tree, at, child_elements_of}
 use Rattle.xml_tree.specs.Scopes.{declared, joined, scope_at, scope_below}
 
 -- the rest of a list, from an element on
@@ -28,7 +28,7 @@ declared-joined ds c p = declared-append ds (joined c) p
 
 pub ruleset declared_steps = (declared-joined, option_or-assoc, option_or-none)
 
--- ---- one list more, in a loop over the lists
+-- ---- one more list, in a loop over the lists
 module _ (p : List ℕ) where
   abbrev pub of_lists : List (Bor (List Decl)) → Option (List ℕ)
   of_lists ls = declared (joined (map (λ x. x.now) ls)) p
@@ -45,15 +45,15 @@ module _ (p : List ℕ) where
       ∙ ap (λ o. option_or o found) (sym (of_lists_next ls i x within is)) ∙ before
 
 -- ---- down a path
-pub at_next : (ns : List ℕ) (i : ℕ) (t : Tree) → i < length ns → at (drop i ns) t ≡ option_and_then (at (drop (i + 1) ns)) (slice_get (kids_of t) (get_or ns i 0))
-at_next ns i t within = ap (λ p. at p t) (drop-cons ns i 0 within) ∙ ap (λ j. option_and_then (at (drop j ns)) (slice_get (kids_of t) (get_or ns i 0))) (sym (add-one i))
+pub at_next : (ns : List ℕ) (i : ℕ) (t : Tree) → i < length ns → at (drop i ns) t ≡ option_and_then (at (drop (i + 1) ns)) (slice_get (child_elements_of t) (get_or ns i 0))
+at_next ns i t within = ap (λ p. at p t) (drop-cons ns i 0 within) ∙ ap (λ j. option_and_then (at (drop j ns)) (slice_get (child_elements_of t) (get_or ns i 0))) (sym (add-one i))
 
 pub scope_at-below : (p : List ℕ) (t : Tree) → scope_at p t ≡ t.decls ∷ scope_below p t
 scope_at-below [] t = refl
 scope_at-below (n ∷ p) t = refl
 
-pub scope_next : (ns : List ℕ) (i : ℕ) (t k : Tree) → i < length ns → slice_get (kids_of t) (get_or ns i 0) ≡ Some k
+pub scope_next : (ns : List ℕ) (i : ℕ) (t k : Tree) → i < length ns → slice_get (child_elements_of t) (get_or ns i 0) ≡ Some k
     → scope_below (drop i ns) t ≡ k.decls ∷ scope_below (drop (i + 1) ns) k
 scope_next ns i t k within is =
-    ap (λ p. scope_below p t) (drop-cons ns i 0 within) ∙ ap (λ j. unwrap_or (option_map (scope_at (drop j ns)) (slice_get (kids_of t) (get_or ns i 0))) []) (sym (add-one i))
+    ap (λ p. scope_below p t) (drop-cons ns i 0 within) ∙ ap (λ j. unwrap_or (option_map (scope_at (drop j ns)) (slice_get (child_elements_of t) (get_or ns i 0))) []) (sym (add-one i))
     ∙ ap (λ o. unwrap_or (option_map (scope_at (drop (i + 1) ns)) o) []) is ∙ scope_at-below (drop (i + 1) ns) k

@@ -1,11 +1,11 @@
--- Scopes that bind alike, and what is proper in both.
+-- Scopes with the same bindings, and what is proper in both.
 use Rattle.std.proofs.Common.{◌≡◌, ℕ, Bool, true, false, List, [], ◌∷◌, ◌++◌, map, Option, Some, None, IsSome, bytes_eq, refl, sym, ap, ◌∙◌, subst, append_assoc, append-nil, if◌then◌else◌}
 use Rattle.std.specs.List.{AllByRecursion, IsDistinct}
 use Rattle.std.specs.Option.{option_or}
 use Rattle.xml_tree.specs.declared.names.Name.{Name}
 use Rattle.xml_tree.specs.declared.names.Decl.{Decl}
 use Rattle.xml_tree.specs.declared.names.Attr.{Attr}
-use Rattle.xml_tree.specs.Tree.{Content, last, more, note, Tree}
+use Rattle.xml_tree.specs.Tree.{Content, last, more, comment_node, Tree}
 use Rattle.xml_tree.specs.Expanded.{attr_name, same_expanded}
 use Rattle.xml_tree.specs.Scopes.{bound, declared, joined, some_text, xml_prefix, xml_uri}
 use Rattle.xml_tree.specs.Proper.{IsAttribute, IsNamed, IsTag, ProperIn}
@@ -16,7 +16,7 @@ pub joined-append : (c d : List (List Decl)) → joined (c ++ d) ≡ joined c ++
 joined-append [] d = refl
 joined-append (ds ∷ c) d = ap (λ l. ds ++ l) (joined-append c d) ∙ sym (append_assoc ds (joined c) (joined d))
 
--- a scope with one list more
+-- a scope with one more list
 pub declared-inner : (c : List (List Decl)) (ds : List Decl) (p : List ℕ) → declared (joined (c ++ ds ∷ [])) p ≡ option_or (declared ds p) (declared (joined c) p)
 declared-inner c ds p =
     ap (λ l. declared l p) (joined-append c (ds ∷ []) ∙ ap (λ l. joined c ++ l) (append-nil ds)) ∙ declared-append (joined c) ds p
@@ -26,7 +26,7 @@ pub bound-inner : (c : List (List Decl)) (ds : List Decl) (p : List ℕ)
 bound-inner c ds p = ap (λ o. if bytes_eq p xml_prefix then Some xml_uri else some_text o) (declared-inner c ds p)
 
 module _ (c d : List (List Decl)) (alike : (p : List ℕ) → bound c p ≡ bound d p) where
-  -- they bind alike with the same declarations inside
+  -- they have the same bindings with the same declarations inside
   pub alike-inner : (ds : List Decl) (p : List ℕ) → bound (c ++ ds ∷ []) p ≡ bound (d ++ ds ∷ []) p
   alike-inner ds p = bound-inner c ds p ∙ by (bytes_eq p xml_prefix) refl (declared ds p) ∙ sym (bound-inner d ds p)
     where
@@ -66,7 +66,7 @@ Proper-alike c d (more t n ds ats k rest) alike h =
       Proper-alike (c ++ ds ∷ []) (d ++ ds ∷ []) k inner h.2,
       Proper-alike c d rest alike h.3,
     )
-Proper-alike c d (note t x rest) alike h = (h.0, h.1, Proper-alike c d rest alike h.2)
+Proper-alike c d (comment_node t x rest) alike h = (h.0, h.1, Proper-alike c d rest alike h.2)
 
 pub ProperIn-alike : (c d : List (List Decl)) (t : Tree) → ((p : List ℕ) → bound c p ≡ bound d p) → ProperIn c t → ProperIn d t
 ProperIn-alike c d t alike h =

@@ -1,4 +1,4 @@
--- A text's bytes with more behind them.
+-- A text's bytes with more bytes appended.
 use Rattle.std.proofs.Common.{◌≡◌, ℕ, List, [], ◌∷◌, ◌++◌, ◌&&◌, true, Result, Ok, Err, OnOk, OnErr, chars, encode_utf8, IsUtf8, append-nil, sym, ap, subst, ◌∙◌}
 use Rattle.std.proofs.Math.Utf8.{scalar}
 use Rattle.std.proofs.lemmas.Str.{chars-append, chars-encodes, IsUtf8-append}

@@ -1,4 +1,5 @@
--- The attributes of an element, told apart by their names as written (XML 1.0, 3.1: no name stands twice in one tag).
+-- The attributes of an element, distinguished by their names as written (XML 1.0, 3.1: no name
+-- appears twice in one tag).
 use Rattle.std.specs.Prelude.{ℕ, zero, suc, Bool, List, [], ◌∷◌, if◌then◌else◌, ◌&&◌}
 use Rattle.std.specs.Str.{bytes_eq}
 use Rattle.xml_tree.specs.declared.names.Name.{Name}
@@ -12,11 +13,11 @@ same_name a b = bytes_eq a.prefix b.prefix && bytes_eq a.local b.local
 abbrev pub is_written_so : Name → Attr → Bool
 is_written_so n a = same_name a.name n
 
--- the attribute with another value
+-- the attribute with the value replaced
 abbrev pub with_new_value : List ℕ → Attr → Attr
 with_new_value v a = record a { value = v }
 
--- the first item that passes the test is changed by f; where none passes, x stands behind all
+-- the first item that passes the test is changed by f; where none passes, x is appended
 abbrev pub change_first : {A : Type 0} → (A → Bool) → (A → A) → A → List A → List A
 change_first p f x [] = x ∷ []
 change_first p f x (y ∷ ys) = if p y then (f y ∷ ys) else (y ∷ change_first p f x ys)
@@ -32,7 +33,8 @@ change_item i f [] = []
 change_item zero f (y ∷ ys) = f y ∷ ys
 change_item (suc i) f (y ∷ ys) = y ∷ change_item i f ys
 
--- the attribute of this name gets the value, at its place; where there is none, one stands behind the others
+-- the attribute of this name gets the value, at its place; where there is none, a new one is
+-- appended
 abbrev pub with_attr : Name → List ℕ → List Attr → List Attr
 with_attr n v ats = change_first (is_written_so n) (with_new_value v) (record { name = n; value = v }) ats
 

@@ -1,4 +1,4 @@
--- What a list of nodes ends as, whose last element was lent for writing.
+-- The final value of a list of nodes whose last element was mutably borrowed.
 use Rattle.std.specs.Prelude.{◌-◌, length, Vec}
 use Rattle.std.specs.Borrow.{Lends, MutBor, Fml, RattleType}
 use Rattle.std.specs.Vec.{with_item}
@@ -12,10 +12,10 @@ use Rattle.xml_tree.specs.declared.tree.Node.TheVariants.{Elem}
 use Rattle.xml_tree.specs.contracts.tree.Element as element
 use Rattle.xml_tree.specs.contracts.tree.Node as node
 
--- nodes of a list, as the logic of borrows sees them
+-- a list of nodes, as the logic of borrows sees it
 abbrev pub nodes_row : RattleType
 nodes_row = vec.the_row node.the_row global.the_row ghosts
 
--- the nodes end with the last exchanged for the element's last value
+-- the nodes end with the last one replaced by the element's final value
 abbrev pub LendsLast : MutBor (Vec Node Global) → MutBor Tree → Fml
 LendsLast s r = Lends nodes_row element.the_row s r (λ w. with_item s.now (length s.now.items - 1) (Elem w))

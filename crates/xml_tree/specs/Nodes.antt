@@ -1,18 +1,18 @@
--- A list of nodes, and the content that it stands for.
+-- Lists of nodes, and the content that each stands for.
 use Rattle.std.specs.Prelude.{ℕ, zero, suc, Bool, true, false, List, [], ◌∷◌, ◌++◌, Option, None, Some, take, drop, option_and_then, slice_get}
-use Rattle.xml_tree.specs.Tree.{Content, last, more, note, more_of, Tree, tree_of, height}
+use Rattle.xml_tree.specs.Tree.{Content, last, more, comment_node, more_of, Tree, tree_of, height}
 use Rattle.xml_tree.specs.Edits.{with_text_before, IsFull}
 use Rattle.xml_tree.specs.declared.tree.Node.{Node}
 use Rattle.xml_tree.specs.declared.tree.Node.TheVariants.{Elem, Chars, Comment}
 
--- the content that nodes stand for: texts that meet are joined, and empty ones vanish
+-- the content that nodes stand for: texts that meet are joined, and empty ones are dropped
 abbrev pub content_of : List Node → Content
 content_of [] = last []
 content_of (Elem e ∷ ns) = more_of [] e (content_of ns)
 content_of (Chars t ∷ ns) = with_text_before t (content_of ns)
-content_of (Comment c ∷ ns) = note [] c (content_of ns)
+content_of (Comment c ∷ ns) = comment_node [] c (content_of ns)
 
--- a text as a node; none where it is empty
+-- a text as a node; none if it is empty
 abbrev pub text_node : List ℕ → List Node
 text_node [] = []
 text_node (c ∷ cs) = Chars (c ∷ cs) ∷ []
@@ -21,9 +21,9 @@ text_node (c ∷ cs) = Chars (c ∷ cs) ∷ []
 abbrev pub nodes_of : Content → List Node
 nodes_of (last t) = text_node t
 nodes_of (more t n ds ats c rest) = text_node t ++ Elem (tree_of n ds ats c) ∷ nodes_of rest
-nodes_of (note t c rest) = text_node t ++ Comment c ∷ nodes_of rest
+nodes_of (comment_node t c rest) = text_node t ++ Comment c ∷ nodes_of rest
 
--- no text stands first
+-- the first node isn't a text
 abbrev pub StartsApart : List Node → Type 0
 StartsApart [] = Unit {0}
 StartsApart (Elem e ∷ ns) = Unit {0}
@@ -37,7 +37,7 @@ AreNormal (Elem e ∷ ns) = AreNormal ns
 AreNormal (Chars t ∷ ns) = IsFull t × StartsApart ns × AreNormal ns
 AreNormal (Comment c ∷ ns) = AreNormal ns
 
--- how many elements of a node are one in another
+-- how many levels of elements a node has
 abbrev pub node_height : Node → ℕ
 node_height (Elem e) = height e
 node_height (Chars t) = 0
@@ -51,13 +51,13 @@ is_text (Elem e) = false
 is_text (Chars t) = true
 is_text (Comment c) = false
 
--- the element that a node is
+-- the element that a node is, if it is one
 abbrev pub elem_of : Node → Option Tree
 elem_of (Elem e) = Some e
 elem_of (Chars t) = None
 elem_of (Comment c) = None
 
--- the text that a node is
+-- the text that a node is, if it is one
 abbrev pub text_of : Node → Option (List ℕ)
 text_of (Elem e) = None
 text_of (Chars t) = Some t
@@ -71,7 +71,7 @@ last_elem (x ∷ y ∷ ns) = last_elem (y ∷ ns)
 
 -- ---- places among nodes
 
--- the place of the n-th element, or the number of nodes where there are fewer elements
+-- the place of the n-th element, or the number of nodes if there are fewer elements
 abbrev pub place : ℕ → List Node → ℕ
 place n [] = 0
 place n (Chars t ∷ ns) = suc (place n ns)
@@ -79,30 +79,30 @@ place n (Comment c ∷ ns) = suc (place n ns)
 place zero (Elem e ∷ ns) = 0
 place (suc n) (Elem e ∷ ns) = suc (place n ns)
 
--- the place of a gap: before all nodes, or behind an element
+-- the place of a gap: before all nodes, or after an element
 abbrev pub gap_place : ℕ → List Node → ℕ
 gap_place zero ns = 0
 gap_place (suc n) ns = suc (place n ns)
 
--- the text that is the i-th node, where it is one
+-- the text that is the i-th node, if it is one
 abbrev pub text_at : ℕ → List Node → Option (List ℕ)
 text_at i ns = option_and_then text_of (slice_get ns i)
 
--- two texts one behind the other, where both are there
+-- two texts concatenated, where both are there
 abbrev pub text_of_both : Option (List ℕ) → Option (List ℕ) → Option (List ℕ)
 text_of_both None u = None
 text_of_both (Some t) None = None
 text_of_both (Some t) (Some u) = Some (t ++ u)
 
--- the texts directly before and behind the i-th node, joined, where both nodes there are texts
+-- the texts directly before and after the i-th node, joined, where both nodes there are texts
 abbrev pub joined_beside : ℕ → List Node → Option (List ℕ)
 joined_beside zero ns = None
 joined_beside (suc i) ns = text_of_both (text_at i ns) (text_at (suc (suc i)) ns)
 
 -- ---- runs of nodes
 
--- a content whose nodes from one place to before another are exchanged for others; texts that meet are joined, and empty
--- ones vanish
+-- a content whose nodes from one place to before another are replaced by others; texts that meet
+-- are joined, and empty ones are dropped
 abbrev pub exchanged : ℕ → ℕ → List Node → Content → Content
 exchanged from to new c = content_of (take from (nodes_of c) ++ (new ++ drop to (nodes_of c)))
 

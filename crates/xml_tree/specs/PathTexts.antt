@@ -1,7 +1,8 @@
--- The positional selector of a place. RFC 4825, section 6.3: a wildcard and a position for each step.
+-- The positional selector of a place. RFC 4825, section 6.3: a wildcard and a position for each
+-- step.
 use Rattle.std.specs.Prelude.{ℕ, suc, List, [], ◌∷◌, ◌++◌, codes, decimal}
 
--- what stands behind the root's `*`: `/*[i]` for each number, counted from 1
+-- what follows the root's `*`: `/*[i]` for each number, counted from 1
 abbrev pub steps_text : List ℕ → List ℕ
 steps_text [] = []
 steps_text (n ∷ p) = codes "/*[" ++ (decimal (suc n) ++ (codes "]" ++ steps_text p))

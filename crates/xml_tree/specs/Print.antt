@@ -1,8 +1,9 @@
--- The print of a tree: the one text that stands for it, of the many that XML 1.0 allows (sections 2.2, 2.4, 2.5, 2.11, 3.1 and 3.3.3).
--- Characters that a reader would take for markup, or change, are written as references.
+-- The print of a tree: one text of the many that XML 1.0 allows for it (sections 2.2, 2.4, 2.5,
+-- 2.11, 3.1 and 3.3.3). Characters that a reader would take for markup, or change, are written as
+-- references.
 use Rattle.std.specs.Prelude.{ℕ, Bool, true, false, ◌==◌, codes, List, [], ◌∷◌, ◌++◌, flat_map, length, encode_utf8_all, if◌then◌else◌}
 use Rattle.std.specs.Str.{bytes_eq}
-use Rattle.xml_tree.specs.Tree.{Content, last, more, note, Tree}
+use Rattle.xml_tree.specs.Tree.{Content, last, more, comment_node, Tree}
 use Rattle.xml_tree.specs.declared.names.Name.{Name}
 use Rattle.xml_tree.specs.declared.names.Decl.{Decl}
 use Rattle.xml_tree.specs.declared.names.Attr.{Attr}
@@ -12,7 +13,8 @@ abbrev pub text_escape : ℕ → List ℕ
 text_escape c =
     if c == 38 then codes "&amp;" else (if c == 60 then codes "&lt;" else (if c == 62 then codes "&gt;" else (if c == 13 then codes "&#xD;" else (c ∷ []))))
 
--- a character of a value in quotes: `&` (38), `<` (60), `"` (34), tab (9), LF (10) and CR (13) are references
+-- a character of a value in quotes: `&` (38), `<` (60), `"` (34), tab (9), LF (10) and CR (13)
+-- are references
 abbrev pub value_escape : ℕ → List ℕ
 value_escape c =
     if c == 38 then codes "&amp;" else (if c == 60 then codes "&lt;" else (if c == 34 then codes "&quot;" else
@@ -25,7 +27,7 @@ print_text t = flat_map text_escape t
 abbrev pub quoted_text : List ℕ → List ℕ
 quoted_text v = 34 ∷ (flat_map value_escape v ++ 34 ∷ [])
 
--- a name: the prefix and a colon (58), where there is a prefix, and the local name
+-- a name: the prefix and a colon (58), if there is a prefix, and the local name
 abbrev pub print_name : Name → List ℕ
 print_name n = if bytes_eq n.prefix [] then n.local else (n.prefix ++ 58 ∷ n.local)
 
@@ -53,9 +55,10 @@ abbrev pub is_empty : Content → Bool
 is_empty (last []) = true
 is_empty (last (x ∷ t)) = false
 is_empty (more t n ds ats c rest) = false
-is_empty (note t x rest) = false
+is_empty (comment_node t x rest) = false
 
--- what follows the attributes: `/>` where there are no nodes, else `>` (62), the nodes and the end tag
+-- what follows the attributes: `/>` where there are no nodes, else `>` (62), the nodes and the
+-- end tag
 abbrev pub ending : Name → Bool → List ℕ → List ℕ
 ending n empty inside = if empty then codes "/>" else (62 ∷ (inside ++ closing n))
 
@@ -67,7 +70,7 @@ print_comment x = codes "<!--" ++ (x ++ codes "-->")
 abbrev pub print_content : Content → List ℕ
 print_content (last t) = print_text t
 print_content (more t n ds ats c rest) = print_text t ++ ((opening n ds ats ++ ending n (is_empty c) (print_content c)) ++ print_content rest)
-print_content (note t x rest) = print_text t ++ (print_comment x ++ print_content rest)
+print_content (comment_node t x rest) = print_text t ++ (print_comment x ++ print_content rest)
 
 -- an element
 abbrev pub print : Tree → List ℕ

@@ -6,7 +6,7 @@ use Rattle.std.specs.Option.{option_or}
 use Rattle.std.specs.Ordering.{is_lt, nat_cmp}
 use Rattle.std.specs.Str.{bytes_eq}
 use Rattle.std.specs.declared.cmp.Ordering.TheVariants.{Less}
-use Rattle.xml_tree.specs.Tree.{Tree, kids_of}
+use Rattle.xml_tree.specs.Tree.{Tree, child_elements_of}
 use Rattle.xml_tree.specs.Edits.{parent_path}
 use Rattle.xml_tree.specs.declared.names.Decl.{Decl}
 
@@ -36,29 +36,31 @@ abbrev pub declared : List Decl → List ℕ → Option (List ℕ)
 declared [] p = None
 declared (d ∷ ds) p = option_or (declared ds p) (if bytes_eq d.prefix p then Some d.uri else None)
 
--- an empty URI binds nothing, and hides what is declared further out
+-- an empty URI binds nothing, and hides outer declarations
 abbrev pub some_text : Option (List ℕ) → Option (List ℕ)
 some_text None = None
 some_text (Some []) = None
 some_text (Some (c ∷ cs)) = Some (c ∷ cs)
 
--- the URI that a prefix is bound to: by the nearest declaration, and `xml` always to its own namespace
+-- the URI that a prefix is bound to: by the nearest declaration, and `xml` always to its own
+-- namespace
 abbrev pub bound : List (List Decl) → List ℕ → Option (List ℕ)
 bound c p = if bytes_eq p xml_prefix then Some xml_uri else some_text (declared (joined c) p)
 
 -- ---- the scopes of a tree
 
--- the declarations of all elements on a path, the last included; of a path that leads nowhere, those of the elements that are there
+-- the declarations of all elements on a path, the last included; where the path leads nowhere,
+-- the declarations of the elements that exist
 abbrev pub scope_at : List ℕ → Tree → List (List Decl)
 scope_at [] e = e.decls ∷ []
-scope_at (n ∷ p) e = e.decls ∷ unwrap_or (option_map (scope_at p) (slice_get (kids_of e) n)) []
+scope_at (n ∷ p) e = e.decls ∷ unwrap_or (option_map (scope_at p) (slice_get (child_elements_of e) n)) []
 
--- the same without those of the element itself
+-- the declarations of all elements below the first one on a path
 abbrev pub scope_below : List ℕ → Tree → List (List Decl)
 scope_below [] e = []
-scope_below (n ∷ p) e = unwrap_or (option_map (scope_at p) (slice_get (kids_of e) n)) []
+scope_below (n ∷ p) e = unwrap_or (option_map (scope_at p) (slice_get (child_elements_of e) n)) []
 
--- those of all elements around the one at the path
+-- the declarations of all elements around the one at the path
 abbrev pub scope_around : List ℕ → Tree → List (List Decl)
 scope_around [] e = []
 scope_around (n ∷ p) e = scope_at (parent_path (n ∷ p)) e
@@ -69,11 +71,11 @@ inside c e = c ++ e.decls ∷ []
 
 -- ---- all bindings of a scope, in order
 
--- whether a text stands before another, by code point
+-- whether a text comes before another, by code point
 abbrev pub is_before : List ℕ → List ℕ → Bool
 is_before p q = is_lt (slice_cmp nat_cmp p q)
 
--- these texts in that order, each once: those before the first of them, itself, and those behind it
+-- these texts in order, each once: the texts before the first one, itself, and the texts after it
 abbrev pub in_order : List (List ℕ) → List (List ℕ)
 in_order [] = []
 in_order (p ∷ ps) = filter (λ q. is_before q p) (in_order ps) ++ p ∷ filter (λ q. is_before p q) (in_order ps)
@@ -81,21 +83,22 @@ in_order (p ∷ ps) = filter (λ q. is_before q p) (in_order ps) ++ p ∷ filter
 abbrev pub decl_of : List ℕ → List ℕ → Decl
 decl_of p uri = record { prefix = p; uri = uri }
 
--- what a prefix is bound to, as a declaration; `xml` is bound anyway
+-- what a prefix is bound to, as a declaration; `xml` is always bound, and has none
 abbrev pub binding : List (List Decl) → List ℕ → Option Decl
 binding c p = if bytes_eq p xml_prefix then None else option_map (decl_of p) (bound c p)
 
--- all bindings in scope but that of `xml`: those of the prefixes that are declared, the default first, then by code point
+-- all bindings in scope but the binding of `xml`: one for each declared prefix, the default
+-- first, then by code point
 abbrev pub bindings_in : List (List Decl) → List Decl
 bindings_in c = filter_map (binding c) (in_order (map (λ d. d.prefix) (joined c)))
 
--- ---- what can be said of such a list
+-- ---- properties of such a list
 
--- whether a declaration binds a prefix that isn't bound anyway
+-- whether a declaration binds a prefix that isn't always bound
 abbrev pub binds : Decl → Bool
 binds d = not (bytes_eq d.uri []) && not (bytes_eq d.prefix xml_prefix)
 
--- each prefix stands before those behind it, by code point
+-- each prefix comes before the later ones, by code point
 abbrev pub AreInOrder : List Decl → Type 0
 AreInOrder [] = Unit {0}
 AreInOrder (d ∷ ds) = AllByRecursion (λ x. slice_cmp nat_cmp d.prefix x.prefix ≡ Less) ds × AreInOrder ds

@@ -4,15 +4,15 @@ use Rattle.xml_tree.specs.declared.names.Name.{Name}
 use Rattle.xml_tree.specs.declared.names.Decl.{Decl}
 use Rattle.xml_tree.specs.declared.names.Attr.{Attr}
 
--- What stands between the tags of an element. Each part begins with a text, and an empty text says that there is none.
--- So no text is empty and no two texts meet: a content is normal by its form.
---     last t                     the text t, and nothing behind it
---     more t n ds ats c rest     the text t, an element with this name, declarations, attributes and content, and what follows
---     note t c rest              the text t, a comment with the inside c, and what follows
+-- The content of an element. Each part begins with a text, and an empty text means that there is
+-- none. So no text is empty and no two texts meet: a content is normal by its form.
+--     last t                     the text t, and nothing after it
+--     more t n ds ats c rest     the text t, an element with these parts, and the rest
+--     comment_node t c rest      the text t, a comment with the inside c, and the rest
 pub data Content : Type 0 where
   last : List ℕ → Content
   more : List ℕ → Name → List Decl → List Attr → Content → Content → Content
-  note : List ℕ → List ℕ → Content → Content
+  comment_node : List ℕ → List ℕ → Content → Content
 
 -- an element
 pub record Tree : Type 0 where
@@ -30,34 +30,35 @@ abbrev pub more_of : List ℕ → Tree → Content → Content
 more_of t e rest = more t e.name e.decls e.attrs e.content rest
 
 -- content of these elements, without any text or comment
-abbrev pub of_kids : List Tree → Content
-of_kids [] = last []
-of_kids (e ∷ es) = more_of [] e (of_kids es)
+abbrev pub of_children : List Tree → Content
+of_children [] = last []
+of_children (e ∷ es) = more_of [] e (of_children es)
 
 -- ---- depth
 
--- how many elements of a content are one in another
+-- how many levels of elements a content has
 abbrev pub content_height : Content → ℕ
 content_height (last t) = 0
 content_height (more t n ds ats c rest) = max (suc (content_height c)) (content_height rest)
-content_height (note t c rest) = content_height rest
+content_height (comment_node t c rest) = content_height rest
 
--- how many elements are one in another, the outermost counted: 1 for an element that has no element in it
+-- how many levels an element has: 1 for an element without child elements
 abbrev pub height : Tree → ℕ
 height e = suc (content_height e.content)
 
--- ---- elements in elements, and places
+-- ---- child elements, and places
 
--- the element children, in order
-abbrev pub kids : Content → List Tree
-kids (last t) = []
-kids (more t n ds ats c rest) = tree_of n ds ats c ∷ kids rest
-kids (note t c rest) = kids rest
+-- the child elements, in order
+abbrev pub child_elements : Content → List Tree
+child_elements (last t) = []
+child_elements (more t n ds ats c rest) = tree_of n ds ats c ∷ child_elements rest
+child_elements (comment_node t c rest) = child_elements rest
 
-abbrev pub kids_of : Tree → List Tree
-kids_of e = kids e.content
+abbrev pub child_elements_of : Tree → List Tree
+child_elements_of e = child_elements e.content
 
--- the element at a path, which is a list of element-child numbers from the root down; none where a number is too large
+-- the element at a path, which is a list of child-element numbers from the root down; none if a
+-- number is too large
 abbrev pub at : List ℕ → Tree → Option Tree
 at [] e = Some e
-at (n ∷ p) e = option_and_then (at p) (slice_get (kids_of e) n)
+at (n ∷ p) e = option_and_then (at p) (slice_get (child_elements_of e) n)

@@ -1,12 +1,12 @@
--- What private functions and proofs speak of. No clause of a public call needs it.
+-- Definitions for private functions and proofs; no public clause needs them.
 pub mod Around
-pub mod Codes
-pub mod Falls
-pub mod Gathering
-pub mod Lending
-pub mod Spelled
-pub mod Words
 pub mod Attributes
-pub mod Print
+pub mod Codes
+pub mod Gathering
+pub mod Heights
+pub mod Lending
 pub mod Nodes
+pub mod Print
 pub mod Proper
+pub mod TextBytes
+pub mod Words

@@ -1,33 +1,34 @@
-//! Work on the attributes of an element, which stand in the order in which they are written.
+//! Work on the attributes of an element, which are in the order in which they are written.
 ghost use Rattle.std.specs.Prelude.{◌≡◌, ◌<◌, ◌++◌, ◌∷◌, [], suc, length, vec_capacity, None, Some, IfOk, OnOk, OnErr, option_map, slice_get};
 ghost use Rattle.std.specs.List.{find, remove};
 ghost use Rattle.xml_tree.specs.Attributes.{is_written_so, with_attr, with_value, without_attr};
-ghost use Rattle.xml_tree.specs.Rooms.{HasRoom};
+ghost use Rattle.xml_tree.specs.Reservations.{HasRoom};
 
 use crate::names::{Attr, Name, place_of_attr};
 use crate::text::Text;
 use std::alloc::AllocError;
 use std::mem;
 
-// Adds an attribute at the end.
+// Appends an attribute.
 pub(crate) fn push(attrs: &mut Vec<Attr>, attr: Attr) -> Result<(), AllocError>
-    ensures adds_the_attribute { OnOk result (attrs.new.items ≡ attrs.old.items ++ attr ∷ []) }
-    ensures failure_changes_nothing { OnErr result (attrs.new.items ≡ attrs.old.items) }
+    ensures adds_attribute { OnOk result (attrs.new.items ≡ attrs.old.items ++ attr ∷ []) }
+    ensures err_unchanged { OnErr result (attrs.new.items ≡ attrs.old.items) }
 {
     attrs.push(attr)?;
     Ok(())
 }
 
-// Exchanges a value, and answers the old one.
+// Replaces a value, and returns the old one.
 pub(crate) fn exchange_value(attrs: &mut Vec<Attr>, at: usize, value: Text) -> Text
     requires { at < length attrs.old.items }
-    ensures former_value { option_map (λ attr. attr.value) (slice_get attrs.old.items at) ≡ Some result }
-    ensures value_is_exchanged { attrs.new.items ≡ with_value at value attrs.old.items }
+    ensures former_value { option_map (λ attr. attr.value) (slice_get attrs.old.items at)
+        ≡ Some result }
+    ensures value_replaced { attrs.new.items ≡ with_value at value attrs.old.items }
 {
     mem::replace(&mut attrs[at].value, value)
 }
 
-// Writes the attribute of a name, at the end if it is new, and answers the old value.
+// Writes the attribute of a name, at the end if it is new, and returns the old value.
 #[tactic(auto, using(crate::proofs::AttrLemmas::by_place))]
 pub(crate) fn set(
     attrs: &mut Vec<Attr>,
@@ -36,9 +37,10 @@ pub(crate) fn set(
 ) -> Result<Option<Text>, AllocError>
     ensures former_value { IfOk result
         (λ old. old ≡ option_map (λ attr. attr.value) (find (is_written_so name) attrs.old.items)) }
-    ensures writes_the_attribute { OnOk result (attrs.new.items ≡ with_attr name value attrs.old.items) }
-    ensures failure_changes_nothing { OnErr result (attrs.new.items ≡ attrs.old.items) }
-    ensures only_for_new { OnErr result (find (is_written_so name) attrs.old.items ≡ None) }
+    ensures writes_attribute { OnOk result
+        (attrs.new.items ≡ with_attr name value attrs.old.items) }
+    ensures err_unchanged { OnErr result (attrs.new.items ≡ attrs.old.items) }
+    ensures err_if_new { OnErr result (find (is_written_so name) attrs.old.items ≡ None) }
 {
     let place = place_of_attr(attrs, &name);
     if place < attrs.len() {
@@ -48,19 +50,19 @@ pub(crate) fn set(
     Ok(None)
 }
 
-// Takes an attribute out.
+// Removes an attribute.
 pub(crate) fn take_at(attrs: &mut Vec<Attr>, at: usize) -> Attr
     requires { at < length attrs.old.items }
-    ensures attribute_that_was_there { slice_get attrs.old.items at ≡ Some result }
+    ensures attribute_taken { slice_get attrs.old.items at ≡ Some result }
     ensures attribute_is_gone { attrs.new.items ≡ remove attrs.old.items at }
 {
     attrs.remove(at)
 }
 
-// Takes out the attribute of a name, if there is one.
+// Removes the attribute of a name, if there is one.
 #[tactic(auto, using(crate::proofs::AttrLemmas::by_place))]
 pub(crate) fn take(attrs: &mut Vec<Attr>, name: &Name) -> Option<Attr>
-    ensures attribute_that_was_there { result ≡ find (is_written_so name.now) attrs.old.items }
+    ensures attribute_taken { result ≡ find (is_written_so name.now) attrs.old.items }
     ensures attribute_is_gone { attrs.new.items ≡ without_attr name.now attrs.old.items }
 {
     let place = place_of_attr(attrs, name);
@@ -70,10 +72,11 @@ pub(crate) fn take(attrs: &mut Vec<Attr>, name: &Name) -> Option<Attr>
     None
 }
 
-// Adds an attribute at the end. They all move into a vector that has room for them and one more.
+// Appends an attribute. All attributes move into `room`, which has capacity for them and one
+// more.
 fn push_in_room(attrs: &mut Vec<Attr>, attr: Attr, room: Vec<Attr>)
     requires { HasRoom (suc (length attrs.old.items)) room }
-    ensures adds_the_attribute { attrs.new.items ≡ attrs.old.items ++ attr ∷ [] }
+    ensures adds_attribute { attrs.new.items ≡ attrs.old.items ++ attr ∷ [] }
 {
     let mut moved = room;
     moved.append(attrs).unwrap();
@@ -81,13 +84,14 @@ fn push_in_room(attrs: &mut Vec<Attr>, attr: Attr, room: Vec<Attr>)
     attrs.push(attr).unwrap();
 }
 
-// Writes the attribute of a name. Where it is new, they all move into a vector that then has room
-// for them and one more.
+// Writes the attribute of a name. If it is new, all attributes move into `room`, which then has
+// capacity for them and one more.
 #[tactic(auto, using(crate::proofs::AttrLemmas::by_place))]
 pub(crate) fn set_in_room(attrs: &mut Vec<Attr>, name: Name, value: Text, room: Vec<Attr>)
     requires empty { room.items ≡ [] }
-    requires room { find (is_written_so name) attrs.old.items ≡ None → length attrs.old.items < vec_capacity room }
-    ensures writes_the_attribute { attrs.new.items ≡ with_attr name value attrs.old.items }
+    requires room_left { find (is_written_so name) attrs.old.items ≡ None
+        → length attrs.old.items < vec_capacity room }
+    ensures writes_attribute { attrs.new.items ≡ with_attr name value attrs.old.items }
 {
     let place = place_of_attr(attrs, &name);
     if place < attrs.len() {

@@ -1,4 +1,4 @@
-//! The declarations of an element, exchanged whole.
+//! The declarations of an element, replaced as a whole.
 ghost use Rattle.std.specs.Prelude.{◌≡◌};
 
 use crate::names::Decl;
@@ -6,10 +6,10 @@ use crate::tree::Element;
 use std::mem;
 
 impl Element {
-    /// Exchanges the declarations for others, and answers the old ones. Takes no memory.
+    /// Replaces the declarations by others, and returns the old ones. Does not allocate.
     pub fn exchange_decls(&mut self, decls: Vec<Decl>) -> Vec<Decl>
         ensures former_declarations { result.items ≡ self.old.decls }
-        ensures has_the_declarations { self.new ≡ record self.old { decls = decls.items } }
+        ensures replaces_declarations { self.new ≡ record self.old { decls = decls.items } }
     {
         mem::replace(&mut self.decls, decls)
     }

@@ -1,10 +1,10 @@
-//! Edits of one element, and of the element at a path. Each says the whole new tree.
+//! Edits of one element, and of the element at a path. Each contract gives the whole new tree.
 ghost use Rattle.std.specs.Prelude.{◌≡◌, ◌<◌, ◌≤◌, length, Some, None, IsSome, IsSomeAnd, IfOk, IfErr, OnOk, OnErr, option_map, slice_get};
 ghost use Rattle.xml_tree.specs.Attributes.{is_written_so};
 ghost use Rattle.std.specs.List.{find, remove};
 ghost use Rattle.std.specs.Option.{option_copied};
-ghost use Rattle.xml_tree.specs.Tree.{at, kids_of};
-ghost use Rattle.xml_tree.specs.Edits.{TextsMeet, TextsMeetAt, attr_at, change_attr, cut_kid, cut_out, drop_at, drop_attr, put_in, put_kid, put_over, set_at, take_in, write_attr};
+ghost use Rattle.xml_tree.specs.Tree.{at, child_elements_of};
+ghost use Rattle.xml_tree.specs.Edits.{TextsMeet, TextsMeetAt, attr_at, change_attr, cut_child, cut_out, drop_at, drop_attr, put_in, put_kid, put_over, set_at, take_in, write_attr};
 ghost use Rattle.xml_tree.specs.Nodes.{exchange_nodes, nodes_of};
 
 use crate::attrs;
@@ -19,48 +19,52 @@ use std::mem;
 
 /// Edits of its nodes.
 impl Element {
-    /// Puts an element in a gap: gap 0 stands before all nodes, gap `j` directly behind the `j`-th element child.
+    /// Inserts an element into a gap: gap 0 is before all nodes, gap `j` directly after the
+    /// `j`-th child element.
     ///
     /// # Errors
-    /// `NoMemory` for want of memory. The element comes back, and this one is as before.
+    /// `NoMemory` when out of memory. The element comes back, and this one is unchanged.
     pub fn put_kid(&mut self, gap: usize, element: Element) -> Result<(), (AllocError, Element)>
-        requires { gap ≤ length (kids_of self.old) }
-        ensures puts_the_element_there { OnOk result (self.new ≡ put_kid gap element self.old) }
-        ensures failure_changes_nothing { OnErr result (self.new ≡ self.old) }
-        ensures refused_element_comes_back { IfErr result (λ refused. refused.1 ≡ element) }
+        requires { gap ≤ length (child_elements_of self.old) }
+        ensures puts_element { OnOk result (self.new ≡ put_kid gap element self.old) }
+        ensures err_unchanged { OnErr result (self.new ≡ self.old) }
+        ensures err_returns_element { IfErr result (λ refused. refused.1 ≡ element) }
     {
         put_elem(&mut self.nodes, gap, element)
     }
 
-    /// Takes an element child out, counted from 0, and joins texts that meet.
+    /// Removes a child element, counted from 0, and joins texts that meet.
     ///
     /// # Errors
-    /// `NoMemory` for want of memory, which comes only where texts stand directly on both sides of the element. Nothing has
-    /// changed then.
+    /// `NoMemory` when out of memory, possible only if texts are directly on both sides of the
+    /// element. Nothing has changed then.
     pub fn take_kid(&mut self, child: usize) -> Result<Element, AllocError>
-        requires { child < length (kids_of self.old) }
-        ensures element_that_was_there { IfOk result (λ kid. slice_get (kids_of self.old) child ≡ Some kid) }
-        ensures cuts_the_element_out { OnOk result (self.new ≡ cut_kid child self.old) }
-        ensures failure_changes_nothing { OnErr result (self.new ≡ self.old) }
-        ensures only_where_texts_meet { OnErr result (TextsMeet child self.old.content) }
+        requires { child < length (child_elements_of self.old) }
+        ensures previous_element { IfOk result
+            (λ child_element. slice_get (child_elements_of self.old) child ≡ Some child_element) }
+        ensures cuts_element { OnOk result (self.new ≡ cut_child child self.old) }
+        ensures err_unchanged { OnErr result (self.new ≡ self.old) }
+        ensures err_texts_meet { OnErr result (TextsMeet child self.old.content) }
     {
         take_elem(&mut self.nodes, child)
     }
 
-    /// Exchanges the nodes from one place to before another for others. Texts that meet are joined, and empty ones vanish.
+    /// Replaces the nodes from one place to before another. Texts that meet are joined, and empty
+    /// ones are dropped.
     ///
     /// # Errors
-    /// `NoMemory` for want of memory; the element is then as before.
+    /// `NoMemory` when out of memory; the element is then unchanged.
     pub fn exchange_nodes(
         &mut self,
         from: usize,
         to: usize,
         nodes: Vec<Node>,
     ) -> Result<(), AllocError>
-        requires order { from ≤ to }
+        requires range_ordered { from ≤ to }
         requires within { to ≤ length (nodes_of self.old.content) }
-        ensures exchanges_the_nodes { OnOk result (self.new ≡ exchange_nodes from to nodes.items self.old) }
-        ensures failure_changes_nothing { OnErr result (self.new ≡ self.old) }
+        ensures replaces_nodes { OnOk result
+            (self.new ≡ exchange_nodes from to nodes.items self.old) }
+        ensures err_unchanged { OnErr result (self.new ≡ self.old) }
     {
         exchange(&mut self.nodes, from, to, nodes)
     }
@@ -68,135 +72,148 @@ impl Element {
 
 /// Edits of its attributes.
 impl Element {
-    /// The attribute of this prefix and local name, lent: None where there is none. Takes no memory.
+    /// The attribute of this prefix and local name, borrowed: None if there is none. Does not
+    /// allocate.
     pub fn attr(&self, name: &Name) -> Option<&Attr>
-        ensures attribute_of_the_name { option_copied result ≡ find (is_written_so name.now) self.now.attrs }
+        ensures exact { option_copied result ≡ find (is_written_so name.now) self.now.attrs }
     {
         attr_of(&self.attrs, name)
     }
 
-    /// Exchanges the value of an attribute, counted from 0, and answers the old one. Takes no memory.
+    /// Replaces the value of an attribute, counted from 0, and returns the old one. Does not
+    /// allocate.
     pub fn exchange_value(&mut self, at: usize, value: Text) -> Text
         requires { at < length self.old.attrs }
-        ensures former_value { option_map (λ attr. attr.value) (slice_get self.old.attrs at) ≡ Some result }
-        ensures value_is_exchanged { self.new ≡ change_attr at value self.old }
+        ensures former_value { option_map (λ attr. attr.value) (slice_get self.old.attrs at)
+            ≡ Some result }
+        ensures value_replaced { self.new ≡ change_attr at value self.old }
     {
         attrs::exchange_value(&mut self.attrs, at, value)
     }
 
-    /// Takes an attribute out, counted from 0. Takes no memory.
+    /// Removes an attribute, counted from 0. Does not allocate.
     pub fn take_attr(&mut self, at: usize) -> Attr
         requires { at < length self.old.attrs }
-        ensures attribute_that_was_there { slice_get self.old.attrs at ≡ Some result }
-        ensures attribute_is_gone { self.new ≡ record self.old { attrs = remove self.old.attrs at } }
+        ensures attribute_taken { slice_get self.old.attrs at ≡ Some result }
+        ensures attribute_is_gone { self.new
+            ≡ record self.old { attrs = remove self.old.attrs at } }
     {
         attrs::take_at(&mut self.attrs, at)
     }
 
-    /// Writes the attribute of this prefix and local name, behind the others if it is new, and answers the old value.
+    /// Writes the attribute of this prefix and local name, after the others if it is new, and
+    /// returns the old value.
     ///
     /// # Errors
-    /// `NoMemory` for want of memory, which comes only for a new attribute. The element is then as before.
+    /// `NoMemory` when out of memory, possible only for a new attribute. The element is then
+    /// unchanged.
     pub fn set_attr(&mut self, name: Name, value: Text) -> Result<Option<Text>, AllocError>
         ensures former_value { IfOk result
-            (λ old. old ≡ option_map (λ attr. attr.value) (find (is_written_so name) self.old.attrs)) }
-        ensures writes_the_attribute { OnOk result (self.new ≡ write_attr name value self.old) }
-        ensures failure_changes_nothing { OnErr result (self.new ≡ self.old) }
-        ensures only_for_new { OnErr result (find (is_written_so name) self.old.attrs ≡ None) }
+            (λ old. old ≡ option_map (λ attr. attr.value)
+            (find (is_written_so name) self.old.attrs)) }
+        ensures writes_attribute { OnOk result (self.new ≡ write_attr name value self.old) }
+        ensures err_unchanged { OnErr result (self.new ≡ self.old) }
+        ensures err_if_new { OnErr result (find (is_written_so name) self.old.attrs ≡ None) }
     {
         attrs::set(&mut self.attrs, name, value)
     }
 
-    /// Takes out the attribute of this prefix and local name: None where there is none. Takes no memory.
+    /// Removes the attribute of this prefix and local name: None if there is none. Does not
+    /// allocate.
     pub fn drop_attr(&mut self, name: &Name) -> Option<Attr>
-        ensures attribute_that_was_there { result ≡ find (is_written_so name.now) self.old.attrs }
+        ensures attribute_taken { result ≡ find (is_written_so name.now) self.old.attrs }
         ensures attribute_is_gone { self.new ≡ drop_attr name.now self.old }
     {
         attrs::take(&mut self.attrs, name)
     }
 }
 
-/// Edits of the element at a path, which has to be there.
+/// Edits of the element at a path, which must exist.
 impl Element {
-    /// Puts an element in a gap of the element at a path.
+    /// Inserts an element into a gap of the element at a path.
     ///
     /// # Errors
-    /// `NoMemory` for want of memory. The element comes back, and the tree is as before.
+    /// `NoMemory` when out of memory. The element comes back, and the tree is unchanged.
     pub fn put_in(
         &mut self,
         path: &Path,
         gap: usize,
         element: Element,
     ) -> Result<(), (AllocError, Element)>
-        requires { IsSomeAnd (at path.now self.old) (λ parent. gap ≤ length (kids_of parent)) }
-        ensures puts_the_element_there { OnOk result (self.new ≡ put_in path.now gap element self.old) }
-        ensures failure_changes_nothing { OnErr result (self.new ≡ self.old) }
-        ensures refused_element_comes_back { IfErr result (λ refused. refused.1 ≡ element) }
+        requires { IsSomeAnd (at path.now self.old)
+            (λ parent. gap ≤ length (child_elements_of parent)) }
+        ensures puts_element { OnOk result (self.new ≡ put_in path.now gap element self.old) }
+        ensures err_unchanged { OnErr result (self.new ≡ self.old) }
+        ensures err_returns_element { IfErr result (λ refused. refused.1 ≡ element) }
     {
         self.edit_at(
             path,
             |here: &mut Element| -> Result<(), (AllocError, Element)>
-                requires { gap ≤ length (kids_of here.old) }
-                ensures puts_the_element_there { OnOk result (here.new ≡ put_kid gap element here.old) }
-                ensures failure_changes_nothing { OnErr result (here.new ≡ here.old) }
-                ensures refused_element_comes_back { IfErr result (λ refused. refused.1 ≡ element) }
+                requires { gap ≤ length (child_elements_of here.old) }
+                ensures puts_element { OnOk result (here.new ≡ put_kid gap element here.old) }
+                ensures err_unchanged { OnErr result (here.new ≡ here.old) }
+                ensures err_returns_element { IfErr result (λ refused. refused.1 ≡ element) }
             { here.put_kid(gap, element) },
         )
     }
 
-    /// Exchanges the element at a path, and answers the old one. Takes no memory.
+    /// Replaces the element at a path, and returns the old one. Does not allocate.
     pub fn put_over(&mut self, path: &Path, element: Element) -> Element
         requires { IsSome (at path.now self.old) }
         ensures former_element { at path.now self.old ≡ Some result }
-        ensures element_is_exchanged { self.new ≡ put_over path.now element self.old }
+        ensures element_replaced { self.new ≡ put_over path.now element self.old }
     {
         self.edit_at(
             path,
             |here: &mut Element| -> Element
                 ensures former_element { result ≡ here.old }
-                ensures element_is_exchanged { here.new ≡ element }
+                ensures element_replaced { here.new ≡ element }
             { mem::replace(here, element) },
         )
     }
 
-    /// Takes an element child of the element at a path out, counted from 0, and joins texts that meet.
+    /// Removes a child element of the element at a path, counted from 0, and joins texts that
+    /// meet.
     ///
     /// # Errors
-    /// `NoMemory` for want of memory, which comes only where texts stand directly on both sides of the child. Nothing has
-    /// changed then.
+    /// `NoMemory` when out of memory, possible only if texts are directly on both sides of the
+    /// child. Nothing has changed then.
     pub fn take_in(&mut self, path: &Path, child: usize) -> Result<Element, AllocError>
-        requires { IsSomeAnd (at path.now self.old) (λ parent. child < length (kids_of parent)) }
-        ensures element_that_was_there { IfOk result (λ kid. IsSomeAnd (at path.now self.old)
-            (λ parent. slice_get (kids_of parent) child ≡ Some kid)) }
-        ensures cuts_the_element_out { OnOk result (self.new ≡ take_in path.now child self.old) }
-        ensures failure_changes_nothing { OnErr result (self.new ≡ self.old) }
-        ensures only_where_texts_meet { OnErr result (IsSomeAnd (at path.now self.old)
+        requires { IsSomeAnd (at path.now self.old)
+            (λ parent. child < length (child_elements_of parent)) }
+        ensures previous_element { IfOk result (λ child_element. IsSomeAnd (at path.now self.old)
+            (λ parent. slice_get (child_elements_of parent) child ≡ Some child_element)) }
+        ensures cuts_element { OnOk result (self.new ≡ take_in path.now child self.old) }
+        ensures err_unchanged { OnErr result (self.new ≡ self.old) }
+        ensures err_texts_meet { OnErr result (IsSomeAnd (at path.now self.old)
             (λ parent. TextsMeet child parent.content)) }
     {
         self.edit_at(
             path,
             |here: &mut Element| -> Result<Element, AllocError>
-                requires { child < length (kids_of here.old) }
-                ensures element_that_was_there { IfOk result (λ kid. slice_get (kids_of here.old) child ≡ Some kid) }
-                ensures cuts_the_element_out { OnOk result (here.new ≡ cut_kid child here.old) }
-                ensures failure_changes_nothing { OnErr result (here.new ≡ here.old) }
-                ensures only_where_texts_meet { OnErr result (TextsMeet child here.old.content) }
+                requires { child < length (child_elements_of here.old) }
+                ensures previous_element { IfOk result
+                    (λ child_element. slice_get (child_elements_of here.old) child
+                    ≡ Some child_element) }
+                ensures cuts_element { OnOk result (here.new ≡ cut_child child here.old) }
+                ensures err_unchanged { OnErr result (here.new ≡ here.old) }
+                ensures err_texts_meet { OnErr result (TextsMeet child here.old.content) }
             { here.take_kid(child) },
         )
     }
 
-    /// Takes the element at a path out, which isn't the root, and joins texts that meet.
+    /// Removes the element at a path, which isn't the root, and joins texts that meet.
     ///
     /// # Errors
-    /// `NoMemory` for want of memory, which comes only where texts stand directly on both sides of the element. Nothing has
-    /// changed then.
+    /// `NoMemory` when out of memory, possible only if texts are directly on both sides of the
+    /// element. Nothing has changed then.
     pub fn cut_out(&mut self, path: &Path) -> Result<Element, AllocError>
         requires below { 0 < length path.now }
-        requires there { IsSome (at path.now self.old) }
-        ensures element_that_was_there { IfOk result (λ cut. at path.now self.old ≡ Some cut) }
-        ensures cuts_the_element_out { OnOk result (self.new ≡ cut_out path.now self.old) }
-        ensures failure_changes_nothing { OnErr result (self.new ≡ self.old) }
-        ensures only_where_texts_meet { OnErr result (TextsMeetAt path.now self.old) }
+        requires place_exists { IsSome (at path.now self.old) }
+        ensures previous_element { IfOk result (λ cut. at path.now self.old ≡ Some cut) }
+        ensures cuts_element { OnOk result (self.new ≡ cut_out path.now self.old) }
+        ensures err_unchanged { OnErr result (self.new ≡ self.old) }
+        ensures err_texts_meet { OnErr result (TextsMeetAt path.now self.old) }
     {
         match path.split_last() {
             None => unreachable!(),
@@ -207,7 +224,8 @@ impl Element {
     /// Writes an attribute of the element at a path, as `set_attr` does.
     ///
     /// # Errors
-    /// `NoMemory` for want of memory, which comes only for a new attribute. The tree is then as before.
+    /// `NoMemory` when out of memory, possible only for a new attribute. The tree is then
+    /// unchanged.
     pub fn set_at(
         &mut self,
         path: &Path,
@@ -217,32 +235,35 @@ impl Element {
         requires { IsSome (at path.now self.old) }
         ensures former_value { IfOk result
             (λ old. old ≡ option_map (λ attr. attr.value) (attr_at path.now name self.old)) }
-        ensures writes_the_attribute { OnOk result (self.new ≡ set_at path.now name value self.old) }
-        ensures failure_changes_nothing { OnErr result (self.new ≡ self.old) }
-        ensures only_for_new { OnErr result (attr_at path.now name self.old ≡ None) }
+        ensures writes_attribute { OnOk result (self.new ≡ set_at path.now name value self.old) }
+        ensures err_unchanged { OnErr result (self.new ≡ self.old) }
+        ensures err_if_new { OnErr result (attr_at path.now name self.old ≡ None) }
     {
         self.edit_at(
             path,
             |here: &mut Element| -> Result<Option<Text>, AllocError>
                 ensures former_value { IfOk result
-                    (λ old. old ≡ option_map (λ attr. attr.value) (find (is_written_so name) here.old.attrs)) }
-                ensures writes_the_attribute { OnOk result (here.new ≡ write_attr name value here.old) }
-                ensures failure_changes_nothing { OnErr result (here.new ≡ here.old) }
-                ensures only_for_new { OnErr result (find (is_written_so name) here.old.attrs ≡ None) }
+                    (λ old. old ≡ option_map (λ attr. attr.value)
+                    (find (is_written_so name) here.old.attrs)) }
+                ensures writes_attribute { OnOk result (here.new ≡ write_attr name value here.old) }
+                ensures err_unchanged { OnErr result (here.new ≡ here.old) }
+                ensures err_if_new { OnErr result
+                    (find (is_written_so name) here.old.attrs ≡ None) }
             { here.set_attr(name, value) },
         )
     }
 
-    /// Takes an attribute of the element at a path out, as `drop_attr` does. Takes no memory.
+    /// Removes an attribute of the element at a path, as `drop_attr` does. Does not allocate.
     pub fn drop_at(&mut self, path: &Path, name: &Name) -> Option<Attr>
         requires { IsSome (at path.now self.old) }
-        ensures attribute_that_was_there { result ≡ attr_at path.now name.now self.old }
+        ensures attribute_taken { result ≡ attr_at path.now name.now self.old }
         ensures attribute_is_gone { self.new ≡ drop_at path.now name.now self.old }
     {
         self.edit_at(
             path,
             |here: &mut Element| -> Option<Attr>
-                ensures attribute_that_was_there { result ≡ find (is_written_so name.entry.now) here.old.attrs }
+                ensures attribute_taken { result
+                    ≡ find (is_written_so name.entry.now) here.old.attrs }
                 ensures attribute_is_gone { here.new ≡ drop_attr name.entry.now here.old }
             { here.drop_attr(name) },
         )

@@ -1,4 +1,4 @@
-//! The limits of documents. They are this server's own; no standard sets any.
+//! Limits of documents. They are this server's own; no standard sets any.
 
-/// How many elements of a document are one in another at most.
+/// The greatest depth of a document, the root element being 1.
 pub const MAX_LEVELS: usize = 64;

@@ -22,7 +22,7 @@ impl<T> Model for List<T> {
 }
 
 impl<T> List<T> {
-    /// The list without items. Takes no memory.
+    /// The empty list. Does not allocate.
     pub fn empty(alloc: Global) -> List<T>
         ensures holds_no_items { result ≡ [] }
     {
@@ -31,37 +31,37 @@ impl<T> List<T> {
         }
     }
 
-    /// The items of a vector, which are not copied. Takes no memory.
+    /// The items of a vector, which are not copied. Does not allocate.
     pub fn from(items: Vec<T>) -> List<T>
-        ensures holds_the_items { result ≡ items.items }
+        ensures exact { result ≡ items.items }
     {
         List { items }
     }
 
-    /// The items, lent. Takes no memory.
+    /// The items, borrowed. Does not allocate.
     pub fn as_slice(&self) -> &[T]
-        ensures lends_the_items { result.now ≡ self.now }
+        ensures exact { result.now ≡ self.now }
     {
         self.items.as_slice()
     }
 
-    /// The vector of the items. Takes no memory.
+    /// The vector of the items. Does not allocate.
     pub fn into_vec(self) -> Vec<T>
-        ensures hands_out_the_items { result.items ≡ self }
+        ensures same_items { result.items ≡ self }
     {
         let List { items } = self;
         items
     }
 
-    /// Adds an item at the end.
+    /// Appends an item.
     ///
     /// # Errors
-    /// `NoMemory` for want of memory; the list is then as before.
+    /// `NoMemory` when out of memory; the list is then unchanged.
     pub fn push(&mut self, item: T) -> Result<(), AllocError>
     where
         T: Drop,
-        ensures adds_it_behind { OnOk result (self.new ≡ self.old ++ item ∷ []) }
-        ensures failure_changes_nothing { OnErr result (self.new ≡ self.old) }
+        ensures appended { OnOk result (self.new ≡ self.old ++ item ∷ []) }
+        ensures err_unchanged { OnErr result (self.new ≡ self.old) }
     {
         self.items.push(item)?;
         Ok(())

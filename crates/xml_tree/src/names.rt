@@ -6,31 +6,32 @@ ghost use Rattle.std.specs.Str.{bytes_eq};
 ghost use Rattle.xml_tree.specs.Attributes.{same_name, is_written_so};
 ghost use Rattle.xml_tree.specs.inner.Attributes.{first_place};
 
+use crate::small_text::SmallText;
 use crate::text::Text;
-use crate::word::Word;
 use std::alloc::{AllocError, Global};
 
-/// A prefix. One of at most 14 bytes, as nearly all are, takes no memory.
-pub type Prefix = Word<14>;
+/// A prefix. One of at most 14 bytes, as nearly all are, does not allocate.
+pub type Prefix = SmallText<14>;
 
-/// A local name. One of at most 22 bytes, as nearly all are, takes no memory.
-pub type LocalName = Word<22>;
+/// A local name. One of at most 22 bytes, as nearly all are, does not allocate.
+pub type LocalName = SmallText<22>;
 
-/// A name as it is written: a prefix, which is empty where there is none, and a local name.
+/// A name as written: a prefix, empty if there is none, and a local name.
 #[derive(Drop)]
 pub struct Name {
     pub prefix: Prefix,
     pub local: LocalName,
 }
 
-/// A declaration of a prefix. The empty prefix is the default namespace, and an empty URI undeclares it.
+/// A declaration of a prefix. The empty prefix is the default namespace, and an empty URI
+/// undeclares it.
 #[derive(Drop)]
 pub struct Decl {
     pub prefix: Prefix,
     pub uri: Text,
 }
 
-/// An attribute that is no declaration.
+/// An attribute that isn't a declaration.
 #[derive(Drop)]
 pub struct Attr {
     pub name: Name,
@@ -41,26 +42,26 @@ impl Name {
     /// An equal name.
     ///
     /// # Errors
-    /// `NoMemory` for want of memory.
+    /// `NoMemory` when out of memory.
     pub fn copy(&self, alloc: Global) -> Result<Name, AllocError>
-        ensures makes_an_equal_name { IfOk result (λ made. made ≡ self.now) }
+        ensures equal_copy { IfOk result (λ made. made ≡ self.now) }
     {
         let prefix = self.prefix.copy(alloc)?;
         let local = self.local.copy(alloc)?;
         Ok(Name { prefix, local })
     }
 
-    /// Whether two names are written alike. Takes no memory.
+    /// Whether two names are equal as written. Does not allocate.
     pub fn same(&self, other: &Name) -> bool
-        ensures tells_whether_they_are_equal { IsTrue result ↔ (self.now ≡ other.now) }
-        ensures tells_by_the_test { result ≡ same_name self.now other.now }
+        ensures equal_iff { IsTrue result ↔ (self.now ≡ other.now) }
+        ensures exact { result ≡ same_name self.now other.now }
     {
         self.prefix == other.prefix && self.local == other.local
     }
 
-    /// Whether it has no prefix. Takes no memory.
+    /// Whether the name has no prefix. Does not allocate.
     pub fn has_no_prefix(&self) -> bool
-        ensures tells_whether_it_lacks_a_prefix { result ≡ bytes_eq self.now.prefix [] }
+        ensures exact { result ≡ bytes_eq self.now.prefix [] }
     {
         self.prefix.is("")
     }
@@ -70,18 +71,18 @@ impl Decl {
     /// An equal declaration.
     ///
     /// # Errors
-    /// `NoMemory` for want of memory.
+    /// `NoMemory` when out of memory.
     pub fn copy(&self, alloc: Global) -> Result<Decl, AllocError>
-        ensures makes_an_equal_declaration { IfOk result (λ made. made ≡ self.now) }
+        ensures equal_copy { IfOk result (λ made. made ≡ self.now) }
     {
         let prefix = self.prefix.copy(alloc)?;
         let uri = self.uri.copy(alloc)?;
         Ok(Decl { prefix, uri })
     }
 
-    /// Whether two declarations are equal. Takes no memory.
+    /// Whether two declarations are equal. Does not allocate.
     pub fn same(&self, other: &Decl) -> bool
-        ensures tells_equal_declarations { IsTrue result ↔ (self.now ≡ other.now) }
+        ensures exact { IsTrue result ↔ (self.now ≡ other.now) }
     {
         self.prefix.same(&other.prefix) && self.uri.same(&other.uri)
     }
@@ -91,18 +92,18 @@ impl Attr {
     /// An equal attribute.
     ///
     /// # Errors
-    /// `NoMemory` for want of memory.
+    /// `NoMemory` when out of memory.
     pub fn copy(&self, alloc: Global) -> Result<Attr, AllocError>
-        ensures makes_an_equal_attribute { IfOk result (λ made. made ≡ self.now) }
+        ensures equal_copy { IfOk result (λ made. made ≡ self.now) }
     {
         let name = self.name.copy(alloc)?;
         let value = self.value.copy(alloc)?;
         Ok(Attr { name, value })
     }
 
-    /// Whether two attributes have the same prefix, local name and value. Takes no memory.
+    /// Whether two attributes have the same prefix, local name and value. Does not allocate.
     pub fn same(&self, other: &Attr) -> bool
-        ensures tells_equal_attributes { IsTrue result ↔ (self.now ≡ other.now) }
+        ensures exact { IsTrue result ↔ (self.now ≡ other.now) }
     {
         self.name.same(&other.name) && self.value.same(&other.value)
     }
@@ -110,7 +111,7 @@ impl Attr {
 
 // The first attribute of this name.
 pub(crate) fn attr_of<'a>(attrs: &'a [Attr], name: &Name) -> Option<&'a Attr>
-    ensures first_of_the_name { option_copied result ≡ find (is_written_so name.now) attrs.now }
+    ensures exact { option_copied result ≡ find (is_written_so name.now) attrs.now }
 {
     for attr in attrs {
         if attr.name.same(name) {
@@ -122,7 +123,7 @@ pub(crate) fn attr_of<'a>(attrs: &'a [Attr], name: &Name) -> Option<&'a Attr>
 
 // The place of the first attribute of this name, or the number of attributes.
 pub(crate) fn place_of_attr(attrs: &[Attr], name: &Name) -> usize
-    ensures place_of_the_first { result ≡ first_place (is_written_so name.now) attrs.now }
+    ensures exact { result ≡ first_place (is_written_so name.now) attrs.now }
     ensures lies_within { result ≤ length attrs.now }
 {
     for (i, attr) in attrs.iter().enumerate() {
@@ -134,7 +135,7 @@ pub(crate) fn place_of_attr(attrs: &[Attr], name: &Name) -> usize
 }
 
 pub(crate) fn same_decls(a: &[Decl], b: &[Decl]) -> bool
-    ensures tells_equal_declaration_lists { IsTrue result ↔ (a.now ≡ b.now) }
+    ensures exact { IsTrue result ↔ (a.now ≡ b.now) }
 {
     if a.len() != b.len() {
         return false;
@@ -148,7 +149,7 @@ pub(crate) fn same_decls(a: &[Decl], b: &[Decl]) -> bool
 }
 
 pub(crate) fn same_attrs(a: &[Attr], b: &[Attr]) -> bool
-    ensures tells_equal_attribute_lists { IsTrue result ↔ (a.now ≡ b.now) }
+    ensures exact { IsTrue result ↔ (a.now ≡ b.now) }
 {
     if a.len() != b.len() {
         return false;
@@ -164,9 +165,9 @@ pub(crate) fn same_attrs(a: &[Attr], b: &[Attr]) -> bool
 /// Equal declarations.
 ///
 /// # Errors
-/// `NoMemory` for want of memory.
+/// `NoMemory` when out of memory.
 pub fn copy_decls(alloc: Global, decls: &[Decl]) -> Result<Vec<Decl>, AllocError>
-    ensures copies_the_declarations { IfOk result (λ made. made.items ≡ decls.now) }
+    ensures equal_copy { IfOk result (λ made. made.items ≡ decls.now) }
 {
     let mut made = Vec::with_capacity(alloc, decls.len())?;
     for decl in decls {
@@ -175,29 +176,29 @@ pub fn copy_decls(alloc: Global, decls: &[Decl]) -> Result<Vec<Decl>, AllocError
     Ok(made)
 }
 
-// Adds an equal declaration.
+// Appends a copy of a declaration.
 pub(crate) fn push_decl_copy(
     alloc: Global,
     made: &mut Vec<Decl>,
     decl: &Decl,
 ) -> Result<(), AllocError>
-    ensures adds_an_equal_declaration { OnOk result (made.new.items ≡ made.old.items ++ decl.now ∷ []) }
+    ensures appended { OnOk result (made.new.items ≡ made.old.items ++ decl.now ∷ []) }
 {
     let copy = decl.copy(alloc)?;
     push_decl(made, copy)
 }
 
-// Adds a declaration at the end.
+// Appends a declaration.
 pub(crate) fn push_decl(decls: &mut Vec<Decl>, decl: Decl) -> Result<(), AllocError>
-    ensures adds_the_declaration { OnOk result (decls.new.items ≡ decls.old.items ++ decl ∷ []) }
-    ensures failure_changes_nothing { OnErr result (decls.new.items ≡ decls.old.items) }
+    ensures adds_declaration { OnOk result (decls.new.items ≡ decls.old.items ++ decl ∷ []) }
+    ensures err_unchanged { OnErr result (decls.new.items ≡ decls.old.items) }
 {
     decls.push(decl)?;
     Ok(())
 }
 
 pub(crate) fn copy_attrs(alloc: Global, attrs: &[Attr]) -> Result<Vec<Attr>, AllocError>
-    ensures copies_the_attributes { IfOk result (λ made. made.items ≡ attrs.now) }
+    ensures equal_copy { IfOk result (λ made. made.items ≡ attrs.now) }
 {
     let mut made = Vec::with_capacity(alloc, attrs.len())?;
     for attr in attrs {

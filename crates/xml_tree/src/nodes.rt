@@ -3,22 +3,22 @@ ghost use Rattle.std.specs.Prelude.{◌≡◌, ◌<◌, ◌≤◌, ◌+◌, ◌-
 ghost use Rattle.xml_tree.specs.declared.tree.Node.TheVariants.{Chars};
 ghost use Rattle.std.specs.Borrow.{sem};
 ghost use Rattle.std.specs.Option.{option_copied};
-ghost use Rattle.xml_tree.specs.Tree.{kids};
+ghost use Rattle.xml_tree.specs.Tree.{child_elements};
 ghost use Rattle.xml_tree.specs.Edits.{TextsMeet, cut, put, with_comment, with_elem, with_text};
 ghost use Rattle.xml_tree.specs.Nodes.{AreNormal, content_of, gap_place, joined_beside, last_elem, place, text_at};
 ghost use Rattle.xml_tree.specs.inner.Nodes.{ends_in_text, removed_joined};
 ghost use Rattle.xml_tree.specs.Lending.{LendsLast};
-ghost use Rattle.xml_tree.specs.inner.Lending.{LendsKid};
-ghost use Rattle.xml_tree.specs.Rooms.{HasRoom};
+ghost use Rattle.xml_tree.specs.inner.Lending.{LendsChild};
+ghost use Rattle.xml_tree.specs.Reservations.{HasRoom};
 
 use crate::text::Text;
 use crate::tree::{Element, Node};
 use std::alloc::{AllocError, AllocFailed, Global};
 use std::mem;
 
-/// The place of an element child among nodes, or the number of nodes where it isn't there.
+/// The place of a child element among nodes, or the number of nodes if it is absent.
 pub fn place_of(nodes: &[Node], child: usize) -> usize
-    ensures place_of_the_first { result ≡ place child nodes.now }
+    ensures exact { result ≡ place child nodes.now }
     ensures lies_within { result ≤ length nodes.now }
 {
     let mut left = child;
@@ -33,10 +33,10 @@ pub fn place_of(nodes: &[Node], child: usize) -> usize
     nodes.len()
 }
 
-// An element child, if it is there.
+// A child element, if it exists.
 #[tactic(auto, using(crate::proofs::Places::places))]
-pub(crate) fn kid_of(nodes: &[Node], child: usize) -> Option<&Element>
-    ensures child_of_that_number { option_copied result ≡ slice_get (kids (content_of nodes.now)) child }
+pub(crate) fn child_of(nodes: &[Node], child: usize) -> Option<&Element>
+    ensures exact { option_copied result ≡ slice_get (child_elements (content_of nodes.now)) child }
 {
     let mut left = child;
     for node in nodes {
@@ -50,55 +50,58 @@ pub(crate) fn kid_of(nodes: &[Node], child: usize) -> Option<&Element>
     None
 }
 
-// An element child that is there, for writing.
+// A child element that exists, for writing.
 #[tactic(auto, using(crate::proofs::Places::places))]
-pub(crate) fn kid_in(nodes: &mut Vec<Node>, child: usize) -> &mut Element
-    requires { child < length (kids (content_of nodes.old.items)) }
-    ensures* writes_back { sem 𝓛 (LendsKid nodes.entry child result) }
-    ensures lends_the_element { slice_get (kids (content_of nodes.old.items)) child ≡ Some result.now }
+pub(crate) fn child_in(nodes: &mut Vec<Node>, child: usize) -> &mut Element
+    requires { child < length (child_elements (content_of nodes.old.items)) }
+    ensures* writes_back { sem 𝓛 (LendsChild nodes.entry child result) }
+    ensures lends_element { slice_get (child_elements (content_of nodes.old.items)) child
+        ≡ Some result.now }
 {
     let at = place_of(nodes, child);
     nodes[at].elem_mut()
 }
 
-/// The element that is the last node, for writing. Takes no memory.
+/// The element that is the last node, for writing. Does not allocate.
 #[inline(always)]
 pub fn last_elem(nodes: &mut Vec<Node>) -> &mut Element
     requires { IsSome (last_elem nodes.old.items) }
     ensures* writes_back { sem 𝓛 (LendsLast nodes.entry result) }
-    ensures lends_the_element { last_elem nodes.old.items ≡ Some result.now }
+    ensures lends_element { last_elem nodes.old.items ≡ Some result.now }
 {
     let at = nodes.len() - 1;
     nodes[at].elem_mut()
 }
 
-// Adds an element at the end.
+// Appends an element.
 #[inline(always)]
 #[tactic(auto, using(crate::proofs::Places::places))]
 pub(crate) fn push_elem_node(nodes: &mut Vec<Node>, element: Element) -> Result<(), AllocError>
-    ensures normal_nodes_stay_normal { AreNormal nodes.old.items → AreNormal nodes.new.items }
-    ensures adds_the_element { OnOk result (content_of nodes.new.items ≡ with_elem element (content_of nodes.old.items)) }
-    ensures failure_changes_nothing { OnErr result (content_of nodes.new.items ≡ content_of nodes.old.items) }
+    ensures stays_normal { AreNormal nodes.old.items → AreNormal nodes.new.items }
+    ensures adds_element { OnOk result
+        (content_of nodes.new.items ≡ with_elem element (content_of nodes.old.items)) }
+    ensures err_unchanged { OnErr result (content_of nodes.new.items ≡ content_of nodes.old.items) }
 {
     nodes.push(Node::Elem(element))?;
     Ok(())
 }
 
-// Adds a comment at the end.
+// Appends a comment.
 #[tactic(auto, using(crate::proofs::Places::places))]
 pub(crate) fn push_comment_node(nodes: &mut Vec<Node>, text: Text) -> Result<(), AllocError>
-    ensures normal_nodes_stay_normal { AreNormal nodes.old.items → AreNormal nodes.new.items }
-    ensures adds_the_comment { OnOk result (content_of nodes.new.items ≡ with_comment text (content_of nodes.old.items)) }
-    ensures failure_changes_nothing { OnErr result (content_of nodes.new.items ≡ content_of nodes.old.items) }
+    ensures stays_normal { AreNormal nodes.old.items → AreNormal nodes.new.items }
+    ensures adds_comment { OnOk result
+        (content_of nodes.new.items ≡ with_comment text (content_of nodes.old.items)) }
+    ensures err_unchanged { OnErr result (content_of nodes.new.items ≡ content_of nodes.old.items) }
 {
     nodes.push(Node::Comment(text))?;
     Ok(())
 }
 
-// Whether a text stands last.
+// Whether the last node is a text.
 #[tactic(auto, using(crate::proofs::Places::texts))]
 pub(crate) fn ends_in_text(nodes: &[Node]) -> bool
-    ensures tells_whether_a_text_is_last { result ≡ ends_in_text nodes.now }
+    ensures exact { result ≡ ends_in_text nodes.now }
 {
     let count = nodes.len();
     if count == 0 {
@@ -107,13 +110,14 @@ pub(crate) fn ends_in_text(nodes: &[Node]) -> bool
     nodes[count - 1].is_text()
 }
 
-// Adds a text at the end, as push_text does, and copies it only where it joins another.
+// Appends a text, as `push_text` does, and copies it only where it joins another.
 #[inline(always)]
 #[tactic(auto, using(crate::proofs::Places::texts))]
 pub(crate) fn push_own_text(nodes: &mut Vec<Node>, text: Text) -> Result<(), AllocError>
-    ensures normal_nodes_stay_normal { AreNormal nodes.old.items → AreNormal nodes.new.items }
-    ensures adds_the_text { OnOk result (content_of nodes.new.items ≡ with_text text (content_of nodes.old.items)) }
-    ensures failure_changes_nothing { OnErr result (content_of nodes.new.items ≡ content_of nodes.old.items) }
+    ensures stays_normal { AreNormal nodes.old.items → AreNormal nodes.new.items }
+    ensures adds_text { OnOk result
+        (content_of nodes.new.items ≡ with_text text (content_of nodes.old.items)) }
+    ensures err_unchanged { OnErr result (content_of nodes.new.items ≡ content_of nodes.old.items) }
 {
     if text.is_empty() {
         return Ok(());
@@ -125,12 +129,13 @@ pub(crate) fn push_own_text(nodes: &mut Vec<Node>, text: Text) -> Result<(), All
     Ok(())
 }
 
-// Adds a text at the end: it joins a text that stands last, and an empty one is ignored.
+// Appends a text: it joins a text that is the last node, and an empty text is ignored.
 #[tactic(auto, using(crate::proofs::Places::texts))]
 pub(crate) fn push_text(nodes: &mut Vec<Node>, text: &str) -> Result<(), AllocError>
-    ensures normal_nodes_stay_normal { AreNormal nodes.old.items → AreNormal nodes.new.items }
-    ensures adds_the_text { OnOk result (content_of nodes.new.items ≡ with_text (chars text.now) (content_of nodes.old.items)) }
-    ensures failure_changes_nothing { OnErr result (content_of nodes.new.items ≡ content_of nodes.old.items) }
+    ensures stays_normal { AreNormal nodes.old.items → AreNormal nodes.new.items }
+    ensures adds_text { OnOk result
+        (content_of nodes.new.items ≡ with_text (chars text.now) (content_of nodes.old.items)) }
+    ensures err_unchanged { OnErr result (content_of nodes.new.items ≡ content_of nodes.old.items) }
 {
     if text.is_empty() {
         return Ok(());
@@ -144,9 +149,9 @@ pub(crate) fn push_text(nodes: &mut Vec<Node>, text: &str) -> Result<(), AllocEr
     Ok(())
 }
 
-// The text at a place among the nodes, where one is there.
+// The text at a place among the nodes, if there is one.
 pub(crate) fn text_at(nodes: &[Node], place: usize) -> Option<&Text>
-    ensures text_at_that_place { option_copied result ≡ text_at place nodes.now }
+    ensures exact { option_copied result ≡ text_at place nodes.now }
 {
     if place >= nodes.len() {
         return None;
@@ -154,9 +159,9 @@ pub(crate) fn text_at(nodes: &[Node], place: usize) -> Option<&Text>
     nodes[place].text()
 }
 
-/// The place of a gap between element children among nodes: behind the child before it.
+/// The place of a gap between child elements among nodes: after the child before it.
 pub fn place_of_gap(nodes: &[Node], gap: usize) -> usize
-    ensures place_behind_the_child_before { result ≡ gap_place gap nodes.now }
+    ensures exact { result ≡ gap_place gap nodes.now }
 {
     if gap == 0 {
         0
@@ -165,19 +170,20 @@ pub fn place_of_gap(nodes: &[Node], gap: usize) -> usize
     }
 }
 
-// Puts an element in a gap.
+// Inserts an element into a gap.
 #[tactic(auto, using(crate::proofs::Places::places))]
 pub(crate) fn put_elem(
     nodes: &mut Vec<Node>,
     gap: usize,
     element: Element,
 ) -> Result<(), (AllocError, Element)>
-    requires { gap ≤ length (kids (content_of nodes.old.items)) }
-    ensures normal_nodes_stay_normal { AreNormal nodes.old.items → AreNormal nodes.new.items }
-    ensures puts_the_element_there { OnOk result (content_of nodes.new.items ≡ put gap element (content_of nodes.old.items)) }
-    ensures failure_changes_nothing { OnErr result (content_of nodes.new.items ≡ content_of nodes.old.items) }
-    ensures refused_element_comes_back { IfErr result (λ refused. refused.1 ≡ element) }
-    ensures where_there_is_room { length nodes.old.items < vec_capacity nodes.old → IsOk result }
+    requires { gap ≤ length (child_elements (content_of nodes.old.items)) }
+    ensures stays_normal { AreNormal nodes.old.items → AreNormal nodes.new.items }
+    ensures puts_element { OnOk result
+        (content_of nodes.new.items ≡ put gap element (content_of nodes.old.items)) }
+    ensures err_unchanged { OnErr result (content_of nodes.new.items ≡ content_of nodes.old.items) }
+    ensures err_returns_element { IfErr result (λ refused. refused.1 ≡ element) }
+    ensures room_is_ok { length nodes.old.items < vec_capacity nodes.old → IsOk result }
 {
     let place = place_of_gap(nodes, gap);
     match nodes.insert(place, Node::Elem(element)) {
@@ -186,13 +192,15 @@ pub(crate) fn put_elem(
     }
 }
 
-// Puts an element in a gap. The nodes move into a vector that has room for them and one more.
+// Inserts an element into a gap. The nodes move into `room`, which has capacity for them and one
+// more.
 #[tactic(auto, using(crate::proofs::Places::places))]
 pub(crate) fn put_elem_in_room(nodes: &mut Vec<Node>, gap: usize, element: Element, room: Vec<Node>)
-    requires gap { gap ≤ length (kids (content_of nodes.old.items)) }
-    requires room { HasRoom (suc (length nodes.old.items)) room }
-    ensures normal_nodes_stay_normal { AreNormal nodes.old.items → AreNormal nodes.new.items }
-    ensures puts_the_element_there { content_of nodes.new.items ≡ put gap element (content_of nodes.old.items) }
+    requires gap_in_range { gap ≤ length (child_elements (content_of nodes.old.items)) }
+    requires room_left { HasRoom (suc (length nodes.old.items)) room }
+    ensures stays_normal { AreNormal nodes.old.items → AreNormal nodes.new.items }
+    ensures puts_element { content_of nodes.new.items
+        ≡ put gap element (content_of nodes.old.items) }
 {
     let mut moved = room;
     moved.append(nodes).unwrap();
@@ -200,10 +208,10 @@ pub(crate) fn put_elem_in_room(nodes: &mut Vec<Node>, gap: usize, element: Eleme
     put_elem(nodes, gap, element).unwrap();
 }
 
-// The texts directly before and behind a node, joined, where both nodes there are texts.
+// The texts directly before and after a node, joined, where both nodes there are texts.
 fn joined_beside(alloc: Global, nodes: &[Node], place: usize) -> Result<Option<Text>, AllocError>
-    ensures joins_the_texts_beside { IfOk result (λ text. text ≡ joined_beside place nodes.now) }
-    ensures only_for_two { OnErr result (IsSome (joined_beside place nodes.now)) }
+    ensures ok { IfOk result (λ text. text ≡ joined_beside place nodes.now) }
+    ensures err_texts_join { OnErr result (IsSome (joined_beside place nodes.now)) }
 {
     if place == 0 {
         return Ok(None);
@@ -219,21 +227,22 @@ fn joined_beside(alloc: Global, nodes: &[Node], place: usize) -> Result<Option<T
     Ok(Some(text))
 }
 
-// Exchanges a node and the one before it for a text.
+// Replaces a node and the one before it by a text.
 fn replace_two(nodes: &mut Vec<Node>, place: usize, text: Text)
     requires between { (0 < place) × (place < length nodes.old.items) }
-    ensures text_in_place_of_both { nodes.new.items ≡ slice_set (remove nodes.old.items place) (place - 1) (Chars text) }
+    ensures joint_text { nodes.new.items
+        ≡ slice_set (remove nodes.old.items place) (place - 1) (Chars text) }
 {
     let _behind = nodes.remove(place);
     let _before = mem::replace(&mut nodes[place - 1], Node::Chars(text));
 }
 
-// Takes a node out. The texts beside it are exchanged for one, where one is given.
+// Removes a node. The texts beside it are replaced by one, if one is given.
 fn remove_joined(nodes: &mut Vec<Node>, place: usize, joined: Option<Text>) -> Node
-    requires there { place < length nodes.old.items }
+    requires place_exists { place < length nodes.old.items }
     requires between { IsSome joined → (0 < place) × (place + 1 < length nodes.old.items) }
-    ensures element_that_was_there { slice_get nodes.old.items place ≡ Some result }
-    ensures leaves_the_others_joined { nodes.new.items ≡ removed_joined place joined nodes.old.items }
+    ensures previous_element { slice_get nodes.old.items place ≡ Some result }
+    ensures others_joined { nodes.new.items ≡ removed_joined place joined nodes.old.items }
 {
     let taken = nodes.remove(place);
     match joined {
@@ -243,44 +252,48 @@ fn remove_joined(nodes: &mut Vec<Node>, place: usize, joined: Option<Text>) -> N
     taken
 }
 
-// The texts directly beside an element, joined, where there are two: what taking it out wants.
+// The texts directly beside an element, joined, if there are two: what removing it needs.
 pub(crate) fn joined_around(
     alloc: Global,
     nodes: &[Node],
     child: usize,
 ) -> Result<Option<Text>, AllocError>
-    requires { child < length (kids (content_of nodes.now)) }
-    ensures joins_the_texts_beside { IfOk result (λ text. text ≡ joined_beside (place child nodes.now) nodes.now) }
-    ensures only_where_texts_meet { AreNormal nodes.now → OnErr result (TextsMeet child (content_of nodes.now)) }
+    requires { child < length (child_elements (content_of nodes.now)) }
+    ensures ok { IfOk result (λ text. text ≡ joined_beside (place child nodes.now) nodes.now) }
+    ensures err_texts_meet { AreNormal nodes.now
+        → OnErr result (TextsMeet child (content_of nodes.now)) }
 {
     joined_beside(alloc, nodes, place_of(nodes, child))
 }
 
-// Takes an element out. The texts beside it are exchanged for one, where there are two.
+// Removes an element. The texts beside it are replaced by one, if there are two.
 pub(crate) fn take_elem_joining(
     nodes: &mut Vec<Node>,
     child: usize,
     joined: Option<Text>,
 ) -> Element
-    requires there { child < length (kids (content_of nodes.old.items)) }
-    requires joined { joined ≡ joined_beside (place child nodes.old.items) nodes.old.items }
-    ensures normal_nodes_stay_normal { AreNormal nodes.old.items → AreNormal nodes.new.items }
-    ensures element_that_was_there { slice_get (kids (content_of nodes.old.items)) child ≡ Some result }
-    ensures leaves_the_others_joined { content_of nodes.new.items ≡ cut child (content_of nodes.old.items) }
+    requires place_exists { child < length (child_elements (content_of nodes.old.items)) }
+    requires joined_texts { joined ≡ joined_beside (place child nodes.old.items) nodes.old.items }
+    ensures stays_normal { AreNormal nodes.old.items → AreNormal nodes.new.items }
+    ensures previous_element { slice_get (child_elements (content_of nodes.old.items)) child
+        ≡ Some result }
+    ensures others_joined { content_of nodes.new.items ≡ cut child (content_of nodes.old.items) }
 {
     let place = place_of(nodes, child);
     let taken = remove_joined(nodes, place, joined);
     taken.into_elem()
 }
 
-// Takes an element out. Texts that meet are joined, and only for that memory is taken, before anything changes.
+// Removes an element. Texts that meet are joined; only that allocates, before anything changes.
 pub(crate) fn take_elem(nodes: &mut Vec<Node>, child: usize) -> Result<Element, AllocError>
-    requires { child < length (kids (content_of nodes.old.items)) }
-    ensures normal_nodes_stay_normal { AreNormal nodes.old.items → AreNormal nodes.new.items }
-    ensures element_that_was_there { IfOk result (λ element. slice_get (kids (content_of nodes.old.items)) child ≡ Some element) }
-    ensures cuts_the_element_out { OnOk result (content_of nodes.new.items ≡ cut child (content_of nodes.old.items)) }
-    ensures failure_changes_nothing { OnErr result (content_of nodes.new.items ≡ content_of nodes.old.items) }
-    ensures only_where_texts_meet { AreNormal nodes.old.items
+    requires { child < length (child_elements (content_of nodes.old.items)) }
+    ensures stays_normal { AreNormal nodes.old.items → AreNormal nodes.new.items }
+    ensures previous_element { IfOk result
+        (λ element. slice_get (child_elements (content_of nodes.old.items)) child ≡ Some element) }
+    ensures cuts_element { OnOk result
+        (content_of nodes.new.items ≡ cut child (content_of nodes.old.items)) }
+    ensures err_unchanged { OnErr result (content_of nodes.new.items ≡ content_of nodes.old.items) }
+    ensures err_texts_meet { AreNormal nodes.old.items
         → OnErr result (TextsMeet child (content_of nodes.old.items)) }
 {
     let joined = joined_around(*nodes.allocator(), nodes, child)?;

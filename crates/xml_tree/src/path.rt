@@ -6,10 +6,11 @@ ghost use Rattle.xml_tree.specs.Tree.{at};
 use crate::tree::Element;
 use std::marker::Model;
 
-/// How many numbers a path holds at most.
+/// The greatest number of steps in a path.
 pub const PATH_LIMIT: usize = 64;
 
-/// A place in a tree: element-child numbers from 0, from the root down. The empty path is the root element.
+/// A place in a tree: child-element numbers from 0, from the root down. The empty path is the
+/// root element.
 #[derive(Debug, Drop)]
 pub struct Path {
     numbers: [usize; PATH_LIMIT],
@@ -28,9 +29,9 @@ impl Model for Path {
 }
 
 impl Path {
-    /// The place of the root element. Takes no memory.
+    /// The place of the root element. Does not allocate.
     pub fn root() -> Path
-        ensures leads_to_the_root { result ≡ [] }
+        ensures exact { result ≡ [] }
     {
         Path {
             numbers: [0; PATH_LIMIT],
@@ -38,10 +39,11 @@ impl Path {
         }
     }
 
-    /// The path with a number more at its end: None exactly where it holds `PATH_LIMIT`. Takes no memory.
+    /// The path with one more number: None exactly when it has `PATH_LIMIT` numbers. Does not
+    /// allocate.
     pub fn child(&self, number: usize) -> Option<Path>
-        ensures only_where_there_is_room { IsSome result ↔ (length self.now < PATH_LIMIT) }
-        ensures path_to_the_child { IfSome result (λ path. path ≡ self.now ++ number ∷ []) }
+        ensures some_iff_room { IsSome result ↔ (length self.now < PATH_LIMIT) }
+        ensures child_path { IfSome result (λ path. path ≡ self.now ++ number ∷ []) }
     {
         if self.len == PATH_LIMIT {
             return None;
@@ -54,17 +56,17 @@ impl Path {
         })
     }
 
-    /// The numbers, lent. Takes no memory.
+    /// The numbers, borrowed. Does not allocate.
     pub fn numbers(&self) -> &[usize]
-        ensures lends_the_numbers { result.now ≡ self.now }
+        ensures exact { result.now ≡ self.now }
         ensures path_is_short { length result.now ≤ PATH_LIMIT }
     {
         &self.numbers[..self.len]
     }
 
-    /// An equal path. Takes no memory.
+    /// An equal path. Does not allocate.
     pub fn copy(&self) -> Path
-        ensures makes_an_equal_path { result ≡ self.now }
+        ensures exact { result ≡ self.now }
     {
         Path {
             numbers: self.numbers,
@@ -72,17 +74,17 @@ impl Path {
         }
     }
 
-    /// Whether two paths have the same numbers. Takes no memory.
+    /// Whether two paths have the same numbers. Does not allocate.
     pub fn same(&self, other: &Path) -> bool
-        ensures tells_equal_paths { IsTrue result ↔ (self.now ≡ other.now) }
+        ensures exact { IsTrue result ↔ (self.now ≡ other.now) }
     {
         self.numbers() == other.numbers()
     }
 
-    /// The path of the parent, and the number below it: None exactly for the root. Takes no memory.
+    /// The path of the parent, and the last number: None exactly for the root. Does not allocate.
     pub fn split_last(&self) -> Option<(Path, usize)>
-        ensures only_below_the_root { IsSome result ↔ (0 < length self.now) }
-        ensures parts_of_the_path { IfSome result (λ parts. self.now ≡ parts.0 ++ parts.1 ∷ []) }
+        ensures some_below_root { IsSome result ↔ (0 < length self.now) }
+        ensures path_parts { IfSome result (λ parts. self.now ≡ parts.0 ++ parts.1 ∷ []) }
     {
         if self.len == 0 {
             return None;
@@ -96,13 +98,13 @@ impl Path {
     }
 }
 
-/// The element at a path: None exactly where a number has no element child. Takes no memory.
+/// The element at a path: None exactly when a number has no child element. Does not allocate.
 pub fn element_at<'a>(root: &'a Element, path: &Path) -> Option<&'a Element>
-    ensures element_at_the_path { option_copied result ≡ at path.now root.now }
+    ensures exact { option_copied result ≡ at path.now root.now }
 {
     let mut here = root;
     for number in path.numbers() {
-        here = here.kid(*number)?;
+        here = here.child_element(*number)?;
     }
     Some(here)
 }

@@ -6,12 +6,13 @@ use crate::path::Path;
 use crate::text::Text;
 use std::alloc::{AllocError, Global};
 
-/// The positional selector of a place: `*` for the root, and `/*[i]` for each number, counted from 1.
+/// The positional selector of a place: `*` for the root, and `/*[i]` for each number, counted
+/// from 1.
 ///
 /// # Errors
-/// `NoMemory` for want of memory.
+/// `NoMemory` when out of memory.
 pub fn print_path(alloc: Global, path: &Path) -> Result<Text, AllocError>
-    ensures prints_the_path { IfOk result (λ text. text ≡ path_text path.now) }
+    ensures ok { IfOk result (λ text. text ≡ path_text path.now) }
 {
     let mut text = String::from_str(alloc, "*")?;
     for number in path.numbers() {

@@ -1,40 +1,52 @@
-//! Laws of what holds everywhere in a tree, as of proper trees; each is the contract of a function that does nothing.
+//! Laws of what holds everywhere in a tree, such as being proper; each is the contract of a
+//! function that does nothing.
 ghost use Rattle.std.specs.Prelude.{◌≡◌, ◌≤◌, ◌++◌, ℕ, List, Some, length};
 ghost use Rattle.std.specs.List.{AllByRecursion};
 ghost use Rattle.xml_tree.specs.Edits.{change_at, cut_out, put_in, put_over};
 ghost use Rattle.xml_tree.specs.Nodes.{exchange_nodes};
 ghost use Rattle.xml_tree.specs.Proper.{OfNode, IsProperPart, ProperIn};
 ghost use Rattle.xml_tree.specs.Scopes.{bound, scope_around, scope_at};
-ghost use Rattle.xml_tree.specs.Tree.{Tree, at, kids_of};
+ghost use Rattle.xml_tree.specs.Tree.{Tree, at, child_elements_of};
 ghost use Rattle.xml_tree.specs.declared.names.Decl.{Decl};
 ghost use Rattle.xml_tree.specs.declared.tree.Node.{Node};
 
-/// What stands at a place of a proper tree is proper in the scope around it, and a proper tree that is changed at a place stays
-/// proper where the change makes of what stands there something that is proper in the same scope.
+/// What is at a place of a proper tree is proper in the scope around it, and a proper tree that
+/// is changed at a place stays proper where the change yields an element that is proper in the
+/// same scope.
 pub fn proper_at_each_place()
-    ensures proper_at_its_place { (p : List ℕ) (c : List (List Decl)) (t e : Tree) → at p t ≡ Some e → ProperIn c t → ProperIn (c ++ scope_around p t) e }
-    ensures proper_with_a_proper_change { (p : List ℕ) (f : Tree → Tree) (c : List (List Decl)) (t : Tree)
-        → ((e : Tree) → at p t ≡ Some e → ProperIn (c ++ scope_around p t) e → ProperIn (c ++ scope_around p t) (f e)) → ProperIn c t → ProperIn c (change_at p f t) }
+    ensures proper_at_place { (p : List ℕ) (c : List (List Decl)) (t e : Tree) → at p t ≡ Some e
+        → ProperIn c t → ProperIn (c ++ scope_around p t) e }
+    ensures proper_after_change { (p : List ℕ) (f : Tree → Tree) (c : List (List Decl)) (t : Tree)
+        → ((e : Tree) → at p t ≡ Some e → ProperIn (c ++ scope_around p t) e
+        → ProperIn (c ++ scope_around p t) (f e)) → ProperIn c t → ProperIn c (change_at p f t) }
 {}
 
-/// A proper tree stays proper where an element or nodes are put into it that are proper in the scope of their place, and where an
-/// element is taken out.
+/// A proper tree stays proper where an element or nodes are inserted that are proper in the scope
+/// of their place, and where an element is removed.
 pub fn proper_after_an_edit()
-    ensures after_an_insertion { (c : List (List Decl)) (p : List ℕ) (j : ℕ) (e t : Tree) → ProperIn (c ++ scope_at p t) e → ProperIn c t → ProperIn c (put_in p j e t) }
-    ensures after_an_exchange { (c : List (List Decl)) (p : List ℕ) (e t : Tree) → ProperIn (c ++ scope_around p t) e → ProperIn c t → ProperIn c (put_over p e t) }
-    ensures after_a_removal { (c : List (List Decl)) (p : List ℕ) (t : Tree) → ProperIn c t → ProperIn c (cut_out p t) }
-    ensures after_an_exchange_of_nodes { (c : List (List Decl)) (p : List ℕ) (from to : ℕ) (ns : List Node) (t : Tree) → AllByRecursion (OfNode IsProperPart (c ++ scope_at p t)) ns → ProperIn c t
+    ensures on_insertion { (c : List (List Decl)) (p : List ℕ) (j : ℕ) (e t : Tree)
+        → ProperIn (c ++ scope_at p t) e → ProperIn c t → ProperIn c (put_in p j e t) }
+    ensures on_replacement { (c : List (List Decl)) (p : List ℕ) (e t : Tree)
+        → ProperIn (c ++ scope_around p t) e → ProperIn c t → ProperIn c (put_over p e t) }
+    ensures on_removal { (c : List (List Decl)) (p : List ℕ) (t : Tree) → ProperIn c t
+        → ProperIn c (cut_out p t) }
+    ensures on_node_exchange { (c : List (List Decl)) (p : List ℕ) (from to : ℕ) (ns : List Node)
+        (t : Tree) → AllByRecursion (OfNode IsProperPart (c ++ scope_at p t)) ns → ProperIn c t
         → ProperIn c (change_at p (exchange_nodes from to ns) t) }
 {}
 
-/// What was put into a tree that is proper afterwards is proper in the scope of its place.
+/// An element that was put into a tree that is proper afterwards is proper in the scope of its
+/// place.
 pub fn proper_when_put()
-    ensures of_an_inserted_element { (c : List (List Decl)) (p : List ℕ) (j : ℕ) (e t k : Tree) → at p t ≡ Some k → j ≤ length (kids_of k) → ProperIn c (put_in p j e t)
+    ensures inserted_is_proper { (c : List (List Decl)) (p : List ℕ) (j : ℕ) (e t k : Tree)
+        → at p t ≡ Some k → j ≤ length (child_elements_of k) → ProperIn c (put_in p j e t)
         → ProperIn (c ++ scope_at p t) e }
-    ensures of_an_exchanged_element { (c : List (List Decl)) (p : List ℕ) (e t k : Tree) → at p t ≡ Some k → ProperIn c (put_over p e t) → ProperIn (c ++ scope_around p t) e }
+    ensures replaced_is_proper { (c : List (List Decl)) (p : List ℕ) (e t k : Tree)
+        → at p t ≡ Some k → ProperIn c (put_over p e t) → ProperIn (c ++ scope_around p t) e }
 {}
 
-/// What is proper in a scope is proper in each that binds every prefix alike.
+/// What is proper in a scope is proper in each scope with the same bindings.
 pub fn proper_in_scopes_that_bind_alike()
-    ensures proper_where_all_is_bound_alike { (c d : List (List Decl)) (t : Tree) → ((p : List ℕ) → bound c p ≡ bound d p) → ProperIn c t → ProperIn d t }
+    ensures stays_proper { (c d : List (List Decl)) (t : Tree)
+        → ((p : List ℕ) → bound c p ≡ bound d p) → ProperIn c t → ProperIn d t }
 {}

@@ -1,4 +1,4 @@
-//! Why a call gave nothing: this fault, or want of memory.
+//! Why a call has no result: a fault, or out of memory.
 ghost use Rattle.std.specs.Prelude.{◌≡◌};
 ghost use Rattle.xml_tree.specs.declared.read_error.ReadError.TheVariants as errors;
 
@@ -9,10 +9,10 @@ use thiserror::Error;
 /// Why something isn't read or made: it has a fault, or memory ran out.
 #[derive(Debug, PartialEq, Eq, Drop, Error)]
 pub enum ReadError<F: Display> {
-    /// It has this fault.
+    /// This fault.
     #[error("{0}")]
     Fault(F),
-    /// Want of memory.
+    /// Out of memory.
     #[error("out of memory")]
     NoMemory,
 }

@@ -1,13 +1,13 @@
-//! The characters that a print writes as references, and the references.
+//! The characters that a print writes as references, and their references.
 ghost use Rattle.std.specs.Prelude.{◌≡◌, ◌∷◌, [], IfNone, IfSome, chars};
 ghost use Rattle.xml_tree.specs.Print.{text_escape, value_escape};
 
 /// The reference that a character of a text is written as, unless it is written as itself.
 #[tactic(auto, using(crate::proofs::ReferenceLetters::letters))]
 pub fn text_reference(c: char) -> Option<&'static str>
-    ensures bytes_of_the_reference { IfSome result (λ reference. reference.now ≡ text_escape c) }
-    ensures characters_of_the_reference { IfSome result (λ reference. chars reference.now ≡ text_escape c) }
-    ensures plain_character_stands_for_itself { IfNone result (text_escape c ≡ c ∷ []) }
+    ensures reference_bytes { IfSome result (λ reference. reference.now ≡ text_escape c) }
+    ensures reference_chars { IfSome result (λ reference. chars reference.now ≡ text_escape c) }
+    ensures plain_as_itself { IfNone result (text_escape c ≡ c ∷ []) }
 {
     match c {
         '&' => Some("&amp;"),
@@ -18,12 +18,13 @@ pub fn text_reference(c: char) -> Option<&'static str>
     }
 }
 
-/// The reference that a character of a value in quotes is written as, unless it is written as itself.
+/// The reference that a character of a value in quotes is written as, unless it is written as
+/// itself.
 #[tactic(auto, using(crate::proofs::ReferenceLetters::letters))]
 pub fn value_reference(c: char) -> Option<&'static str>
-    ensures bytes_of_the_reference { IfSome result (λ reference. reference.now ≡ value_escape c) }
-    ensures characters_of_the_reference { IfSome result (λ reference. chars reference.now ≡ value_escape c) }
-    ensures plain_character_stands_for_itself { IfNone result (value_escape c ≡ c ∷ []) }
+    ensures reference_bytes { IfSome result (λ reference. reference.now ≡ value_escape c) }
+    ensures reference_chars { IfSome result (λ reference. chars reference.now ≡ value_escape c) }
+    ensures plain_as_itself { IfNone result (value_escape c ≡ c ∷ []) }
 {
     match c {
         '&' => Some("&amp;"),

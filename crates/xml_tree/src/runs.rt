@@ -1,4 +1,4 @@
-//! Runs of nodes: how one is exchanged for another so that no two texts meet.
+//! Runs of nodes: how one is replaced by another so that no two texts meet.
 ghost use Rattle.std.specs.Prelude.{◌≡◌, ◌≤◌, ◌++◌, ◌∷◌, [], false, length, IfOk, OnOk, OnErr, take, drop};
 ghost use Rattle.xml_tree.specs.Nodes.{AreNormal, StartsApart, content_of};
 ghost use Rattle.xml_tree.specs.inner.Nodes.{ends_in_text};
@@ -7,11 +7,12 @@ use crate::nodes::{push_comment_node, push_elem_node, push_own_text, text_at};
 use crate::tree::Node;
 use std::alloc::{AllocError, Global};
 
-// Adds a node at the end: a text joins one that stands last, and an empty one is ignored.
+// Appends a node: a text joins a text that is last, and an empty one is ignored.
 #[tactic(auto, using(crate::proofs::Places::pushes))]
 fn push_node(nodes: &mut Vec<Node>, node: Node) -> Result<(), AllocError>
-    ensures normal_nodes_stay_normal { AreNormal nodes.old.items → AreNormal nodes.new.items }
-    ensures adds_the_node { OnOk result (content_of nodes.new.items ≡ content_of (nodes.old.items ++ node ∷ [])) }
+    ensures stays_normal { AreNormal nodes.old.items → AreNormal nodes.new.items }
+    ensures adds_node { OnOk result
+        (content_of nodes.new.items ≡ content_of (nodes.old.items ++ node ∷ [])) }
 {
     match node {
         Node::Elem(element) => push_elem_node(nodes, element),
@@ -20,10 +21,10 @@ fn push_node(nodes: &mut Vec<Node>, node: Node) -> Result<(), AllocError>
     }
 }
 
-// The same nodes, with texts that meet joined and empty ones left out.
+// These nodes, with texts that meet joined and empty ones left out.
 fn joined_nodes(alloc: Global, nodes: Vec<Node>) -> Result<Vec<Node>, AllocError>
-    ensures normal_nodes_stay_normal { IfOk result (λ made. AreNormal made.items) }
-    ensures content_stays { IfOk result (λ made. content_of made.items ≡ content_of nodes.items) }
+    ensures stays_normal { IfOk result (λ made. AreNormal made.items) }
+    ensures same_content { IfOk result (λ made. content_of made.items ≡ content_of nodes.items) }
 {
     let mut made = Vec::new(alloc);
     for node in nodes {
@@ -32,13 +33,15 @@ fn joined_nodes(alloc: Global, nodes: Vec<Node>) -> Result<Vec<Node>, AllocError
     Ok(made)
 }
 
-// Puts a copy of a text that stands directly before a place in front of other nodes, and answers where the text stands; or,
-// where no text stands there, the place itself.
+// Prepends a copy of the text directly before a place to other nodes, and returns where the text
+// is; or, where there isn't a text, the place itself.
 fn with_text_before(nodes: &[Node], place: usize, more: &mut Vec<Node>) -> Result<usize, AllocError>
     requires { place ≤ length nodes.now }
-    ensures nodes_stay_in_order { IfOk result (λ start. take start nodes.now ++ more.new.items ≡ take place nodes.now ++ more.old.items) }
+    ensures nodes_in_order { IfOk result
+        (λ start. take start nodes.now ++ more.new.items ≡ take place nodes.now ++ more.old.items) }
     ensures lies_within { IfOk result (λ start. start ≤ place) }
-    ensures no_text_meets_the_cut { AreNormal nodes.now → IfOk result (λ start. ends_in_text (take start nodes.now) ≡ false) }
+    ensures no_adjoining_text { AreNormal nodes.now
+        → IfOk result (λ start. ends_in_text (take start nodes.now) ≡ false) }
 {
     if place == 0 {
         return Ok(0);
@@ -51,13 +54,15 @@ fn with_text_before(nodes: &[Node], place: usize, more: &mut Vec<Node>) -> Resul
     Ok(place - 1)
 }
 
-// Puts a copy of a text that stands at a place behind other nodes, and answers where the text ends; or, where no text stands
-// there, the place itself.
+// Appends a copy of the text at a place to other nodes, and returns where the text ends; or,
+// where there isn't a text, the place itself.
 fn with_text_behind(nodes: &[Node], place: usize, more: &mut Vec<Node>) -> Result<usize, AllocError>
     requires { place ≤ length nodes.now }
-    ensures nodes_stay_in_order { IfOk result (λ end. more.new.items ++ drop end nodes.now ≡ more.old.items ++ drop place nodes.now) }
+    ensures nodes_in_order { IfOk result
+        (λ end. more.new.items ++ drop end nodes.now ≡ more.old.items ++ drop place nodes.now) }
     ensures lies_within { IfOk result (λ end. (place ≤ end) × (end ≤ length nodes.now)) }
-    ensures no_text_meets_the_cut { AreNormal nodes.now → IfOk result (λ end. StartsApart (drop end nodes.now)) }
+    ensures no_adjoining_text { AreNormal nodes.now
+        → IfOk result (λ end. StartsApart (drop end nodes.now)) }
 {
     let Some(text) = text_at(nodes, place) else {
         return Ok(place);
@@ -67,19 +72,20 @@ fn with_text_behind(nodes: &[Node], place: usize, more: &mut Vec<Node>) -> Resul
     Ok(place + 1)
 }
 
-// Exchanges the nodes from one place to before another. Texts that meet are joined, and empty ones vanish.
+// Replaces the nodes from one place to before another. Texts that meet are joined, and empty ones
+// are dropped.
 pub(crate) fn exchange(
     nodes: &mut Vec<Node>,
     from: usize,
     to: usize,
     mut new: Vec<Node>,
 ) -> Result<(), AllocError>
-    requires order { from ≤ to }
+    requires range_ordered { from ≤ to }
     requires within { to ≤ length nodes.old.items }
-    ensures normal_nodes_stay_normal { AreNormal nodes.old.items → AreNormal nodes.new.items }
-    ensures exchanges_the_nodes { OnOk result (content_of nodes.new.items
+    ensures stays_normal { AreNormal nodes.old.items → AreNormal nodes.new.items }
+    ensures replaces_nodes { OnOk result (content_of nodes.new.items
         ≡ content_of (take from nodes.old.items ++ (new.items ++ drop to nodes.old.items))) }
-    ensures failure_changes_nothing { OnErr result (content_of nodes.new.items ≡ content_of nodes.old.items) }
+    ensures err_unchanged { OnErr result (content_of nodes.new.items ≡ content_of nodes.old.items) }
 {
     let start = with_text_before(nodes, from, &mut new)?;
     let end = with_text_behind(nodes, to, &mut new)?;

@@ -13,10 +13,11 @@ use crate::tree::Element;
 use std::alloc::{AllocError, Global};
 use std::marker::Model;
 
-/// How many lists of declarations a scope holds at most.
+/// The greatest number of lists of declarations in a scope.
 pub const SCOPE_LIMIT: usize = 67;
 
-/// Lists of declarations, lent, outermost first. Contracts see them as a list of lists; in each a later declaration is nearer.
+/// Lists of declarations, borrowed, outermost first. Contracts see them as a list of lists; in
+/// each a later declaration is nearer.
 #[derive(Drop)]
 pub struct Scope<'a> {
     lists: [&'a [Decl]; SCOPE_LIMIT],
@@ -40,7 +41,7 @@ impl<'a> Model for Scope<'a> {
 }
 
 impl<'a> Scope<'a> {
-    /// The scope of no declarations. Takes no memory.
+    /// The scope without declarations. Does not allocate.
     pub fn empty() -> Scope<'a>
         ensures declares_nothing { result ≡ [] }
     {
@@ -50,24 +51,25 @@ impl<'a> Scope<'a> {
         }
     }
 
-    /// The scope at an element: the declarations of all elements on its path, its own included. None exactly where no element
-    /// is at the path. Takes no memory.
+    /// The scope at an element: the declarations of all elements on its path, its own included.
+    /// None exactly when no element is at the path. Does not allocate.
     pub fn at(root: &'a Element, path: &Path) -> Option<Scope<'a>>
-        ensures scope_at_the_element { result ≡ option_map (λ _. scope_at path.now root.now) (at path.now root.now) }
+        ensures exact { result
+            ≡ option_map (λ _. scope_at path.now root.now) (at path.now root.now) }
     {
         let mut here = root;
         let mut scope = Scope::empty().with(root.decls());
         for number in path.numbers() {
-            here = here.kid(*number)?;
+            here = here.child_element(*number)?;
             scope = scope.with(here.decls());
         }
         Some(scope)
     }
 
-    /// The scope with one list more, which is the innermost. Takes no memory.
+    /// The scope with one more list, which is the innermost. Does not allocate.
     pub fn with(&self, decls: &'a [Decl]) -> Scope<'a>
         requires { length self.now < SCOPE_LIMIT }
-        ensures adds_the_list { result ≡ self.now ++ decls.now ∷ [] }
+        ensures exact { result ≡ self.now ++ decls.now ∷ [] }
     {
         let mut lists = self.lists;
         lists[self.len] = decls;
@@ -77,9 +79,9 @@ impl<'a> Scope<'a> {
         }
     }
 
-    /// An equal scope, which borrows the same lists. Takes no memory.
+    /// An equal scope, which borrows the same lists. Does not allocate.
     pub fn copy(&self) -> Scope<'a>
-        ensures makes_an_equal_scope { result ≡ self.now }
+        ensures exact { result ≡ self.now }
     {
         Scope {
             lists: self.lists,
@@ -87,34 +89,37 @@ impl<'a> Scope<'a> {
         }
     }
 
-    /// How many lists it holds. Takes no memory.
+    /// How many lists it holds. Does not allocate.
     pub fn depth(&self) -> usize
-        ensures counts_the_lists { result ≡ length self.now }
+        ensures exact { result ≡ length self.now }
     {
         self.len
     }
 
-    /// The lists, outermost first. Takes no memory.
+    /// The lists, outermost first. Does not allocate.
     pub fn lists(&self) -> &[&'a [Decl]]
-        ensures lends_the_lists { map (λ x. x.now) result.now ≡ self.now }
+        ensures exact { map (λ x. x.now) result.now ≡ self.now }
     {
         &self.lists[..self.len]
     }
 
-    /// All bindings in scope without that of `xml`: the default first, then the prefixes by code point.
+    /// All bindings in scope without the binding of `xml`: the default first, then the prefixes
+    /// by code point.
     ///
     /// # Errors
-    /// `NoMemory` for want of memory.
+    /// `NoMemory` when out of memory.
     #[tactic(auto, using(crate::proofs::BindingWords::gathered_are))]
     pub fn bindings(&self, alloc: Global) -> Result<Vec<Decl>, AllocError>
-        ensures all_bindings_in_scope { IfOk result (λ made. made.items ≡ bindings_in self.now) }
+        ensures ok { IfOk result (λ made. made.items ≡ bindings_in self.now) }
     {
         bindings(alloc, &self.lists[..self.len])
     }
 
-    /// The URI that a prefix is bound to, the empty prefix being the default namespace. Takes no memory.
+    /// The URI that a prefix is bound to; the empty prefix is the default namespace. Does not
+    /// allocate.
     pub fn resolve(&self, prefix: &str) -> Option<&'a str>
-        ensures resolves_as_it_is_bound { option_map (λ uri. chars uri.now) result ≡ bound self.now (chars prefix.now) }
+        ensures resolves_as_bound { option_map (λ uri. chars uri.now) result
+            ≡ bound self.now (chars prefix.now) }
     {
         if is_xml(prefix) {
             return Some(xml_uri());
@@ -122,9 +127,9 @@ impl<'a> Scope<'a> {
         some_text(self.nearest(prefix))
     }
 
-    // What the nearest declaration of a prefix says.
+    // The URI in the nearest declaration of a prefix.
     pub(crate) fn nearest(&self, prefix: &str) -> Option<&'a Text>
-        ensures finds_what_is_declared { option_copied result ≡ declared (joined self.now) (chars prefix.now) }
+        ensures exact { option_copied result ≡ declared (joined self.now) (chars prefix.now) }
     {
         nearest(&self.lists[..self.len], prefix)
     }
@@ -132,14 +137,14 @@ impl<'a> Scope<'a> {
 
 /// Whether a prefix is `xml`, which is always bound.
 pub fn is_xml(prefix: &str) -> bool
-    ensures tells_whether_it_is_xml { result ≡ bytes_eq (chars prefix.now) xml_prefix }
+    ensures exact { result ≡ bytes_eq (chars prefix.now) xml_prefix }
 {
     prefix == "xml"
 }
 
 /// Whether a prefix is `xmlns`, which is never bound.
 pub fn is_xmlns(prefix: &str) -> bool
-    ensures tells_whether_it_is_xmlns { result ≡ bytes_eq (chars prefix.now) xmlns_prefix }
+    ensures exact { result ≡ bytes_eq (chars prefix.now) xmlns_prefix }
 {
     prefix == "xmlns"
 }
@@ -151,9 +156,10 @@ pub(crate) fn xml_uri() -> &'static str
     "http://www.w3.org/XML/1998/namespace"
 }
 
-// A URI, unless it is empty, which binds nothing.
+// A URI, or None if it is empty, as that binds nothing.
 pub(crate) fn some_text<'a>(uri: Option<&'a Text>) -> Option<&'a str>
-    ensures nothing_if_it_is_empty { option_map (λ text. chars text.now) result ≡ some_text (option_copied uri.entry) }
+    ensures none_if_empty { option_map (λ text. chars text.now) result
+        ≡ some_text (option_copied uri.entry) }
 {
     match uri {
         Some(text) if !text.is_empty() => Some(text.as_str()),
@@ -161,10 +167,11 @@ pub(crate) fn some_text<'a>(uri: Option<&'a Text>) -> Option<&'a str>
     }
 }
 
-// What the lists declare of a prefix, the last of them first.
+// The URI that the lists declare for a prefix; the last list is nearest.
 #[tactic(auto, using(crate::proofs::ScopeLemmas::declared_steps))]
 fn nearest<'a>(lists: &[&'a [Decl]], prefix: &str) -> Option<&'a Text>
-    ensures last_that_is_declared { option_copied result ≡ declared (joined (map (λ x. x.now) lists.now)) (chars prefix.now) }
+    ensures exact { option_copied result
+        ≡ declared (joined (map (λ x. x.now) lists.now)) (chars prefix.now) }
 {
     let mut found = None;
     for list in lists {
@@ -175,9 +182,9 @@ fn nearest<'a>(lists: &[&'a [Decl]], prefix: &str) -> Option<&'a Text>
     found
 }
 
-// What a list declares of a prefix.
+// The URI that a list declares for a prefix.
 pub(crate) fn declared<'a>(decls: &'a [Decl], prefix: &str) -> Option<&'a Text>
-    ensures declared_by_the_list { option_copied result ≡ declared decls.now (chars prefix.now) }
+    ensures exact { option_copied result ≡ declared decls.now (chars prefix.now) }
 {
     let mut found = None;
     for decl in decls {

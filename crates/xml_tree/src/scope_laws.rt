@@ -4,12 +4,15 @@ ghost use Rattle.std.specs.List.{AllByRecursion};
 ghost use Rattle.xml_tree.specs.Scopes.{AreInOrder, bindings_in, binds, bound};
 ghost use Rattle.xml_tree.specs.declared.names.Decl.{Decl};
 
-/// All bindings of a scope, as one list: they bind what the scope binds, stand in the order of their prefixes by code point,
-/// and each binds a prefix other than `xml`. No other list does so.
+/// All bindings of a scope, as one list: they bind what the scope binds, are in the order of
+/// their prefixes by code point, and each binds a prefix other than `xml`. No other list does so.
 pub fn bindings_are_those_of_the_scope()
-    ensures each_prefix_is_bound_alike { (c : List (List Decl)) (p : List ℕ) → bound (bindings_in c ∷ []) p ≡ bound c p }
+    ensures bound_alike { (c : List (List Decl)) (p : List ℕ)
+        → bound (bindings_in c ∷ []) p ≡ bound c p }
     ensures prefixes_rise { (c : List (List Decl)) → AreInOrder (bindings_in c) }
-    ensures each_binds_a_prefix { (c : List (List Decl)) → AllByRecursion (λ d. IsTrue (binds d)) (bindings_in c) }
-    ensures no_other_list_is_such { (c : List (List Decl)) (ds : List Decl) → AreInOrder ds → AllByRecursion (λ d. IsTrue (binds d)) ds
+    ensures each_binds { (c : List (List Decl))
+        → AllByRecursion (λ d. IsTrue (binds d)) (bindings_in c) }
+    ensures list_is_unique { (c : List (List Decl)) (ds : List Decl) → AreInOrder ds
+        → AllByRecursion (λ d. IsTrue (binds d)) ds
         → ((p : List ℕ) → bound (ds ∷ []) p ≡ bound c p) → ds ≡ bindings_in c }
 {}

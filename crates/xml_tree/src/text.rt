@@ -2,21 +2,22 @@
 ghost use Rattle.std.specs.Prelude.{◌≡◌, ◌++◌, ◌∷◌, [], ◌↔◌, length, take, IsTrue, IfOk, OnOk, OnErr, chars, encode_utf8_all, string_bytes};
 ghost use Rattle.std.specs.Str.{bytes_eq};
 
-use crate::text_bytes::TextBytes;
+use crate::text_storage::TextStorage;
 use std::alloc::{AllocError, Global};
 use std::cmp::Ordering;
 use std::hash::{Hash, Hasher};
 use std::marker::Model;
 
-/// A text that owns its memory; one of a few bytes takes none. Contracts see the list of its characters, as code points.
+/// A text that owns its memory; one of a few bytes does not allocate. Contracts see the list of
+/// its characters, as code points.
 #[derive(Debug, Drop)]
 pub struct Text {
-    bytes: TextBytes,
+    bytes: TextStorage,
 }
 
 impl Model for Text {
     ghost use Rattle.std.specs.Prelude.{ℕ, List, chars, IsUtf8};
-    ghost use Rattle.xml_tree.specs.inner.Spelled.{bytes_of};
+    ghost use Rattle.xml_tree.specs.inner.TextBytes.{bytes_of};
 
     ghost Value = { List ℕ };
 
@@ -29,50 +30,51 @@ impl Text {
     /// A copy of a text.
     ///
     /// # Errors
-    /// `NoMemory` for want of memory.
+    /// `NoMemory` when out of memory.
     pub fn from(alloc: Global, text: &str) -> Result<Text, AllocError>
-        ensures copies_the_text { IfOk result (λ made. made ≡ chars text.now) }
+        ensures same_chars { IfOk result (λ made. made ≡ chars text.now) }
     {
-        let bytes = TextBytes::from(alloc, text)?;
+        let bytes = TextStorage::from(alloc, text)?;
         Ok(Text { bytes })
     }
 
-    /// A copy of a text that stands in front of these bytes. Where they are thirty or more, a short one costs the same whatever its length.
+    /// A copy of a text that is a prefix of `bytes`. Where `bytes` has thirty or more, a short
+    /// text costs the same whatever its length.
     ///
     /// # Errors
-    /// `NoMemory` for want of memory.
+    /// `NoMemory` when out of memory.
     pub fn from_front(alloc: Global, text: &str, bytes: &[u8]) -> Result<Text, AllocError>
         requires { text.now ≡ take (length text.now) bytes.now }
-        ensures copies_the_text { IfOk result (λ made. made ≡ chars text.now) }
+        ensures same_chars { IfOk result (λ made. made ≡ chars text.now) }
     {
-        let made = TextBytes::of_front(alloc, text, bytes)?;
+        let made = TextStorage::of_front(alloc, text, bytes)?;
         Ok(Text { bytes: made })
     }
 
-    /// The text that a string holds, which is not copied. Takes no memory.
+    /// The text that a string holds, which is not copied. Does not allocate.
     pub fn own(string: String) -> Text
-        ensures holds_the_string { result ≡ chars (string_bytes string) }
+        ensures exact { result ≡ chars (string_bytes string) }
     {
         Text {
-            bytes: TextBytes::Long(string),
+            bytes: TextStorage::Long(string),
         }
     }
 
-    /// The text without characters, with room for so many bytes.
+    /// The empty text, with capacity for `bytes` bytes.
     ///
     /// # Errors
-    /// `NoMemory` for want of memory.
+    /// `NoMemory` when out of memory.
     pub fn with_capacity(alloc: Global, bytes: usize) -> Result<Text, AllocError>
         ensures holds_no_characters { IfOk result (λ made. made ≡ []) }
     {
-        let bytes = TextBytes::with_capacity(alloc, bytes)?;
+        let bytes = TextStorage::with_capacity(alloc, bytes)?;
         Ok(Text { bytes })
     }
 
-    /// The text, lent. Takes no memory.
+    /// The text, borrowed. Does not allocate.
     pub fn as_str(&self) -> &str
-        ensures characters_of_the_text { chars result.now ≡ self.now }
-        ensures bytes_of_the_characters { result.now ≡ encode_utf8_all self.now }
+        ensures same_chars { chars result.now ≡ self.now }
+        ensures utf8_bytes { result.now ≡ encode_utf8_all self.now }
     {
         self.bytes.as_str()
     }
@@ -80,60 +82,60 @@ impl Text {
     /// An equal text.
     ///
     /// # Errors
-    /// `NoMemory` for want of memory.
+    /// `NoMemory` when out of memory.
     pub fn copy(&self, alloc: Global) -> Result<Text, AllocError>
-        ensures makes_an_equal_text { IfOk result (λ made. made ≡ self.now) }
+        ensures equal_text { IfOk result (λ made. made ≡ self.now) }
     {
         let bytes = self.bytes.copy(alloc)?;
         Ok(Text { bytes })
     }
 
-    /// Adds a text at the end.
+    /// Appends a text.
     ///
     /// # Errors
-    /// `NoMemory` for want of memory; the text is then as before.
+    /// `NoMemory` when out of memory; the text is then unchanged.
     pub fn push_str(&mut self, text: &str) -> Result<(), AllocError>
-        ensures adds_the_characters { OnOk result (self.new ≡ self.old ++ chars text.now) }
-        ensures failure_changes_nothing { OnErr result (self.new ≡ self.old) }
+        ensures appends_chars { OnOk result (self.new ≡ self.old ++ chars text.now) }
+        ensures err_unchanged { OnErr result (self.new ≡ self.old) }
     {
         self.bytes.push_str(text)
     }
 
-    /// Adds a character at the end.
+    /// Appends a character.
     ///
     /// # Errors
-    /// `NoMemory` for want of memory; the text is then as before.
+    /// `NoMemory` when out of memory; the text is then unchanged.
     pub fn push(&mut self, c: char) -> Result<(), AllocError>
-        ensures adds_it_behind { OnOk result (self.new ≡ self.old ++ c ∷ []) }
-        ensures failure_changes_nothing { OnErr result (self.new ≡ self.old) }
+        ensures appended { OnOk result (self.new ≡ self.old ++ c ∷ []) }
+        ensures err_unchanged { OnErr result (self.new ≡ self.old) }
     {
         self.bytes.push(c)
     }
 
-    /// Whether two texts have the same characters. Takes no memory.
+    /// Whether two texts have the same characters. Does not allocate.
     pub fn same(&self, other: &Text) -> bool
-        ensures tells_equal_texts { IsTrue result ↔ (self.now ≡ other.now) }
+        ensures exact { IsTrue result ↔ (self.now ≡ other.now) }
     {
         self.as_str() == other.as_str()
     }
 
-    /// Whether it has these characters. Takes no memory.
+    /// Whether it has these characters. Does not allocate.
     pub fn is(&self, text: &str) -> bool
-        ensures tells_whether_it_has_these { result ≡ bytes_eq self.now (chars text.now) }
+        ensures exact { result ≡ bytes_eq self.now (chars text.now) }
     {
         self.as_str() == text
     }
 
-    /// Whether it has no character. Takes no memory.
+    /// Whether it has no character. Does not allocate.
     pub fn is_empty(&self) -> bool
-        ensures tells_whether_it_has_none { IsTrue result ↔ (self.now ≡ []) }
+        ensures exact { IsTrue result ↔ (self.now ≡ []) }
     {
         self.as_str().is_empty()
     }
 
-    /// How many characters it has. Takes no memory.
+    /// How many characters it has. Does not allocate.
     pub fn count(&self) -> usize
-        ensures counts_the_characters { result ≡ length self.now }
+        ensures exact { result ≡ length self.now }
     {
         self.as_str().chars().count()
     }

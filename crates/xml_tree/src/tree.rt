@@ -5,7 +5,9 @@ ghost use Rattle.xml_tree.specs.Tree.{height};
 
 use crate::attrs;
 use crate::names::{Attr, Decl, Name, push_decl};
-use crate::nodes::{kid_in, kid_of, push_comment_node, push_elem_node, push_own_text, push_text};
+use crate::nodes::{
+    child_in, child_of, push_comment_node, push_elem_node, push_own_text, push_text,
+};
 use crate::path::Path;
 use crate::text::Text;
 use std::alloc::{AllocError, Global};
@@ -21,8 +23,8 @@ pub enum Node {
     Comment(Text),
 }
 
-/// An element. Contracts see a plain tree: its name, declarations, attributes and content. No text in it is empty, and no
-/// two texts stand side by side.
+/// An element. Contracts see a plain tree: its name, declarations, attributes and content. No
+/// text in it is empty, and no two texts are adjacent.
 #[cycle(tree)]
 #[derive(Drop)]
 pub struct Element {
@@ -49,7 +51,7 @@ impl Model for Element {
     ghost size = { height };
 
     ghost use Rattle.std.proofs.Common.{arith};
-    ghost use Rattle.xml_tree.specs.inner.Falls.{most_le-content_height};
+    ghost use Rattle.xml_tree.specs.inner.Heights.{most_le-content_height};
 
     ghost size_decreases = { λ e h. omega (arith, most_le-content_height e.nodes.items) };
 }
@@ -61,10 +63,11 @@ impl Element {
     ghost use Rattle.xml_tree.specs.Comments.{is_comment};
     ghost use Rattle.xml_tree.specs.Edits.{with_comment, with_elem, with_text};
 
-    /// An element with this name and nothing else. Takes no memory; what is added later takes it from `alloc`.
+    /// An element with this name and nothing else. Does not allocate; what is added later is
+    /// allocated from `alloc`.
     #[inline(always)]
     pub fn new(alloc: Global, name: Name) -> Element
-        ensures has_the_name_alone { result ≡ tree_of name [] [] (last []) }
+        ensures named_alone { result ≡ tree_of name [] [] (last []) }
     {
         Element {
             name,
@@ -74,108 +77,115 @@ impl Element {
         }
     }
 
-    /// Adds a declaration behind the others.
+    /// Appends a declaration.
     ///
     /// # Errors
-    /// `NoMemory` for want of memory; the element is then as before, as at each call below.
+    /// `NoMemory` when out of memory; the element is then unchanged, as at each call below.
     pub fn push_decl(&mut self, decl: Decl) -> Result<(), AllocError>
-        ensures adds_the_declaration { OnOk result (self.new ≡ record self.old { decls = self.old.decls ++ decl ∷ [] }) }
-        ensures failure_changes_nothing { OnErr result (self.new ≡ self.old) }
+        ensures adds_declaration { OnOk result
+            (self.new ≡ record self.old { decls = self.old.decls ++ decl ∷ [] }) }
+        ensures err_unchanged { OnErr result (self.new ≡ self.old) }
     {
         push_decl(&mut self.decls, decl)
     }
 
-    /// Adds an attribute behind the others.
+    /// Appends an attribute.
     ///
     /// # Errors
-    /// `NoMemory` for want of memory.
+    /// `NoMemory` when out of memory.
     pub fn push_attr(&mut self, attr: Attr) -> Result<(), AllocError>
-        ensures adds_the_attribute { OnOk result (self.new ≡ record self.old { attrs = self.old.attrs ++ attr ∷ [] }) }
-        ensures failure_changes_nothing { OnErr result (self.new ≡ self.old) }
+        ensures adds_attribute { OnOk result
+            (self.new ≡ record self.old { attrs = self.old.attrs ++ attr ∷ [] }) }
+        ensures err_unchanged { OnErr result (self.new ≡ self.old) }
     {
         attrs::push(&mut self.attrs, attr)
     }
 
-    /// Adds an element behind all nodes.
+    /// Appends an element.
     ///
     /// # Errors
-    /// `NoMemory` for want of memory.
+    /// `NoMemory` when out of memory.
     #[inline(always)]
     pub fn push_elem(&mut self, element: Element) -> Result<(), AllocError>
-        ensures adds_the_element { OnOk result (self.new ≡ record self.old { content = with_elem element self.old.content }) }
-        ensures failure_changes_nothing { OnErr result (self.new ≡ self.old) }
+        ensures adds_element { OnOk result
+            (self.new ≡ record self.old { content = with_elem element self.old.content }) }
+        ensures err_unchanged { OnErr result (self.new ≡ self.old) }
     {
         push_elem_node(&mut self.nodes, element)
     }
 
-    /// Adds a text behind all nodes. It joins a text that stands last, and an empty one is ignored.
+    /// Appends a text. It joins a text that is the last node, and an empty text is ignored.
     ///
     /// # Errors
-    /// `NoMemory` for want of memory.
+    /// `NoMemory` when out of memory.
     pub fn push_chars(&mut self, text: &str) -> Result<(), AllocError>
-        ensures adds_the_characters { OnOk result
+        ensures appends_chars { OnOk result
             (self.new ≡ record self.old { content = with_text (chars text.now) self.old.content }) }
-        ensures failure_changes_nothing { OnErr result (self.new ≡ self.old) }
+        ensures err_unchanged { OnErr result (self.new ≡ self.old) }
     {
         push_text(&mut self.nodes, text)
     }
 
-    /// Adds a text behind all nodes, as `push_chars` does, and copies it only where it joins another.
+    /// Appends a text, as `push_chars` does, and copies it only where it joins another.
     ///
     /// # Errors
-    /// `NoMemory` for want of memory.
+    /// `NoMemory` when out of memory.
     #[inline(always)]
     pub fn push_text(&mut self, text: Text) -> Result<(), AllocError>
-        ensures adds_the_text { OnOk result (self.new ≡ record self.old { content = with_text text self.old.content }) }
-        ensures failure_changes_nothing { OnErr result (self.new ≡ self.old) }
+        ensures adds_text { OnOk result
+            (self.new ≡ record self.old { content = with_text text self.old.content }) }
+        ensures err_unchanged { OnErr result (self.new ≡ self.old) }
     {
         push_own_text(&mut self.nodes, text)
     }
 
-    /// Adds a comment behind all nodes. Its text has Chars other than CR alone, no `--`, and no `-` at its end.
+    /// Appends a comment. Its text consists of Chars other than CR, has no `--`, and doesn't end
+    /// in `-`.
     ///
     /// # Errors
-    /// `NoMemory` for want of memory.
+    /// `NoMemory` when out of memory.
     pub fn push_comment(&mut self, text: Text) -> Result<(), AllocError>
         requires { IsTrue (is_comment text) }
-        ensures adds_the_comment { OnOk result (self.new ≡ record self.old { content = with_comment text self.old.content }) }
-        ensures failure_changes_nothing { OnErr result (self.new ≡ self.old) }
+        ensures adds_comment { OnOk result
+            (self.new ≡ record self.old { content = with_comment text self.old.content }) }
+        ensures err_unchanged { OnErr result (self.new ≡ self.old) }
     {
         push_comment_node(&mut self.nodes, text)
     }
 }
 
-/// Its parts, lent. These calls take no memory.
+/// Its parts, borrowed. These calls do not allocate.
 impl Element {
     ghost use Rattle.std.specs.Prelude.{All};
-    ghost use Rattle.xml_tree.specs.Tree.{kids_of};
+    ghost use Rattle.xml_tree.specs.Tree.{child_elements_of};
     ghost use Rattle.xml_tree.specs.Nodes.{nodes_of, content_of, node_height, AreNormal};
 
     /// The name.
     pub fn name(&self) -> &Name
-        ensures lends_the_name { result.now ≡ self.now.name }
+        ensures exact { result.now ≡ self.now.name }
     {
         &self.name
     }
 
     /// The declarations, in the order in which they are written.
     pub fn decls(&self) -> &[Decl]
-        ensures lends_the_declarations { result.now ≡ self.now.decls }
+        ensures exact { result.now ≡ self.now.decls }
     {
         &self.decls
     }
 
     /// The attributes, in the order in which they are written.
     pub fn attrs(&self) -> &[Attr]
-        ensures lends_the_attributes { result.now ≡ self.now.attrs }
+        ensures exact { result.now ≡ self.now.attrs }
     {
         &self.attrs
     }
 
-    /// The nodes: those of its content. Each is less high than the element, so that a recursion over them ends.
+    /// The nodes of its content. Each has fewer levels than the element, so a recursion over them
+    /// ends.
     pub fn nodes(&self) -> &[Node]
-        ensures nodes_of_the_content { result.now ≡ nodes_of self.now.content }
-        ensures content_of_the_nodes { content_of result.now ≡ self.now.content }
+        ensures content_nodes { result.now ≡ nodes_of self.now.content }
+        ensures nodes_content { content_of result.now ≡ self.now.content }
         ensures is_no_higher { All (λ node. node_height node < height self.now) result.now }
         ensures nodes_are_normal { AreNormal result.now }
     {
@@ -184,7 +194,7 @@ impl Element {
 
     /// The nodes, taken out of the element, which is dropped.
     pub fn into_nodes(self) -> Vec<Node>
-        ensures nodes_of_the_content { result.items ≡ nodes_of self.content }
+        ensures content_nodes { result.items ≡ nodes_of self.content }
         ensures nodes_are_normal { AreNormal result.items }
     {
         let Element {
@@ -196,23 +206,23 @@ impl Element {
         nodes
     }
 
-    /// An element child, counted from 0: None exactly where there are not so many.
-    pub fn kid(&self, child: usize) -> Option<&Element>
-        ensures child_of_that_number { option_copied result ≡ slice_get (kids_of self.now) child }
+    /// A child element, counted from 0: None exactly when there are fewer. Does not allocate.
+    pub fn child_element(&self, child: usize) -> Option<&Element>
+        ensures exact { option_copied result ≡ slice_get (child_elements_of self.now) child }
     {
-        kid_of(&self.nodes, child)
+        child_of(&self.nodes, child)
     }
 }
 
-/// Its nodes, out of it and in it. These calls take no memory.
+/// Moving its nodes out and in. These calls do not allocate.
 impl Element {
     ghost use Rattle.xml_tree.specs.Tree.{last};
     ghost use Rattle.xml_tree.specs.Nodes.{content_of, AreNormal};
 
-    /// The nodes, taken out of the element, which then has none.
+    /// Takes the nodes out of the element, which then has none.
     #[inline(always)]
     pub fn take_nodes(&mut self) -> Vec<Node>
-        ensures content_of_the_nodes { content_of result.items ≡ self.old.content }
+        ensures nodes_content { content_of result.items ≡ self.old.content }
         ensures nodes_are_normal { AreNormal result.items }
         ensures leaves_none { self.new ≡ record self.old { content = last [] } }
     {
@@ -225,7 +235,7 @@ impl Element {
     pub fn put_nodes(&mut self, nodes: Vec<Node>)
         requires empty { self.old.content ≡ last [] }
         requires normal { AreNormal nodes.items }
-        ensures puts_them_in { self.new ≡ record self.old { content = content_of nodes.items } }
+        ensures exact { self.new ≡ record self.old { content = content_of nodes.items } }
     {
         let none = mem::replace(&mut self.nodes, nodes);
         none.destroy_empty();
@@ -238,37 +248,39 @@ impl Element {
     ghost use Rattle.xml_tree.specs.Tree.{at};
     ghost use Rattle.xml_tree.specs.EditsAt.{EditsAt};
 
-    /// Calls a closure once, with the element at a path, and answers what it answered. What the closure leaves there is the
-    /// only change. Takes no memory of its own.
+    /// Calls a closure once, with the element at a path, and returns its result. What the closure
+    /// leaves there is the only change. Does not allocate itself.
     pub fn edit_at<R, F: FnOnce(&mut Element) -> R>(&mut self, path: &Path, edit: F) -> R
-        requires there { IsSome (at path.now self.old) }
-        requires callable { (e : _) → at path.now self.old ≡ Some e → FnOnceTakesAtMut F.FnOnce edit e }
-        ensures edits_the_element_there { EditsAt F.FnOnce edit path.now self.old result self.new }
+        requires place_exists { IsSome (at path.now self.old) }
+        requires callable { (e : _) → at path.now self.old ≡ Some e
+            → FnOnceTakesAtMut F.FnOnce edit e }
+        ensures edits_element { EditsAt F.FnOnce edit path.now self.old result self.new }
     {
         self.edit_below(path.numbers(), edit)
     }
 
-    // The same, with the numbers of a path.
+    // `edit_at`, by the numbers of a path.
     pub(crate) fn edit_below<R, F: FnOnce(&mut Element) -> R>(
         &mut self,
         path: &[usize],
         edit: F,
     ) -> R
-        requires there { IsSome (at path.now self.old) }
-        requires callable { (e : _) → at path.now self.old ≡ Some e → FnOnceTakesAtMut F.FnOnce edit e }
-        ensures edits_the_element_below { EditsAt F.FnOnce edit path.now self.old result self.new }
+        requires place_exists { IsSome (at path.now self.old) }
+        requires callable { (e : _) → at path.now self.old ≡ Some e
+            → FnOnceTakesAtMut F.FnOnce edit e }
+        ensures edits_element { EditsAt F.FnOnce edit path.now self.old result self.new }
     {
         match path.split_first() {
             None => edit(self),
             Some((first, rest)) => {
-                let kid = kid_in(&mut self.nodes, *first);
-                kid.edit_below(rest, edit)
+                let child_element = child_in(&mut self.nodes, *first);
+                child_element.edit_below(rest, edit)
             }
         }
     }
 }
 
-/// What kind of node it is.
+/// Kinds of nodes.
 impl Node {
     ghost use Rattle.std.specs.Borrow.{sem};
     ghost use Rattle.xml_tree.specs.inner.Lending.{LendsElem};
@@ -278,7 +290,7 @@ impl Node {
     pub(crate) fn elem_mut(&mut self) -> &mut Element
         requires { IsSome (elem_of self.old) }
         ensures* writes_back { sem 𝓛 (LendsElem self.entry result) }
-        ensures lends_the_element { elem_of self.old ≡ Some result.now }
+        ensures lends_element { elem_of self.old ≡ Some result.now }
     {
         match self {
             Node::Elem(element) => element,
@@ -287,9 +299,9 @@ impl Node {
         }
     }
 
-    /// Whether it is a text. Takes no memory.
+    /// Whether the node is a text. Does not allocate.
     pub fn is_text(&self) -> bool
-        ensures tells_whether_it_is_text { result ≡ is_text self.now }
+        ensures exact { result ≡ is_text self.now }
     {
         match self {
             Node::Elem(_) => false,
@@ -298,9 +310,9 @@ impl Node {
         }
     }
 
-    // The text that it is.
+    // The text, if the node is one.
     pub(crate) fn text(&self) -> Option<&Text>
-        ensures lends_its_text { option_copied result ≡ text_of self.now }
+        ensures exact { option_copied result ≡ text_of self.now }
     {
         match self {
             Node::Elem(_) => None,
@@ -309,10 +321,10 @@ impl Node {
         }
     }
 
-    // The element that it is.
+    // The element; the node is one.
     pub(crate) fn into_elem(self) -> Element
         requires { IsSome (elem_of self) }
-        ensures element_that_it_was { elem_of self ≡ Some result }
+        ensures element_it_was { elem_of self ≡ Some result }
     {
         match self {
             Node::Elem(element) => element,
@@ -321,11 +333,11 @@ impl Node {
         }
     }
 
-    // Adds to a text.
+    // Appends to the text; the node is one.
     pub(crate) fn push_str(&mut self, text: &str) -> Result<(), AllocError>
         requires { is_text self.old ≡ true }
-        ensures adds_the_characters { OnOk result (self.new ≡ node_with (chars text.now) self.old) }
-        ensures failure_changes_nothing { OnErr result (self.new ≡ self.old) }
+        ensures appends_chars { OnOk result (self.new ≡ node_with (chars text.now) self.old) }
+        ensures err_unchanged { OnErr result (self.new ≡ self.old) }
     {
         match self {
             Node::Elem(_) => unreachable!(),

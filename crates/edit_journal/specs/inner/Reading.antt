@@ -1,19 +1,21 @@
--- Reading from left to right, where the bytes may break off. This is the project's own.
+-- Reading the parts of a record from left to right, where the bytes may break off. This is the
+-- project's own.
 use Rattle.std.specs.Prelude.{◌≡◌, ℕ, ◌+◌, ◌*◌, ◌-◌, ◌<◌, ◌≤◌, List, [], ◌∷◌, ◌++◌, length, slice_index_or, All, Result, Ok, Err, flat_map}
 use Rattle.std.specs.Int.{w16, w32, to_be_bytes}
 use Rattle.httparse.specs.Grammar.{IsToken}
 use Rattle.http_wire.specs.declared.request.Field.{Field}
 use Rattle.http_wire.specs.declared.request.Request.{Request}
-use Rattle.http_wire.specs.Limits.{most_body_bytes, most_field_lines}
+use Rattle.http_wire.specs.Limits.{max_body_bytes, max_field_lines}
 use Rattle.edit_journal.specs.Records.{method_number, block, field_text, record_content, record_of}
-use Rattle.edit_journal.specs.Texts.{IsTold}
-use Rattle.edit_journal.specs.declared.reading.Stop.{Stop}
-use Rattle.edit_journal.specs.declared.reading.Stop.TheVariants.{Open, Wrong, NoMemory}
+use Rattle.edit_journal.specs.Texts.{IsRecordedRequest}
+use Rattle.edit_journal.specs.declared.field_parsers.FieldError.{FieldError}
+use Rattle.edit_journal.specs.declared.field_parsers.FieldError.TheVariants.{Open, Wrong, NoMemory}
 
--- What reading a part at the front of the bytes answered, a part being which bytes stand for which values: a value, seen
--- as such, whose bytes stand at the front; or that the bytes break off in such a part; or that none has anything to do
--- with them. Want of memory says nothing.
-abbrev pub Reads : {A B : Type 0} → (B → A) → (List ℕ → A → Type 0) → List ℕ → Result B Stop → Type 0
+-- The result of reading a part at the front of the bytes, a part being a relation of bytes and
+-- values: a value, as contracts see it, whose bytes are at the front; or that the bytes break off
+-- within such a part; or that they neither begin one nor are the beginning of one. Nothing is said
+-- when out of memory.
+abbrev pub Reads : {A B : Type 0} → (B → A) → (List ℕ → A → Type 0) → List ℕ → Result B FieldError → Type 0
 Reads {A} seen P bytes (Ok value) = (front rest : List ℕ) × (bytes ≡ front ++ rest) × P front (seen value)
 Reads {A} seen P bytes (Err Open) = (more : List ℕ) × (value : A) × (0 < length more) × P (bytes ++ more) value
 Reads {A} seen P bytes (Err Wrong) = (all : List ℕ) (value : A) (more rest : List ℕ) → P all value → ¬ (bytes ++ more ≡ all ++ rest)
@@ -27,58 +29,59 @@ Number least most bytes value = (bytes ≡ to_be_bytes w32 value) × (least ≤ 
 abbrev pub Short : ℕ → ℕ → List ℕ → ℕ → Type 0
 Short least most bytes value = (bytes ≡ to_be_bytes w16 value) × (least ≤ value) × (value ≤ most)
 
--- a length between two bounds, and so many bytes
+-- a length between two bounds, and that many bytes
 abbrev pub Block : ℕ → ℕ → List ℕ → List ℕ → Type 0
 Block least most bytes value = (bytes ≡ block value) × (least ≤ length value) × (length value ≤ most)
 
--- and these are a token
+-- likewise, and the bytes are a token
 abbrev pub Name : ℕ → ℕ → List ℕ → List ℕ → Type 0
 Name least most bytes value = Block least most bytes value × IsToken value
 
--- so many bytes have room for so many fields and a body, and for no fields no more than a body
+-- `left` bytes can have `count` fields and a body, and where there are no fields they are no
+-- longer than a body
 abbrev pub HasRoom : ℕ → ℕ → Type 0
-HasRoom count left = (9 * count + 4 ≤ left) × (count ≡ 0 → left ≤ most_body_bytes + 4)
+HasRoom count left = (9 * count + 4 ≤ left) × (count ≡ 0 → left ≤ max_body_bytes + 4)
 
--- the value of a field, behind which so many fields and a body fill what is left of so many bytes
+-- the value of a field, where `left` bytes have it, `others` more fields and a body
 abbrev pub Value : ℕ → ℕ → List ℕ → List ℕ → Type 0
 Value others left bytes value = (bytes ≡ block value) × (4 + length value ≤ left) × HasRoom others (left - (4 + length value))
 
--- a field, behind which so many fields and a body fill what is left of so many bytes
+-- a field, where `left` bytes have it, `others` more fields and a body
 abbrev pub FieldPart : ℕ → ℕ → List ℕ → Field → Type 0
 FieldPart others left bytes field = (bytes ≡ field_text field) × IsToken field.name × (length bytes ≤ left) × HasRoom others (left - length bytes)
 
--- so many fields and the body, in so many bytes
+-- `count` fields and the body, which fill `left` bytes
 pub record FieldsAndBody (count left : ℕ) (bytes : List ℕ) (value : List Field × List ℕ) : Type 0 where
   pub is : bytes ≡ flat_map field_text value.0 ++ block value.1
   pub fields : length value.0 ≡ count
   pub names : All (λ (field : Field). IsToken field.name) value.0
-  pub body : length value.1 ≤ most_body_bytes
+  pub body : length value.1 ≤ max_body_bytes
   pub size : length bytes ≡ left
 
--- the number of fields, the fields and the body, in so many bytes
+-- the number of fields, the fields and the body, which fill `left` bytes
 pub record Rest (left : ℕ) (bytes : List ℕ) (value : List Field × List ℕ) : Type 0 where
   pub is : bytes ≡ to_be_bytes w16 (length value.0) ++ (flat_map field_text value.0 ++ block value.1)
-  pub few : length value.0 ≤ most_field_lines
+  pub few : length value.0 ≤ max_field_lines
   pub names : All (λ (field : Field). IsToken field.name) value.0
-  pub body : length value.1 ≤ most_body_bytes
+  pub body : length value.1 ≤ max_body_bytes
   pub size : length bytes ≡ left
 
--- a method that is recorded, in one byte
+-- a recorded method, in one byte
 abbrev pub Method : List ℕ → List ℕ → Type 0
 Method bytes value = (bytes ≡ method_number value ∷ []) × (0 < method_number value)
 
--- what a record has behind its length
+-- what a record has after its length
 abbrev pub Content : ℕ → List ℕ → Request → Type 0
-Content len bytes request = IsTold request × (bytes ≡ record_content request) × (length bytes ≡ len)
+Content len bytes request = IsRecordedRequest request × (bytes ≡ record_content request) × (length bytes ≡ len)
 
 -- a record
 abbrev pub Record : List ℕ → Request → Type 0
-Record bytes request = IsTold request × (bytes ≡ record_of request)
+Record bytes request = IsRecordedRequest request × (bytes ≡ record_of request)
 
--- the number that four bytes are, where those that lack are the given one
-abbrev pub worth : List ℕ → ℕ → ℕ
-worth bytes lacking = slice_index_or bytes 0 lacking * 16_777_216 + (slice_index_or bytes 1 lacking * 65_536 + (slice_index_or bytes 2 lacking * 256 + slice_index_or bytes 3 lacking))
+-- the number that four bytes write, where missing bytes have the given value
+abbrev pub padded_u32 : List ℕ → ℕ → ℕ
+padded_u32 bytes lacking = slice_index_or bytes 0 lacking * 16_777_216 + (slice_index_or bytes 1 lacking * 65_536 + (slice_index_or bytes 2 lacking * 256 + slice_index_or bytes 3 lacking))
 
--- and two bytes
-abbrev pub short_worth : List ℕ → ℕ → ℕ
-short_worth bytes lacking = slice_index_or bytes 0 lacking * 256 + slice_index_or bytes 1 lacking
+-- the number that two bytes write, likewise
+abbrev pub padded_u16 : List ℕ → ℕ → ℕ
+padded_u16 bytes lacking = slice_index_or bytes 0 lacking * 256 + slice_index_or bytes 1 lacking

@@ -1,6 +1,7 @@
--- What a change takes from the print of the element that it is made in, and what it brings, in bytes.
+-- What a change removes from the print of the element that it is made in, and what it adds, in
+-- bytes.
 use Rattle.std.specs.Prelude.{ℕ, ◌+◌, flat_map, option_to_list, slice_get, if◌then◌else◌, find}
-use Rattle.xml_tree.specs.Tree.{Tree, kids_of}
+use Rattle.xml_tree.specs.Tree.{Tree, child_elements_of}
 use Rattle.xml_tree.specs.Edits.{cut, own_number}
 use Rattle.xml_tree.specs.Print.{byte_len, is_empty, print, print_attr, print_name}
 use Rattle.xml_tree.specs.declared.names.Name.{Name}
@@ -12,23 +13,24 @@ use Rattle.edit_ops.specs.declared.change.Change.TheVariants.{CreateDocument, In
 abbrev pub end_tag_len : Name → ℕ
 end_tag_len n = byte_len (print_name n) + 2
 
--- the child or the attribute that goes, where it is there; with the last node the end tag goes, too
+-- the child or the attribute that is removed, where it is there; with the last node the end tag
+-- is removed, too
 abbrev pub lost : Change → Tree → ℕ
 lost (CreateDocument root) e = 0
 lost (Insert parent gap element) e = 0
 lost (Replace p element) e = byte_len (print e)
 lost (Remove p) e =
-    byte_len (flat_map print (option_to_list (slice_get (kids_of e) (own_number p)))) + (if is_empty (cut (own_number p) e.content) then end_tag_len e.name else 0)
+    byte_len (flat_map print (option_to_list (slice_get (child_elements_of e) (own_number p)))) + (if is_empty (cut (own_number p) e.content) then end_tag_len e.name else 0)
 lost (SetAttr p name value) e = byte_len (flat_map print_attr (option_to_list (find (is_written_so name) e.attrs)))
 lost (DropAttr p name) e = byte_len (flat_map print_attr (option_to_list (find (is_written_so name) e.attrs)))
 lost RemoveDocument e = 0
 
--- the child, the other element or the attribute that comes; with the first node comes an end tag
-abbrev pub brought : Change → Tree → ℕ
-brought (CreateDocument root) e = 0
-brought (Insert parent gap element) e = byte_len (print element) + (if is_empty e.content then end_tag_len e.name else 0)
-brought (Replace p element) e = byte_len (print element)
-brought (Remove p) e = 0
-brought (SetAttr p name value) e = byte_len (print_attr (record { name = name; value = value }))
-brought (DropAttr p name) e = 0
-brought RemoveDocument e = 0
+-- the new child, the replacement or the new attribute; with the first node an end tag is added
+abbrev pub inserted_part : Change → Tree → ℕ
+inserted_part (CreateDocument root) e = 0
+inserted_part (Insert parent gap element) e = byte_len (print element) + (if is_empty e.content then end_tag_len e.name else 0)
+inserted_part (Replace p element) e = byte_len (print element)
+inserted_part (Remove p) e = 0
+inserted_part (SetAttr p name value) e = byte_len (print_attr (record { name = name; value = value }))
+inserted_part (DropAttr p name) e = 0
+inserted_part RemoveDocument e = 0

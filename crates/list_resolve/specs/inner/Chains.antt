@@ -1,8 +1,8 @@
 -- Chains of places that are linked outwards.
 use Rattle.std.specs.Prelude.{List, [], ◌∷◌}
-use Rattle.list_resolve.specs.declared.place.Place.{Place}
-use Rattle.list_resolve.specs.declared.chain.Link.{Link}
-use Rattle.list_resolve.specs.declared.chain.Link.TheVariants.{End, Behind}
+use Rattle.list_resolve.specs.declared.document_place.Place.{Place}
+use Rattle.list_resolve.specs.declared.visit_chain.Link.{Link}
+use Rattle.list_resolve.specs.declared.visit_chain.Link.TheVariants.{End, Behind}
 
 -- the places on a chain, innermost first
 abbrev pub places_at : Link → List Place

@@ -1,12 +1,12 @@
--- What the code has gathered of a walk so far.
+-- What the code has collected of a walk so far.
 use Rattle.std.specs.Prelude.{ℕ, ◌<◌, ◌+◌, List, [], ◌∷◌, ◌++◌, fold, if◌then◌else◌}
 use Rattle.std.specs.Coded.{Coded, code_by, coded×, coded_ℕ, coded_list}
-use Rattle.list_resolve.specs.declared.gatherer.TheConstants.{MARK_LIMIT}
+use Rattle.list_resolve.specs.declared.uri_collector.TheConstants.{MARK_LIMIT}
 use Rattle.list_resolve.specs.declared.fault.FlatFault.{FlatFault}
 use Rattle.list_resolve.specs.declared.fault.FlatFault.TheVariants.{NoService, TooWide, TooLarge}
 use Rattle.xml_tree.specs.declared.read_error.ReadError.{ReadError}
 use Rattle.xml_tree.specs.declared.read_error.ReadError.TheVariants.{Fault, NoMemory}
-use Rattle.list_resolve.specs.declared.place.Place.{Place}
+use Rattle.list_resolve.specs.declared.document_place.Place.{Place}
 use Rattle.list_resolve.specs.Places.{is_on}
 use Rattle.list_resolve.specs.Walks.{Item, address, mark}
 use Rattle.list_resolve.specs.Flat.{with_address}
@@ -18,7 +18,7 @@ pub record Tally : Type 0 where
   pub uris : List (List ℕ)
   pub marks : ℕ
 
--- these, and the places whose elements need not be walked again
+-- a tally, and the recorded places of elements that need not be walked again
 pub record Gathered : Type 0 where
   pub tally : Tally
   pub passed : List Place
@@ -35,27 +35,28 @@ no_items = record { uris = []; marks = 0 }
 abbrev pub nothing : Gathered
 nothing = record { tally = no_items; passed = [] }
 
--- with an item more
+-- with one more item
 abbrev pub with_item : Tally → Item → Tally
 with_item s (address uri) = record { uris = with_address s.uris uri; marks = s.marks }
 with_item s mark = record { uris = s.uris; marks = s.marks + 1 }
 
--- with these items more
+-- with these items added
 abbrev pub with_items : Tally → List Item → Tally
 with_items s items = fold with_item s items
 
 abbrev pub gathering : Gathered → Item → Gathered
 gathering s item = record { tally = with_item s.tally item; passed = s.passed }
 
--- with a place more, unless it is there already
+-- with one more place, unless it is there already
 abbrev pub passing : Gathered → Place → Gathered
 passing s place = record { tally = s.tally; passed = if is_on s.passed place then s.passed else (s.passed ++ place ∷ []) }
 
--- why there is no flat list, or want of memory
+-- why there is no flat list, or out of memory
 abbrev pub FlatError : Type 0
 FlatError = ReadError FlatFault
 
--- a call fails where these items are gathered: there are too many references among them, or there is no memory
+-- a call fails while collecting these items: there are too many references among them, or it is
+-- out of memory
 abbrev pub Fails : List Item → Tally → FlatError → Type 0
 Fails items old (Fault NoService) = ⊥
 Fails items old (Fault TooWide) = MARK_LIMIT < (with_items old items).marks

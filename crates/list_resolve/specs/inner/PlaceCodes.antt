@@ -1,9 +1,9 @@
--- How a ghost variable stores a place, and what a hasher is fed of it.
+-- How a ghost variable stores a place, and what a hasher is fed for it.
 use Rattle.std.specs.Prelude.{ℕ, List, ◌++◌, encode_utf8_all}
 use Rattle.std.specs.Coded.{Coded, code_by, coded×, coded_ℕ, coded_list}
 use Rattle.std.specs.Hash as fed
 use Rattle.std.specs.Hash.{HashWrites}
-use Rattle.list_resolve.specs.declared.place.Place.{Place}
+use Rattle.list_resolve.specs.declared.document_place.Place.{Place}
 use mathlib.Core.Path.{refl}
 
 abbrev pub place_code : Coded Place

@@ -7,6 +7,6 @@ use Rattle.node_select.specs.readers.Raw.{RawStep}
 abbrev pub value_with : List ℕ → List (ℕ × List ℕ) → List ℕ
 value_with front pieces = front ++ more_plain pieces
 
--- steps so far, and those that follow
+-- steps so far, and the steps that follow
 abbrev pub steps_with : List RawStep → List RawStep → List RawStep
 steps_with front steps = front ++ steps

@@ -1,4 +1,5 @@
--- Selectors as the code reads them: with the prefixes of their names, and with the widths that tell where each name stands.
+-- Selectors as the code reads them: with the prefixes of their names, and with the widths that
+-- give the place of each name.
 use Rattle.std.specs.Prelude.{ℕ, suc, ◌+◌, ◌≤◌, ◌<◌, ◌^◌, List, [], ◌∷◌, Option, None, Some, option_map, if◌then◌else◌}
 use Rattle.xml_tree.specs.declared.names.Name.{Name}
 use Rattle.xml_tree.specs.declared.names.Decl.{Decl}
@@ -14,8 +15,8 @@ use Rattle.node_select.specs.declared.selector.PatchEnd.TheVariants as patch_end
 use Rattle.node_select.specs.declared.selector.PatchSelector.{PatchSelector}
 use Rattle.node_select.specs.Names.{is_unbound, name_uri, attr_uri}
 
--- a step: its name, none for `*`; its position; how many characters these have; its test, an attribute's name and its value; and how many
--- characters the whole step has
+-- a step: its name, none for `*`; its position; how many characters these have; its test, an
+-- attribute's name and its value; and how many characters the whole step has
 pub record RawStep : Type 0 where
   pub name : Option Name
   pub position : Option ℕ
@@ -23,7 +24,7 @@ pub record RawStep : Type 0 where
   pub test : Option (Name × List ℕ)
   pub size : ℕ
 
--- what a selector ends in, behind its steps and a `/`
+-- what a selector ends in, after its steps and a `/`
 pub data RawEnd : Type 0 where
   AtElement : RawEnd
   AtAttribute : Name → RawEnd
@@ -34,22 +35,22 @@ pub data RawPatchEnd : Type 0 where
   PatchAttribute : Name → RawPatchEnd
   PatchChars : Option ℕ → RawPatchEnd
 
--- how many characters steps have, each with the `/` before it or behind it
-abbrev pub widths : List RawStep → ℕ
-widths [] = 0
-widths (step ∷ steps) = step.size + 1 + widths steps
+-- how many characters steps have, each with one `/`
+abbrev pub steps_size : List RawStep → ℕ
+steps_size [] = 0
+steps_size (step ∷ steps) = step.size + 1 + steps_size steps
 
--- each step is as wide as its front, at least
+-- each step is at least as wide as its front
 abbrev pub AreWhole : List RawStep → Type 0
 AreWhole [] = Unit {0}
 AreWhole (step ∷ steps) = (step.front ≤ step.size) × AreWhole steps
 
--- there is room for the places of all names of steps that stand so many characters behind the beginning
+-- the places of all names of steps fit in 64 bits, where the first step begins at `at`
 pub record HasRoom (at : ℕ) (steps : List RawStep) : Type 0 where
-  pub within : at + widths steps < 2 ^ 63 + 2
+  pub within : at + steps_size steps < 2 ^ 63 + 2
   pub whole : AreWhole steps
 
--- ---- names, and where they stand
+-- ---- names, and their places
 
 -- the place of a name, if its prefix isn't bound
 abbrev pub unbound_at : List Decl → ℕ → Name → Option ℕ
@@ -60,7 +61,8 @@ abbrev pub first_of : Option ℕ → Option ℕ → Option ℕ
 first_of None later = later
 first_of (Some n) later = Some n
 
--- of the name and the test of a step that stands so many characters behind the beginning; the test's name stands behind `[@`
+-- the first unbound name of a step that begins at `at`, of its name and its test; the test's name
+-- comes after `[@`
 abbrev pub unbound_name : List Decl → ℕ → Option Name → Option ℕ
 unbound_name bindings n None = None
 unbound_name bindings n (Some name) = unbound_at bindings n name
@@ -72,16 +74,17 @@ unbound_test bindings n (Some test) = unbound_at bindings n test.0
 abbrev pub unbound_in : List Decl → ℕ → RawStep → Option ℕ
 unbound_in bindings n step = first_of (unbound_name bindings n step.name) (unbound_test bindings (n + step.front + 2) step.test)
 
--- of steps, each behind the one before and a `/`; and then of the end, which stands where they are over
+-- the first unbound name of steps, each after the one before and a `/`; then of the end, after
+-- the steps
 abbrev pub unbound_from : List Decl → ℕ → List RawStep → (ℕ → Option ℕ) → Option ℕ
 unbound_from bindings n [] end = end n
 unbound_from bindings n (step ∷ steps) end = first_of (unbound_in bindings n step) (unbound_from bindings (n + step.size + 1) steps end)
 
--- nothing stands behind the steps
+-- nothing follows the steps
 abbrev pub no_end : ℕ → Option ℕ
 no_end n = None
 
--- of an end; its name stands behind `@`
+-- the unbound name of an end, which comes after `@`
 abbrev pub unbound_end : List Decl → RawEnd → ℕ → Option ℕ
 unbound_end bindings AtElement n = None
 unbound_end bindings (AtAttribute name) n = unbound_at bindings (suc n) name
@@ -127,7 +130,7 @@ patch_end_of bindings (PatchChars position) = patch_ends.Chars position
 abbrev pub RawSelector : Type 0
 RawSelector = List RawStep × RawEnd
 
--- a selector of a patch may begin with `/`; how many characters that has
+-- a selector of a patch may begin with `/`; the width of that
 abbrev pub RawPatchSelector : Type 0
 RawPatchSelector = ℕ × (List RawStep × RawPatchEnd)
 
@@ -137,16 +140,16 @@ selector_of bindings default raw = record { steps = steps_of bindings default ra
 abbrev pub patch_selector_of : List Decl → List ℕ → RawPatchSelector → PatchSelector
 patch_selector_of bindings default raw = record { steps = steps_of bindings default raw.1.0; end = patch_end_of bindings raw.1.1 }
 
--- the first name whose prefix isn't bound: how many characters stand before it
+-- how many characters come before the first name whose prefix isn't bound
 abbrev pub first_unbound : List Decl → RawSelector → Option ℕ
 first_unbound bindings raw = unbound_from bindings 0 raw.0 (unbound_end bindings raw.1)
 
 abbrev pub first_unbound_in_patch : List Decl → RawPatchSelector → Option ℕ
 first_unbound_in_patch bindings raw = unbound_from bindings raw.0 raw.1.0 (unbound_patch_end bindings raw.1.1)
 
--- ---- what the parts that are read make
+-- ---- the values made of the parts that are read
 
--- a step, with the widths of its name and position, and of all of it
+-- a step, with the width of its name and position, and of the whole step
 abbrev pub raw_step_of : (((Option Name × Option ℕ) × ℕ) × Option (Name × List ℕ)) × ℕ → RawStep
 raw_step_of x = record { name = x.0.0.0.0; position = x.0.0.0.1; front = x.0.0.1; test = x.0.1; size = x.1 }
 

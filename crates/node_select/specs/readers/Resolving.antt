@@ -1,7 +1,8 @@
--- What the code answers where it resolves names: what they mean, or the place of the first one whose prefix isn't bound.
+-- The result of resolving names: what they mean, or the place of the first one whose prefix isn't
+-- bound.
 use Rattle.std.specs.Prelude.{◌≡◌, ℕ, Option, None, Some, Result, Ok, Err}
-use Rattle.node_select.specs.declared.meaning.Unresolved.{Unresolved}
-use Rattle.node_select.specs.declared.meaning.Unresolved.TheVariants.{Prefix, Memory}
+use Rattle.node_select.specs.declared.name_resolution.Unresolved.{Unresolved}
+use Rattle.node_select.specs.declared.name_resolution.Unresolved.TheVariants.{Prefix, Memory}
 
 abbrev pub Fails : Option ℕ → Unresolved → Type 0
 Fails unbound (Prefix n) = unbound ≡ Some n

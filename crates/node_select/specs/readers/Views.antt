@@ -1,17 +1,17 @@
--- What the parts that the code reads stand for in clauses.
+-- The values that the types of the code represent in clauses.
 use Rattle.std.specs.Prelude.{ℕ, Bool, List, option_map, map}
 use Rattle.xml_tree.specs.declared.names.Name.{Name}
 use Rattle.tree_text.specs.readers.Views.{name_in}
-use Rattle.node_select.specs.declared.raw.Form.{Form}
-use Rattle.node_select.specs.declared.raw.Form.TheVariants.{Node, Patch}
-use Rattle.node_select.specs.declared.raw.RawTest.{RawTest as CodeTest}
-use Rattle.node_select.specs.declared.raw.RawStep.{RawStep as CodeStep}
-use Rattle.node_select.specs.declared.raw.RawEnd.{RawEnd as CodeEnd}
-use Rattle.node_select.specs.declared.raw.RawEnd.TheVariants as ends
-use Rattle.node_select.specs.declared.raw.RawPatchEnd.{RawPatchEnd as CodePatchEnd}
-use Rattle.node_select.specs.declared.raw.RawPatchEnd.TheVariants as patch_ends
-use Rattle.node_select.specs.declared.raw.RawSelector.{RawSelector as CodeSelector}
-use Rattle.node_select.specs.declared.raw.RawPatchSelector.{RawPatchSelector as CodePatchSelector}
+use Rattle.node_select.specs.declared.raw_selectors.Form.{Form}
+use Rattle.node_select.specs.declared.raw_selectors.Form.TheVariants.{Node, Patch}
+use Rattle.node_select.specs.declared.raw_selectors.RawTest.{RawTest as CodeTest}
+use Rattle.node_select.specs.declared.raw_selectors.RawStep.{RawStep as CodeStep}
+use Rattle.node_select.specs.declared.raw_selectors.RawEnd.{RawEnd as CodeEnd}
+use Rattle.node_select.specs.declared.raw_selectors.RawEnd.TheVariants as ends
+use Rattle.node_select.specs.declared.raw_selectors.RawPatchEnd.{RawPatchEnd as CodePatchEnd}
+use Rattle.node_select.specs.declared.raw_selectors.RawPatchEnd.TheVariants as patch_ends
+use Rattle.node_select.specs.declared.raw_selectors.RawSelector.{RawSelector as CodeSelector}
+use Rattle.node_select.specs.declared.raw_selectors.RawPatchSelector.{RawPatchSelector as CodePatchSelector}
 use Rattle.node_select.specs.readers.Raw.{RawStep, RawEnd, AtElement, AtAttribute, AtNamespaces, RawPatchEnd, PatchElement, PatchAttribute, PatchChars, RawSelector, RawPatchSelector}
 use Rattle.node_select.specs.readers.Selectors.{step_follows, patch_step_follows}
 

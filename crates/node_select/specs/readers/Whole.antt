@@ -1,8 +1,8 @@
--- What reading a whole text answers, from left to right.
+-- The result of reading a whole text, from left to right.
 use Rattle.std.specs.Prelude.{ℕ, List, Option, None, Some, Result, Ok, Err, chars}
-use Rattle.grammar_rules.specs.Reading.{Stop}
-use Rattle.grammar_rules.specs.readers.Functions.{read_whole}
-use Rattle.tree_text.specs.declared.kind.Kind.{Kind}
+use Rattle.xml_grammar.specs.Reading.{Stop}
+use Rattle.xml_grammar.specs.readers.Functions.{read_whole}
+use Rattle.tree_text.specs.declared.fault_kind.FaultKind.{FaultKind}
 use Rattle.xml_tree.specs.declared.names.Decl.{Decl}
 use Rattle.node_select.specs.declared.fault.SelectorFault.{SelectorFault}
 use Rattle.node_select.specs.declared.fault.SelectorFault.TheVariants.{BadSelector, UnboundPrefix}
@@ -14,26 +14,26 @@ use Rattle.node_select.specs.Faults.{byte_of, stop_place}
 use Rattle.node_select.specs.readers.Raw.{RawSelector, RawPatchEnd, RawPatchSelector, PatchElement, PatchAttribute, PatchChars, selector_of, patch_selector_of, first_unbound, first_unbound_in_patch}
 use Rattle.node_select.specs.readers.Selectors.{read_selector, read_patch_selector}
 
--- the first unbound prefix, or the selector that the names mean
+-- the first unbound prefix, or the selector by the meaning of its names
 abbrev pub meant : {A : Type 0} → List ℕ → Option ℕ → A → Result A SelectorFault
 meant text None value = Ok value
 meant text (Some n) value = Err (UnboundPrefix (byte_of text n))
 
--- what the form of a text says, where reading answers this: it is no selector, or names decide
-abbrev pub selector_told_so : List Decl → List ℕ → List ℕ → Result RawSelector (Stop Kind) → Result Selector SelectorFault
-selector_told_so bindings default text (Ok raw) = meant text (first_unbound bindings raw) (selector_of bindings default raw)
-selector_told_so bindings default text (Err stop) = Err (BadSelector (stop_place text stop))
+-- the result for a text by its form: it isn't a selector, or its names decide
+abbrev pub selector_result_of : List Decl → List ℕ → List ℕ → Result RawSelector (Stop FaultKind) → Result Selector SelectorFault
+selector_result_of bindings default text (Ok raw) = meant text (first_unbound bindings raw) (selector_of bindings default raw)
+selector_result_of bindings default text (Err stop) = Err (BadSelector (stop_place text stop))
 
-abbrev pub patch_told : List Decl → List ℕ → List ℕ → Result RawPatchSelector (Stop Kind) → Result PatchSelector SelectorFault
-patch_told bindings default text (Ok raw) = meant text (first_unbound_in_patch bindings raw) (patch_selector_of bindings default raw)
-patch_told bindings default text (Err stop) = Err (BadSelector (stop_place text stop))
+abbrev pub patch_result : List Decl → List ℕ → List ℕ → Result RawPatchSelector (Stop FaultKind) → Result PatchSelector SelectorFault
+patch_result bindings default text (Ok raw) = meant text (first_unbound_in_patch bindings raw) (patch_selector_of bindings default raw)
+patch_result bindings default text (Err stop) = Err (BadSelector (stop_place text stop))
 
 -- a selector, with these bindings and this namespace of unprefixed elements
 abbrev pub selector_read : List Decl → List ℕ → List ℕ → Result Selector SelectorFault
-selector_read bindings default text = selector_told_so bindings default text (read_whole read_selector (chars text))
+selector_read bindings default text = selector_result_of bindings default text (read_whole read_selector (chars text))
 
 abbrev pub patch_selector_read : List Decl → List ℕ → List ℕ → Result PatchSelector SelectorFault
-patch_selector_read bindings default text = patch_told bindings default text (read_whole read_patch_selector (chars text))
+patch_selector_read bindings default text = patch_result bindings default text (read_whole read_patch_selector (chars text))
 
 -- what the selector of a patch ends in, if the text is one
 abbrev pub raw_form_of : RawPatchEnd → PatchForm
@@ -41,9 +41,9 @@ raw_form_of PatchElement = forms.Element
 raw_form_of (PatchAttribute name) = forms.Attribute
 raw_form_of (PatchChars position) = forms.Chars
 
-abbrev pub raw_form_told : Result RawPatchSelector (Stop Kind) → Option PatchForm
-raw_form_told (Ok raw) = Some (raw_form_of raw.1.1)
-raw_form_told (Err stop) = None
+abbrev pub raw_form_if_parsed : Result RawPatchSelector (Stop FaultKind) → Option PatchForm
+raw_form_if_parsed (Ok raw) = Some (raw_form_of raw.1.1)
+raw_form_if_parsed (Err stop) = None
 
 abbrev pub patch_form_read : List ℕ → Option PatchForm
-patch_form_read text = raw_form_told (read_whole read_patch_selector (chars text))
+patch_form_read text = raw_form_if_parsed (read_whole read_patch_selector (chars text))

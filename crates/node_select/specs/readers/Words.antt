@@ -1,4 +1,4 @@
--- The fixed words of selectors by names.
+-- Names for the fixed words of selectors.
 use Rattle.std.specs.Prelude.{ℕ, List, codes}
 
 abbrev pub slash : List ℕ

@@ -1,4 +1,4 @@
--- The same of nodes that is said of a content.
+-- The functions on a content, stated on its nodes.
 use Rattle.std.specs.Prelude.{ℕ, max, Bool, true, false, ◌&&◌, List, [], ◌∷◌, ◌++◌, Option, None, Some, option_map}
 use Rattle.std.specs.List.{list_all}
 use Rattle.xml_tree.specs.Expanded.{attr_name, element_name, same_expanded}
@@ -7,9 +7,9 @@ use Rattle.xml_tree.specs.Tree.{Tree}
 use Rattle.xml_tree.specs.declared.names.Decl.{Decl}
 use Rattle.xml_tree.specs.declared.tree.Node.{Node}
 use Rattle.xml_tree.specs.declared.tree.Node.TheVariants.{Elem, Chars, Comment}
-use Rattle.patch_words.specs.Applied.{is_white, means_alike}
+use Rattle.patch_rules.specs.PatchOperations.{is_white, means_alike}
 
--- the texts joined, where no element is among the nodes; comments are passed over
+-- the texts joined, where no element is among the nodes; comments are ignored
 abbrev pub text_in : List Node → Option (List ℕ)
 text_in [] = Some []
 text_in (Elem e ∷ ns) = None
@@ -46,7 +46,7 @@ node_alike c d (Elem e) = element_alike c d e
 node_alike c d (Chars t) = true
 node_alike c d (Comment x) = true
 
--- how many elements of nodes are one in another
+-- the height of nodes: how many elements are one in another
 abbrev pub nodes_height : List Node → ℕ
 nodes_height [] = 0
 nodes_height (n ∷ ns) = max (node_height n) (nodes_height ns)

@@ -1,10 +1,12 @@
--- A port whose connections are known before, and on which what is sent goes nowhere. This is the project's own.
+-- A port whose connections are known before, and on which replies are discarded. The project's
+-- own.
 use Rattle.std.specs.Prelude.{ℕ, List, [], None, Some}
-use Rattle.xcap_io.specs.Causes.{LineState, no_peer}
-use Rattle.xcap_io.specs.Histories.{History}
+use Rattle.xcap_io.specs.Causes.{StreamState, no_peer}
+use Rattle.xcap_io.specs.Histories.{ConnectionHistory}
 
--- These connections are to come, and of the present one these bytes are left. It never fails, and tells no address.
-abbrev pub port_line : List (List ℕ) → List ℕ → History → LineState
+-- These connections are to come, and of the current one these bytes are left. It never fails, and
+-- has no address.
+abbrev pub port_line : List (List ℕ) → List ℕ → ConnectionHistory → StreamState
 port_line to_come left history = record {
   inward = record { left = Some left; given = history.now.given; ended = history.now.ended };
   taken = history.now.taken;

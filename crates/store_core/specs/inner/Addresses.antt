@@ -1,5 +1,6 @@
--- The service addresses that an edit takes out of a document and those that it brings, read from the change and, where an address goes, from the
--- tree before it. Each service is a child of the root, so a change further down leaves all of them. RFC 4826, sections 4.2 and 4.4.5.
+-- The service addresses that an edit removes from a document and those that it adds, computed from
+-- the change and, for removed ones, from the tree before it. Each service is a child of the root,
+-- so a change further down removes and adds none. RFC 4826, sections 4.2 and 4.4.5.
 use Rattle.std.specs.Prelude.{◌≡◌, ℕ, Bool, ◌&&◌, List, [], ◌∷◌, ◌++◌, length, option_to_list, slice_get, if◌then◌else◌}
 use Rattle.std.specs.Option.{option_map_or}
 use Rattle.std.specs.Str.{bytes_eq}
@@ -9,49 +10,51 @@ use Rattle.edit_ops.specs.declared.change.Change.{Change}
 use Rattle.edit_ops.specs.declared.change.Change.TheVariants.{CreateDocument, Insert, Replace, Remove, SetAttr, DropAttr, RemoveDocument}
 use Rattle.usage_docs.specs.Keys.{value_of, word}
 use Rattle.usage_docs.specs.Services.{service_uris}
-use Rattle.usage_docs.specs.declared.rows.Key.TheVariants.{Uri}
-use Rattle.xml_tree.specs.Tree.{Tree, kids_of}
+use Rattle.usage_docs.specs.declared.schema_table.Key.TheVariants.{Uri}
+use Rattle.xml_tree.specs.Tree.{Tree, child_elements_of}
 use Rattle.xml_tree.specs.declared.names.Name.{Name}
 
--- ---- at places
+-- ---- at paths
 
 -- the address of a service
 abbrev pub address : Tree → List (List ℕ)
 address e = option_to_list (value_of Uri e.attrs)
 
--- of the service that this way leads to from the root; a way of no step or of several leads to none
+-- of the service at the end of this path from the root; a path of no step or of several leads to
+-- none
 abbrev pub address_at : Tree → List ℕ → List (List ℕ)
 address_at t [] = []
-address_at t (i ∷ []) = option_map_or address (slice_get (kids_of t) i) []
+address_at t (i ∷ []) = option_map_or address (slice_get (child_elements_of t) i) []
 address_at t (i ∷ j ∷ p) = []
 
--- of all services that go where the element there is exchanged
+-- of all services that the replacement of the element at this path removes
 abbrev pub addresses_at : Tree → List ℕ → List (List ℕ)
 addresses_at t [] = service_uris t
 addresses_at t (i ∷ p) = address_at t (i ∷ p)
 
--- of all services that come where this element is put there
+-- of all services that this element, put at this path, adds
 abbrev pub put_at : List ℕ → Tree → List (List ℕ)
 put_at [] e = service_uris e
 put_at (i ∷ []) e = address e
 put_at (i ∷ j ∷ p) e = []
 
--- of the service that comes where this element is put into the one there
-abbrev pub put_below : List ℕ → Tree → List (List ℕ)
-put_below [] e = address e
-put_below (i ∷ p) e = []
+-- of the service that this element, inserted under the one at this path, adds
+abbrev pub added_address : List ℕ → Tree → List (List ℕ)
+added_address [] e = address e
+added_address (i ∷ p) e = []
 
--- a value that is written there
+-- the value, if it is written at a service
 abbrev pub written_at : List ℕ → List ℕ → List (List ℕ)
 written_at [] value = []
 written_at (i ∷ []) value = value ∷ []
 written_at (i ∷ j ∷ p) value = []
 
--- the name of the attribute that holds a service's address
+-- the name of the attribute with a service's address
 abbrev pub is_uri : Name → Bool
 is_uri n = bytes_eq n.prefix [] && bytes_eq n.local (word Uri)
 
--- ---- of an edit of a document of services. An address can't be dropped, since a service without one isn't valid.
+-- ---- of an edit of a document of services. An address can't be removed, since a service without
+-- one isn't valid.
 
 abbrev pub services_leave : Tree → Change → List (List ℕ)
 services_leave t (CreateDocument root) = []
@@ -64,7 +67,7 @@ services_leave t RemoveDocument = []
 
 abbrev pub services_enter : Change → List (List ℕ)
 services_enter (CreateDocument root) = []
-services_enter (Insert parent gap element) = put_below parent element
+services_enter (Insert parent gap element) = added_address parent element
 services_enter (Replace p element) = put_at p element
 services_enter (Remove p) = []
 services_enter (SetAttr p name value) = if is_uri name then written_at p value else []
@@ -83,12 +86,12 @@ enter_in ResourceLists change = []
 enter_in RlsServices change = services_enter change
 enter_in XcapCaps change = []
 
--- the number that stands first on a path; 0 on the empty one
+-- the first number of a path; 0 of the empty one
 abbrev pub first : List ℕ → ℕ
 first [] = 0
 first (i ∷ p) = i
 
--- the number of the first service among those that come, where there is one
+-- the number of the first service that is added, where there is one
 abbrev pub first_number : Change → ℕ
 first_number (CreateDocument root) = 0
 first_number (Insert parent gap element) = gap
@@ -100,13 +103,14 @@ first_number RemoveDocument = 0
 
 -- ---- before and after
 
--- behind so many other addresses these come, the first at this place: one, or all that there are
+-- these addresses are added after n others, the first at this place: a single one, or all that
+-- there are
 abbrev pub ComeAt : ℕ → ℕ → List (List ℕ) → Type 0
 ComeAt place others [] = Unit {0}
 ComeAt place others (uri ∷ []) = others ≡ place
 ComeAt place others (uri ∷ more ∷ uris) = (others ≡ 0) × (place ≡ 0)
 
--- some addresses of a document were exchanged for those that come at this place
+-- some addresses of a document were replaced by those added at this place
 pub record AreExchanged (place : ℕ) (old leaves enters new : List (List ℕ)) : Type 0 where
   pub before : List (List ℕ)
   pub behind : List (List ℕ)

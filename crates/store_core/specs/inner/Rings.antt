@@ -1,20 +1,21 @@
--- The notes of a document as they are kept in a ring, and what they count against the limit of their weights.
+-- The change records of a document in a ring, and their counted weights.
 use Rattle.std.specs.Prelude.{◌≡◌, ℕ, ◌+◌, Option, None, Some, min, sum_by}
 use Rattle.circular_buffer.specs.Buffer.{Buffer}
-use Rattle.notes.specs.Notes.{Note}
-use Rattle.notes.specs.Operations.{weight}
-use Rattle.store_core.specs.Limits.{most_notes, most_weight}
+use Rattle.edit_ops.specs.Notes.{Note}
+use Rattle.edit_ops.specs.Operations.{weight}
+use Rattle.store_core.specs.Limits.{max_notes, max_weight}
 
--- a note counts its weight, but no more than one byte above what all may weigh together: so sums stay small, and are beyond the limit
--- exactly where those of the weights are
-abbrev pub counted : Note → ℕ
-counted n = min (weight n) (most_weight + 1)
+-- the counted weight of a record: its weight, capped at one byte more than the limit of all
+-- together, so that sums stay small; they exceed the limit exactly where the sum of weights does
+abbrev pub counted_weight : Note → ℕ
+counted_weight n = min (weight n) (max_weight + 1)
 
 abbrev pub counted_in : Option Note → ℕ
 counted_in None = 0
-counted_in (Some n) = counted n
+counted_in (Some n) = counted_weight n
 
--- it has room for the notes that may be retained, and together they count so much
+-- the ring has capacity for the records that may be retained, and the sum of their counted weights
+-- is `count`
 pub record IsRing (ring : Buffer Note) (count : ℕ) : Type 0 where
-  pub room : ring.capacity ≡ most_notes
-  pub sum : count ≡ sum_by counted ring.items
+  pub room : ring.capacity ≡ max_notes
+  pub sum : count ≡ sum_by counted_weight ring.items

@@ -1,5 +1,6 @@
--- What a store keeps in memory, and what that stands for: the documents in order of creation, and which document holds each service
--- address. RFC 4826, section 4.4.5 (service addresses are unique over all documents).
+-- What a store has in memory, and the contents that it represents: the documents in order of
+-- creation, and which document has each service address. RFC 4826, section 4.4.5 (service
+-- addresses are unique over all documents).
 use Rattle.std.specs.Prelude.{◌≡◌, ℕ, ◌+◌, ◌≤◌, ◌==◌, Bool, true, false, not, List, [], ◌∷◌, ◌++◌, map, sum_by, Option, None, Some, if◌then◌else◌}
 use Rattle.std.specs.List.{AllByRecursion}
 use Rattle.std.specs.Map.{lookup}
@@ -8,21 +9,21 @@ use Rattle.std.specs.Str.{bytes_eq}
 use Rattle.edit_ops.specs.Changes.{edited}
 use Rattle.usage_docs.specs.Services.{document_len}
 use Rattle.doc_names.specs.declared.doc_id.DocId.{DocId}
-use Rattle.notes.specs.Notes.{Note}
+use Rattle.edit_ops.specs.Notes.{Note}
 use Rattle.store_core.specs.declared.entry.Entry.{Entry}
 use Rattle.store_core.specs.State.{State, retained}
-use Rattle.store_core.specs.Held.{Held, Stands, Stock}
-use Rattle.store_core.specs.Keeping.{AreApart, Kept, addresses_in}
+use Rattle.store_core.specs.Contents.{StoredDocument, Represents, StoreContents}
+use Rattle.store_core.specs.ValidStates.{AreDistinct, IsValidState, addresses_in}
 
 -- ---- its documents
 
 -- a document by its entry
-abbrev pub held_in : DocId × Entry → Held
-held_in e = record { id = e.0; tag = e.1.tag; tree = e.1.tree.root; notes = e.1.notes }
+abbrev pub stored_in : DocId × Entry → StoredDocument
+stored_in e = record { id = e.0; tag = e.1.tag; tree = e.1.tree.root; notes = e.1.notes }
 
--- all documents, and the number behind the last one given
-abbrev pub content_in : List (DocId × Entry) → ℕ → Stock
-content_in es last = record { documents = map held_in es; next = last + 1 }
+-- all documents, and the number after the last one given
+abbrev pub content_in : List (DocId × Entry) → ℕ → StoreContents
+content_in es last = record { documents = map stored_in es; next = last + 1 }
 
 abbrev pub name_in : DocId × Entry → DocId
 name_in e = e.0
@@ -33,11 +34,12 @@ uris_in e = addresses_in e.0.auid e.1.tree.root
 abbrev pub len_in : DocId × Entry → ℕ
 len_in e = document_len e.1.tree.root
 
--- the number that its creation took
+-- the number of its creation
 abbrev pub number_in : DocId × Entry → ℕ
 number_in e = e.1.created
 
--- the entry of a document after the edit of a note, which is kept, and which left so many bytes
+-- the entry of a document after the edit of a change record, which is retained, and after which it
+-- has `bytes` bytes
 pub record IsRenewed (old : Entry) (number : ℕ) (note : Note) (bytes : ℕ) (new : Entry) : Type 0 where
   pub created : new.created ≡ old.created
   pub tag : new.tag ≡ number
@@ -45,20 +47,20 @@ pub record IsRenewed (old : Entry) (number : ℕ) (note : Note) (bytes : ℕ) (n
   pub len : new.len ≡ bytes
   pub notes : new.notes ≡ retained (old.notes ++ note ∷ [])
 
--- ---- whose the trees are
+-- ---- which trees are shared
 
--- of each document, whether nobody shares its tree
+-- of each document, whether its tree is unshared
 abbrev pub trees_in : List (DocId × Entry) → List (DocId × Bool)
 trees_in es = map (λ e. (e.0, e.1.tree.own)) es
 
--- an entry, whoever shares its tree: as if nobody did
+-- the entry as if its tree were unshared
 abbrev pub as_own : Entry → Entry
 as_own v = record { created = v.created; tag = v.tag; tree = record { root = v.tree.root; own = true }; len = v.len; notes = v.notes }
 
 abbrev pub all_as_own : List (DocId × Entry) → List (DocId × Entry)
 all_as_own es = map (λ e. (e.0, as_own e.1)) es
 
--- ---- who holds an address
+-- ---- which document has an address
 
 module _ {D : Type 0} (own : D → List (List ℕ)) (number : D → ℕ) where
   -- the number of the first document that has it
@@ -69,7 +71,7 @@ module _ {D : Type 0} (own : D → List (List ℕ)) (number : D → ℕ) where
 abbrev pub holder : List (DocId × Entry) → List ℕ → Option ℕ
 holder es uri = holder_in uris_in number_in es uri
 
--- the holder is another document than the one with this number, if that is one
+-- the document is another than the one with this number, if that exists
 abbrev pub is_others : Option ℕ → Option ℕ → Bool
 is_others own None = false
 is_others None (Some n) = true
@@ -79,21 +81,21 @@ is_others (Some m) (Some n) = not (m == n)
 abbrev pub registered : List (List ℕ × ℕ) → List ℕ → Option ℕ
 registered rs uri = lookup (bytes_eq uri) rs
 
--- a registry after some addresses left it and others came in under a number
+-- a registry after some addresses were removed and others added under a number
 abbrev pub exchanged : List (List ℕ) → List (List ℕ) → ℕ → Option ℕ → List ℕ → Option ℕ
 exchanged leaves enters number before uri = if is_member bytes_eq enters uri then Some number else if is_member bytes_eq leaves uri then None else before
 
--- ---- what always holds of a store
+-- ---- the invariant of a store
 
 pub record IsStoring (es : List (DocId × Entry)) (rs : List (List ℕ × ℕ)) (last total : ℕ) : Type 0 where
-  -- it stands for a state that is kept
-  pub kept : (m : State) × Stands (content_in es last) m × Kept m
-  -- its registry tells of each address which document has it
+  -- it represents a valid state
+  pub kept : (m : State) × Represents (content_in es last) m × IsValidState m
+  -- its registry gives for each address the document that has it
   pub addresses : (uri : List ℕ) → registered rs uri ≡ holder es uri
-  -- each creation took a number of its own, which was given
-  pub numbers : AreApart (map number_in es)
+  -- each creation has its own number
+  pub numbers : AreDistinct (map number_in es)
   pub given : AllByRecursion (λ e. number_in e ≤ last) es
-  -- the total is that of its documents' lengths
+  -- the total is the sum of the documents' lengths
   pub sum : total ≡ sum_by len_in es
-  -- the length that is kept of each is the one that it has
+  -- the stored length of each document is its length
   pub lens : AllByRecursion (λ e. e.1.len ≡ len_in e) es

@@ -5,8 +5,8 @@ use Rattle.xml_tree.specs.Characters.{is_space, is_name_char}
 use Rattle.tree_text.specs.Faults.{is_other}
 use Rattle.tree_text.specs.Grammar.{is_encoding_char, is_raw, is_raw_in}
 use Rattle.tree_text.specs.readers.Runs.{is_plain_in_content, is_plain_in_value}
-use Rattle.tree_text.specs.declared.classes.Class.{Class}
-use Rattle.tree_text.specs.declared.classes.Class.TheVariants.{Space, Name, Digit, Encoding, Raw, RawIn, Other, PlainContent, PlainValue}
+use Rattle.tree_text.specs.declared.character_classes.Class.{Class}
+use Rattle.tree_text.specs.declared.character_classes.Class.TheVariants.{Space, Name, Digit, Encoding, Raw, RawIn, Other, PlainContent, PlainValue}
 
 -- the characters of a class
 abbrev pub passes : Class → ℕ → Bool
@@ -20,7 +20,7 @@ passes (Other one) = is_other one
 passes PlainContent = is_plain_in_content
 passes PlainValue = is_plain_in_value
 
--- those of ASCII
+-- the ASCII characters among them
 abbrev pub in_ascii : (ℕ → Bool) → ℕ → Bool
 in_ascii p c = nat_lt c 128 && p c
 

@@ -4,7 +4,7 @@ use Rattle.xml_tree.specs.Print.{text_escape, value_escape}
 use Rattle.tree_text.specs.declared.escapes.Place.{Place}
 use Rattle.tree_text.specs.declared.escapes.Place.TheVariants.{Content, Quotes}
 
--- a character where it is printed
+-- a character as printed in this place
 abbrev pub escape_in : Place → ℕ → List ℕ
 escape_in Content c = text_escape c
 escape_in Quotes c = value_escape c

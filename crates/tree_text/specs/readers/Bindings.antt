@@ -1,5 +1,6 @@
--- What reading keeps of the declarations around a place: a number for each namespace, and for each prefix the numbers of the namespaces
--- that it is declared for. So namespaces, which are compared as texts (Namespaces in XML 1.0, section 2.3), are compared by numbers.
+-- How the reader stores the declarations around a place: a number for each namespace, and for
+-- each prefix the numbers of the namespaces that it is declared for. So namespaces, which are
+-- compared as texts (Namespaces in XML 1.0, section 2.3), are compared by numbers.
 use Rattle.std.specs.Prelude.{◌≡◌, ◌<◌, ℕ, List, [], ◌∷◌, map, Option, Some, if◌then◌else◌}
 use Rattle.std.specs.BTreeMap.{BTreeMap, btree_map_len, get}
 use Rattle.std.specs.Cmp.Lexicographic.{slice_cmp}
@@ -12,7 +13,7 @@ use Rattle.xml_tree.specs.declared.names.Decl.{Decl}
 use Rattle.tree_text.specs.declared.bindings.Bindings.{Bindings}
 use Rattle.tree_text.specs.declared.namespaces.Namespaces.{Namespaces}
 
--- what a map has at a text
+-- the value of a map at a text
 abbrev pub at_text : {X : Type 0} → BTreeMap (List ℕ) X → List ℕ → Option X
 at_text m t = get (slice_cmp nat_cmp) m t
 
@@ -33,12 +34,13 @@ abbrev pub uris : List Decl → List ℕ → List (List ℕ)
 uris [] p = []
 uris (d ∷ ds) p = if bytes_eq d.prefix p then d.uri ∷ uris ds p else uris ds p
 
--- no two texts have one number, and each number is less than how many there are
+-- no two texts have the same number, and each number is less than the count of texts
 pub record AreNumbers (m : BTreeMap (List ℕ) ℕ) : Type 0 where
   pub apart : (u v : List ℕ) (n : ℕ) → at_text m u ≡ Some n → at_text m v ≡ Some n → u ≡ v
   pub small : (u : List ℕ) (n : ℕ) → at_text m u ≡ Some n → n < btree_map_len m
 
--- these namespaces are those of these declarations: what is declared of each prefix is kept by its numbers
+-- these namespaces represent these declarations: the declarations of each prefix are stored by
+-- their numbers
 pub record AreOf (s : Namespaces) (ds : List Decl) : Type 0 where
   pub numbers : AreNumbers s.numbers
   pub none : number s [] ≡ Some s.none
@@ -49,11 +51,11 @@ pub record AreOf (s : Namespaces) (ds : List Decl) : Type 0 where
 abbrev pub lists : Bindings → List (List Decl)
 lists b = map (λ ds. ds.items) b.open.items
 
--- the namespaces are those of the open elements
-abbrev pub AreKept : Bindings → Type 0
-AreKept b = AreOf b.namespaces (joined (lists b))
+-- the namespaces represent the declarations of the open elements
+abbrev pub AreOpenNamespaces : Bindings → Type 0
+AreOpenNamespaces b = AreOf b.namespaces (joined (lists b))
 
--- the same elements are open
+-- the same elements are open as before
 pub record AreBack (old new : Bindings) : Type 0 where
   pub same : lists new ≡ lists old
-  pub kept : AreKept new
+  pub kept : AreOpenNamespaces new

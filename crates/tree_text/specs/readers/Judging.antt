@@ -1,38 +1,39 @@
--- The first wrong name of a tag, found from left to right.
+-- The first wrong name of a start tag, found from left to right.
 use Rattle.std.specs.Prelude.{ℕ, suc, ◌+◌, ◌-◌, List, [], ◌∷◌, ◌++◌, length, if◌then◌else◌, Option, None, Some}
 use Rattle.xml_tree.specs.declared.names.Decl.{Decl}
 use Rattle.xml_tree.specs.declared.names.Name.{Name}
-use Rattle.tree_text.specs.declared.kind.Kind.{Kind}
-use Rattle.tree_text.specs.declared.kind.Kind.TheVariants.{Unbound, Repeated}
-use Rattle.tree_text.specs.declared.said.Said.{Said}
+use Rattle.tree_text.specs.declared.fault_kind.FaultKind.{FaultKind}
+use Rattle.tree_text.specs.declared.fault_kind.FaultKind.TheVariants.{Unbound, Repeated}
+use Rattle.tree_text.specs.declared.raw_attribute.RawAttribute.{RawAttribute}
 use Rattle.tree_text.specs.Pieces.{StartTag, written}
 use Rattle.tree_text.specs.Names.{is_misnamed, is_repeated, inside_tag, is_unbound_in}
 
--- what is wrong with one: Unbound comes first
-abbrev pub wrong_said : List (List Decl) → List Said → Said → Option Kind
+-- what is wrong with a raw attribute: `Unbound` comes first
+abbrev pub wrong_said : List (List Decl) → List RawAttribute → RawAttribute → Option FaultKind
 wrong_said here earlier s = if is_misnamed here s then Some Unbound else if is_repeated here earlier s then Some Repeated else None
 
--- what is wrong at this place, or what comes later
-abbrev pub or_later : Option Kind → ℕ → Option (Kind × ℕ) → Option (Kind × ℕ)
+-- the fault at this place, or a later one
+abbrev pub or_later : Option FaultKind → ℕ → Option (FaultKind × ℕ) → Option (FaultKind × ℕ)
 or_later None at later = later
 or_later (Some kind) at later = Some (kind, at)
 
--- behind so many characters of the tag, and behind these of its attributes and declarations
-abbrev pub first_wrong : List (List Decl) → List Said → ℕ → List Said → Option (Kind × ℕ)
+-- the first wrong raw attribute, where `at` characters of the tag and these earlier raw
+-- attributes come before
+abbrev pub first_wrong : List (List Decl) → List RawAttribute → ℕ → List RawAttribute → Option (FaultKind × ℕ)
 first_wrong here earlier at [] = None
 first_wrong here earlier at (s ∷ later) = or_later (wrong_said here earlier s) (at + s.gap) (first_wrong here (earlier ++ s ∷ []) (at + (s.gap + s.size)) later)
 
--- the name of the tag comes before those of what it says
-abbrev pub first_named : List (List Decl) → Name → List Said → Option (Kind × ℕ)
-first_named here name said = if is_unbound_in here name then Some (Unbound, 1) else first_wrong here [] (suc (length (written name))) said
+-- the name of the tag comes before the names of its raw attributes
+abbrev pub first_named : List (List Decl) → Name → List RawAttribute → Option (FaultKind × ℕ)
+first_named here name raw_attribute = if is_unbound_in here name then Some (Unbound, 1) else first_wrong here [] (suc (length (written name))) raw_attribute
 
-abbrev pub first_of_tag : List (List Decl) → StartTag → Option (Kind × ℕ)
-first_of_tag here t = first_named here t.name t.said
+abbrev pub first_of_tag : List (List Decl) → StartTag → Option (FaultKind × ℕ)
+first_of_tag here t = first_named here t.name t.raw_attribute
 
--- counted back from the end of the tag
-abbrev pub counted_back : ℕ → Option (Kind × ℕ) → Option (Kind × ℕ)
+-- the place counted back from the end of the tag
+abbrev pub counted_back : ℕ → Option (FaultKind × ℕ) → Option (FaultKind × ℕ)
 counted_back size None = None
 counted_back size (Some found) = Some (found.0, size - found.1)
 
-abbrev pub tag_fault : List (List Decl) → StartTag → Option (Kind × ℕ)
+abbrev pub tag_fault : List (List Decl) → StartTag → Option (FaultKind × ℕ)
 tag_fault scope t = counted_back t.size (first_of_tag (inside_tag scope t) t)

@@ -1,4 +1,5 @@
--- What the code keeps of the names of a tag: the bytes of the prefix that a declaration declares, the expanded name of an attribute. Namespaces in XML 1.0, section 6.3.
+-- What the code keeps of the names of a tag: the bytes of the prefix that a declaration declares,
+-- the expanded name of an attribute. Namespaces in XML 1.0, section 6.3.
 use Rattle.std.specs.Prelude.{◌≡◌, ℕ, Bool, true, false, ◌&&◌, ◌==◌, not, List, Option, Some, None, option_map, option_and_then, encode_utf8_all}
 use Rattle.std.specs.Str.{bytes_eq}
 use Rattle.std.specs.List.{list_any}
@@ -6,34 +7,34 @@ use Rattle.std.specs.BTreeSet.{BTreeSet, contains}
 use Rattle.xml_tree.specs.Expanded.{attr_name}
 use Rattle.xml_tree.specs.declared.names.Name.{Name}
 use Rattle.tree_text.specs.declared.bindings.Bindings.{Bindings}
-use Rattle.tree_text.specs.declared.meanings.Meaning.{Meaning}
-use Rattle.tree_text.specs.declared.meanings.Meaning.TheVariants.{Declared, Named}
-use Rattle.tree_text.specs.declared.said.Said.{Said}
-use Rattle.tree_text.specs.contracts.meanings.MeaningOrd.TheImpl.{cmp-value}
+use Rattle.tree_text.specs.declared.attribute_meanings.Meaning.{Meaning}
+use Rattle.tree_text.specs.declared.attribute_meanings.Meaning.TheVariants.{Declared, Named}
+use Rattle.tree_text.specs.declared.raw_attribute.RawAttribute.{RawAttribute}
+use Rattle.tree_text.specs.contracts.attribute_meanings.MeaningOrd.TheImpl.{cmp-value}
 use Rattle.tree_text.specs.readers.Bindings.{lists, number}
-use Rattle.tree_text.specs.Names.{said_decl, is_declaring}
+use Rattle.tree_text.specs.Names.{raw_attribute_decl, is_declaring}
 
 -- the number of the namespace of an attribute of this name
 abbrev pub attr_number : Bindings → Name → Option ℕ
 attr_number here n = option_and_then (number here.namespaces) (attr_name (lists here) n).uri
 
--- whether two numbers are one
+-- whether two numbers are equal
 abbrev pub same_number : Option ℕ → Option ℕ → Bool
 same_number None None = true
 same_number None (Some m) = false
 same_number (Some n) None = false
 same_number (Some n) (Some m) = n == m
 
--- this is what one says
-abbrev pub Means : Bindings → Said → Meaning → Type 0
-Means here s (Declared prefix) = (is_declaring s.name ≡ true) × (prefix.now ≡ encode_utf8_all (said_decl s).prefix)
+-- this is the meaning of a raw attribute
+abbrev pub Means : Bindings → RawAttribute → Meaning → Type 0
+Means here s (Declared prefix) = (is_declaring s.name ≡ true) × (prefix.now ≡ encode_utf8_all (raw_attribute_decl s).prefix)
 Means here s (Named local n) = (is_declaring s.name ≡ false) × (local.now ≡ s.name.local) × (option_map Some n ≡ option_map (number here.namespaces) (attr_name (lists here) s.name).uri)
 
--- whether one says this
-abbrev pub says : Bindings → Meaning → Said → Bool
-says here (Declared prefix) s = is_declaring s.name && bytes_eq (encode_utf8_all (said_decl s).prefix) prefix.now
+-- whether a raw attribute has this meaning
+abbrev pub says : Bindings → Meaning → RawAttribute → Bool
+says here (Declared prefix) s = is_declaring s.name && bytes_eq (encode_utf8_all (raw_attribute_decl s).prefix) prefix.now
 says here (Named local n) s = not (is_declaring s.name) && (same_number (attr_number here s.name) n && bytes_eq s.name.local local.now)
 
--- a set holds exactly what these say
-abbrev pub Holds : Bindings → List Said → BTreeSet Meaning → Type 0
+-- a set holds exactly the meanings of these raw attributes
+abbrev pub Holds : Bindings → List RawAttribute → BTreeSet Meaning → Type 0
 Holds here es seen = (m : Meaning) → contains cmp-value.it seen m ≡ list_any (says here m) es

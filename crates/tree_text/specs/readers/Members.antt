@@ -1,30 +1,30 @@
 -- The members of repetitions, as loops read them.
 use Rattle.std.specs.Prelude.{ℕ, Bool, List, ◌++◌}
-use Rattle.grammar_rules.specs.Reading.{Reader, read_sequence, read_valued}
+use Rattle.xml_grammar.specs.Reading.{Reader, read_sequence, read_valued}
 use Rattle.xml_tree.specs.Edits.{with_text}
 use Rattle.xml_tree.specs.Tree.{Content, Tree}
 use Rattle.xml_tree.specs.declared.names.Name.{Name}
-use Rattle.tree_text.specs.declared.kind.Kind.{Kind}
+use Rattle.tree_text.specs.declared.fault_kind.FaultKind.{FaultKind}
 use Rattle.tree_text.specs.Pieces.{Markup, Inner, more_value, raw, with_markup, with_pieces}
 use Rattle.tree_text.specs.readers.Texts.{read_plain, read_whole_reference, read_reference, read_raw, read_chars, read_markup, read_content, read_behind_tag}
 
--- raw characters of a value, as they are read
-abbrev pub read_blanked : ℕ → Reader Kind (List ℕ)
+-- raw characters of a value, after normalization
+abbrev pub read_blanked : ℕ → Reader FaultKind (List ℕ)
 read_blanked quote = read_valued raw (read_raw quote)
 
--- a reference of a value, and the raw characters behind it
-abbrev pub read_piece : ℕ → Reader Kind (ℕ × List ℕ)
+-- a reference of a value, and the raw characters after it
+abbrev pub read_piece : ℕ → Reader FaultKind (ℕ × List ℕ)
 read_piece quote = read_sequence read_reference (λ _. read_raw quote)
 
--- the same of a spelling
-abbrev pub read_spelled_piece : Reader Kind (ℕ × List ℕ)
+-- a reference of a spelling, and the raw characters after it
+abbrev pub read_spelled_piece : Reader FaultKind (ℕ × List ℕ)
 read_spelled_piece = read_sequence read_whole_reference (λ _. read_plain)
 
 -- a value so far, and the pieces that follow
 abbrev pub value_with : List ℕ → List (ℕ × List ℕ) → List ℕ
 value_with front pieces = front ++ more_value pieces
 
--- what spells nothing, and more of it
+-- parts that spell nothing, and more of them
 abbrev pub nothing_with : Unit {0} → List (Unit {0} × Unit {0}) → Unit {0}
 nothing_with so_far more = tt
 
@@ -32,35 +32,35 @@ nothing_with so_far more = tt
 abbrev pub tree_with : Tree → List (Markup × List ℕ) → Tree
 tree_with tree pieces = record tree { content = with_pieces tree.content pieces }
 
--- the same, and markup that follows
+-- an element so far, and markup that follows
 abbrev pub with_one : Tree → Markup → Tree
 with_one tree one = record tree { content = with_markup one tree.content }
 
--- markup, and the characters behind it
-abbrev pub read_member : Reader Kind Tree → Reader Kind (Markup × List ℕ)
+-- markup, and the characters after it
+abbrev pub read_member : Reader FaultKind Tree → Reader FaultKind (Markup × List ℕ)
 read_member inner = read_sequence (read_markup inner) (λ _. read_chars)
 
--- an element, to which markup is added that is read, or a child
-abbrev pub read_onto : Tree → Reader Kind Tree → Reader Kind Tree
+-- an element, to which the markup that is read is added, or a child
+abbrev pub read_onto : Tree → Reader FaultKind Tree → Reader FaultKind Tree
 read_onto tree inner = read_valued (with_one tree) (read_markup inner)
 
-abbrev pub read_child : Tree → Reader Kind Tree → Reader Kind Tree
+abbrev pub read_child : Tree → Reader FaultKind Tree → Reader FaultKind Tree
 read_child tree inner = read_valued (with_one tree) (read_valued Inner inner)
 
--- an element, and characters that follow its content, which are read
+-- an element with the characters that follow its content
 abbrev pub with_chars : Tree → List ℕ → Tree
 with_chars tree cs = record tree { content = with_text cs tree.content }
 
-abbrev pub read_chars_onto : Tree → Reader Kind Tree
+abbrev pub read_chars_onto : Tree → Reader FaultKind Tree
 read_chars_onto tree = read_valued (with_chars tree) read_chars
 
 -- an element with this content
 abbrev pub filled : Tree → Content → Tree
 filled tree content = record tree { content = content }
 
--- an element, whose content is read, or what stands behind its tag
-abbrev pub read_filled : Tree → Reader Kind Tree → Reader Kind Tree
+-- an element, whose content is read, or all that follows its tag
+abbrev pub read_filled : Tree → Reader FaultKind Tree → Reader FaultKind Tree
 read_filled tree inner = read_valued (filled tree) (read_content inner)
 
-abbrev pub read_filled_behind : Tree → Reader Kind Tree → Name → Bool → Reader Kind Tree
+abbrev pub read_filled_behind : Tree → Reader FaultKind Tree → Name → Bool → Reader FaultKind Tree
 read_filled_behind tree inner n is_empty = read_valued (filled tree) (read_behind_tag inner n is_empty)

@@ -1,4 +1,4 @@
--- The fixed words of the grammar by names.
+-- Names for the fixed words of the grammar.
 use Rattle.std.specs.Prelude.{ℕ, codes, List, [], ◌∷◌}
 
 -- `<` and `>`

@@ -4,14 +4,14 @@ use Rattle.std.specs.Str.{bytes_eq}
 use Rattle.xml_tree.specs.Print.{print_decl, byte_len}
 use Rattle.xml_tree.specs.Scopes.{bindings_in, declared}
 use Rattle.xml_tree.specs.declared.names.Decl.{Decl}
-use Rattle.xml_tree.specs.Limits.{greatest_u64}
+use Rattle.xml_tree.specs.Limits.{u64_max}
 use Rattle.usage_docs.specs.declared.lengths.Outer.{Outer}
 
 -- the printed length of declarations
 abbrev pub decls_len : List Decl → ℕ
 decls_len ds = byte_len (flat_map print_decl ds)
 
--- the bindings whose prefixes these declarations declare anew
+-- the bindings whose prefixes these declarations redeclare
 abbrev pub hidden : List Decl → List Decl → List Decl
 hidden own bs = filter (λ b. is_some (declared own b.prefix)) bs
 
@@ -19,7 +19,7 @@ hidden own bs = filter (λ b. is_some (declared own b.prefix)) bs
 abbrev pub binding_of : List ℕ → List Decl → List Decl
 binding_of p bs = filter (λ b. bytes_eq p b.prefix) bs
 
--- what is kept of a root is what it binds, and the length of that
+-- the bindings of a root are stored with their printed length
 pub record CountsFrom (outer : Outer) : Type 0 where
   pub bindings : outer.bindings.items ≡ bindings_in (outer.decls.now ∷ [])
-  pub counted : outer.len ≡ min (decls_len (bindings_in (outer.decls.now ∷ []))) greatest_u64
+  pub counted : outer.len ≡ min (decls_len (bindings_in (outer.decls.now ∷ []))) u64_max

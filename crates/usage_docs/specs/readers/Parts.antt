@@ -1,13 +1,13 @@
--- Children by numbers, as they are followed from left to right: the part of a child is the number of the item of its row's model that
--- takes it, counted from 1.
+-- Children by numbers, checked from left to right: the part of a child is the number of the item
+-- of its parent's content model that takes it, counted from 1.
 use Rattle.std.specs.Prelude.{ℕ, Bool, true, false, ◌&&◌, ◌||◌, not, nat_lt, nat_eq}
 use Rattle.xml_tree.specs.declared.names.Name.{Name}
-use Rattle.usage_docs.specs.declared.rows.Kind.{Kind}
-use Rattle.usage_docs.specs.declared.rows.Kind.TheVariants.{ResourceLists, EntryList, Entry, EntryRef, External, DisplayName, RlsServices, Service, ResourceList, Packages, Package}
-use Rattle.usage_docs.specs.Rows.{Scope, Child, known, foreign, stray, child_of}
+use Rattle.usage_docs.specs.declared.schema_table.ElementKind.{ElementKind}
+use Rattle.usage_docs.specs.declared.schema_table.ElementKind.TheVariants.{ResourceLists, EntryList, Entry, EntryRef, External, DisplayName, RlsServices, Service, ResourceList, Packages, Package}
+use Rattle.usage_docs.specs.SchemaTable.{Scope, Child, known, foreign, stray, child_class_of}
 
--- the part of a child of some kind; 0 where none may stand
-unfoldable pub part_named : Kind → Kind → ℕ
+-- the part of a child of some kind; 0 if it isn't allowed
+unfoldable pub part_named : ElementKind → ElementKind → ℕ
 part_named ResourceLists EntryList = 1
 part_named EntryList DisplayName = 1
 part_named EntryList EntryList = 2
@@ -24,8 +24,8 @@ part_named Service Packages = 2
 part_named Packages Package = 1
 part_named row kind = 0
 
--- the part of the foreign elements; 0 where none may stand
-unfoldable pub foreign_part : Kind → ℕ
+-- the part of the foreign elements; 0 if they aren't allowed
+unfoldable pub foreign_part : ElementKind → ℕ
 foreign_part ResourceLists = 0
 foreign_part EntryList = 3
 foreign_part Entry = 2
@@ -38,8 +38,8 @@ foreign_part ResourceList = 0
 foreign_part Packages = 1
 foreign_part Package = 0
 
--- so many of the first parts are of one child at most; the others take any number
-unfoldable pub single_parts : Kind → ℕ
+-- how many of the first parts take at most one child; the others take any number
+unfoldable pub single_parts : ElementKind → ℕ
 single_parts ResourceLists = 0
 single_parts EntryList = 1
 single_parts Entry = 1
@@ -52,27 +52,28 @@ single_parts ResourceList = 0
 single_parts Packages = 0
 single_parts Package = 0
 
--- the first part has to be there
-unfoldable pub needs_first : Kind → Bool
+-- the first part is required
+unfoldable pub needs_first : ElementKind → Bool
 needs_first Service = true
 needs_first kind = false
 
--- a child of the part `next` may stand directly behind one of the part `before`, where 0 is the beginning: its part comes
--- later, or is the same and takes any number; and a first part that has to be there is not passed over
-unfoldable pub follows : Kind → ℕ → ℕ → Bool
+-- a child of the part `next` may come directly after one of the part `before`, where 0 is the
+-- beginning: its part comes later, or is the same and takes any number; and a required first part
+-- isn't skipped
+unfoldable pub follows : ElementKind → ℕ → ℕ → Bool
 follows row before next =
     (nat_lt before next || (nat_eq before next && nat_lt (single_parts row) next))
     && not (needs_first row && nat_eq before 0 && nat_lt 1 next)
 
--- the end of the children, behind every part
+-- the end of the children, after every part
 abbrev pub end : ℕ
 end = 4
 
--- the part of a child; 0 where it may not stand
-abbrev pub part_in : Kind → Child → ℕ
+-- the part of a child; 0 if it isn't allowed
+abbrev pub part_in : ElementKind → Child → ℕ
 part_in row (known kind) = part_named row kind
 part_in row foreign = foreign_part row
 part_in row stray = 0
 
-unfoldable pub part_of : Kind → Scope → Name → ℕ
-part_of row c n = part_in row (child_of row c n)
+unfoldable pub part_of : ElementKind → Scope → Name → ℕ
+part_of row c n = part_in row (child_class_of row c n)

@@ -2,8 +2,8 @@
 use Rattle.std.specs.Prelude.{ℕ, List, [], ◌∷◌, Option, None, filter_map}
 use Rattle.xml_tree.specs.declared.tree.Node.{Node}
 use Rattle.xml_tree.specs.declared.tree.Node.TheVariants.{Elem, Chars, Comment}
-use Rattle.usage_docs.specs.declared.uris.ServiceUris.{ServiceUris}
-use Rattle.usage_docs.specs.Rows.{Scope}
+use Rattle.usage_docs.specs.declared.service_uris.ServiceUris.{ServiceUris}
+use Rattle.usage_docs.specs.SchemaTable.{Scope}
 use Rattle.usage_docs.specs.Services.{service_uri}
 
 -- the address of a node, if it is a service
@@ -12,6 +12,6 @@ node_uri c (Elem e) = service_uri c e
 node_uri c (Chars t) = None
 node_uri c (Comment x) = None
 
--- the addresses that are still to come
+-- the remaining addresses
 abbrev pub uris_left : ServiceUris → List (List ℕ)
 uris_left s = filter_map (node_uri (s.declared ∷ [])) s.nodes.now

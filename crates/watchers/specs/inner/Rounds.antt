@@ -1,13 +1,13 @@
--- Watchers told of one change after another.
+-- Watchers notified of one change after another.
 use Rattle.std.proofs.Common.{◌≡◌, ℕ, List, [], ◌∷◌, ◌++◌, Option, Some, None, inl, inr, refl, ap, sym, subst, ◌∙◌, arith, append_assoc, append-nil, ⊎_elim}
 use Rattle.std.proofs.lemmas.Grind.{flat_map-append}
 use Rattle.std.specs.Prelude.{flat_map}
-use Rattle.notes.specs.declared.edit.Edit.{Edit}
+use Rattle.edit_ops.specs.declared.edit.Edit.{Edit}
 use Rattle.watchers.specs.Lines.{line_bytes}
-use Rattle.watchers.specs.Writing.{Wrote, with_lines}
+use Rattle.watchers.specs.WrittenLines.{Wrote, with_lines}
 use Rattle.watchers.specs.declared.watcher.Told.{Told}
 use Rattle.watchers.specs.declared.watcher.Told.TheVariants.{Kept}
-use Rattle.watchers.specs.Telling.{AreKept, AreTold, HasKeptAll, HasLeft, with_edits}
+use Rattle.watchers.specs.Notifications.{AreKept, AreNotified, HasKeptAll, HasLeft, with_edits}
 
 no_more : (told : Option (List Edit)) → told ≡ with_edits told []
 no_more None = refl
@@ -54,7 +54,7 @@ module _ {B : Type 0} (told_list : B → Option (List Edit)) (faults : B → ℕ
   no_round (b ∷ bs) = inl (b, bs, refl, kept_none b, no_round bs)
 
   -- one change
-  pub one_round : (edit : Edit) (old new : List B) (left : ℕ) → AreTold told_list faults never_refuses answers written edit old new left → Keeping (edit ∷ []) old new
+  pub one_round : (edit : Edit) (old new : List B) (left : ℕ) → AreNotified told_list faults never_refuses answers written edit old new left → Keeping (edit ∷ []) old new
   one_round edit [] new left h = h.0
   one_round edit (b ∷ bs) new left h =
       ⊎_elim

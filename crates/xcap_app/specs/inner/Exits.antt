@@ -1,9 +1,9 @@
--- Words as bytes.
+-- Messages as bytes.
 use Rattle.std.specs.Prelude.{ℕ, List, string_bytes}
-use Rattle.xcap_app.specs.declared.exit.Words.{Words}
-use Rattle.xcap_app.specs.declared.exit.Words.TheVariants.{Fixed, Made}
+use Rattle.xcap_app.specs.declared.exit.Message.{Message}
+use Rattle.xcap_app.specs.declared.exit.Message.TheVariants.{Fixed, Made}
 
--- the bytes of words
-abbrev pub said : Words → List ℕ
+-- the bytes of a message
+abbrev pub said : Message → List ℕ
 said (Fixed words) = words.now
 said (Made words) = string_bytes words

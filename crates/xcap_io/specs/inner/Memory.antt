@@ -1,7 +1,7 @@
--- How far reads of a line in memory may go.
+-- How far reads of a stream in memory may go.
 use Rattle.std.specs.Prelude.{◌≡◌, ℕ, ◌-◌, ◌<◌, ◌≤◌, min, Option, None, Some}
 
--- how many of the wanted bytes may be given before the place where reads fail
+-- how many of the wanted bytes may be given before the offset where reads fail
 abbrev pub Gives : ℕ → ℕ → Option ℕ → Option ℕ → Type 0
 Gives wanted given None result = result ≡ Some wanted
 Gives wanted given (Some place) None = place ≤ given

@@ -1,10 +1,10 @@
--- Texts that octets spell in UTF-8, as every text of the program is.
+-- Texts as their octets in UTF-8, like every text of the program.
 use Rattle.std.specs.Prelude.{◌≡◌, ℕ, ◌<◌, List, All, encode_utf8_all, chars}
 use Rattle.std.specs.Str.{IsUtf8}
 use Rattle.doc_names.specs.declared.doc_id.Home.{Home}
 use Rattle.doc_names.specs.declared.doc_id.Home.TheVariants.{Global, User}
 
--- a number that an octet can be
+-- a number that an octet can have
 abbrev pub IsOctet : ℕ → Type 0
 IsOctet b = b < 256
 

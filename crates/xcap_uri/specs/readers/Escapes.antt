@@ -1,4 +1,4 @@
--- The texts that parts of addresses stand for, found from left to right.
+-- The texts of parts of addresses, decoded from left to right.
 use Rattle.std.specs.Prelude.{ℕ, Bool, ◌&&◌, List, Option, None, Some, Result, Ok, Err, if◌then◌else◌, chars}
 use Rattle.std.specs.Str.{is_utf8}
 use Rattle.percent_encoding.specs.Percent.{percent_decode}
@@ -7,15 +7,15 @@ use Rattle.xcap_uri.specs.Escapes.{has_whole_escapes}
 use Rattle.xcap_uri.specs.readers.Steps.{UriError, ◌>>=◌}
 use Rattle.xcap_uri.specs.declared.fault.UriFault.TheVariants.{BadEscape}
 
--- whether a part of an address stands for a text
+-- whether a part of an address decodes to a text
 abbrev pub stands_for_text : List ℕ → Bool
 stands_for_text part = has_whole_escapes part && is_utf8 (percent_decode part)
 
--- the text that it stands for
+-- the text that it decodes to
 abbrev pub text_read : List ℕ → Result (List ℕ) UriError
 text_read part = if stands_for_text part then Ok (chars (percent_decode part)) else Err (Fault BadEscape)
 
--- the same of a part that may be absent
+-- the text of a part that may be absent
 abbrev pub optional_text_read : Option (List ℕ) → Result (Option (List ℕ)) UriError
 optional_text_read None = Ok None
 optional_text_read (Some part) = text_read part >>= λ text. Ok (Some text)

@@ -1,25 +1,25 @@
--- Queries read from left to right: what the code and the proofs speak of. The bindings that are found are those of the
--- rules, which is a law (`queries_have_one_reading`).
+-- Queries read from left to right, as code and proofs read them. That the bindings are those of
+-- the rules is a law (`queries_have_one_reading`).
 use Rattle.std.specs.Prelude.{ℕ, zero, suc, ◌+◌, ◌-◌, Bool, ◌&&◌, ◌||◌, ◌==◌, List, [], ◌∷◌, codes, length, Option, None, Some, Result, Ok, Err, if◌then◌else◌}
 use Rattle.std.specs.Str.{bytes_eq}
-use Rattle.grammar_rules.specs.Reading.{front_of, after_front, head_is}
+use Rattle.xml_grammar.specs.Reading.{front_of, after_front, head_is}
 use Rattle.xml_tree.specs.Characters.{is_name_start, is_name_char, is_space}
 use Rattle.xml_tree.specs.declared.names.Decl.{Decl}
 use Rattle.xml_tree.specs.declared.read_error.ReadError.TheVariants.{Fault}
-use Rattle.xcap_uri.specs.Cuts.{rest_after_front}
+use Rattle.xcap_uri.specs.Delimiters.{rest_after_front}
 use Rattle.xcap_uri.specs.readers.Steps.{UriError, ◌>>=◌}
 use Rattle.xcap_uri.specs.Queries.{is_bracket_or_caret, is_blank}
 use Rattle.xcap_uri.specs.declared.fault.UriFault.TheVariants.{BadQuery}
 
--- a value, and what follows it in the text
+-- a value, and what comes after it in the text
 abbrev pub Read : Type 0 → Type 0
 Read A = Result (A × List ℕ) UriError
 
--- a character in front of those that are read
+-- a character before those that are read
 abbrev pub with_char : ℕ → Read (List ℕ) → Read (List ℕ)
 with_char c read = read >>= λ x. Ok (c ∷ x.0, x.1)
 
--- the characters up to the `)` that ends the item, where so many `(` before them are open
+-- the characters up to the `)` that ends the item, where n earlier `(` are open
 abbrev pub uri_chars : ℕ → List ℕ → Read (List ℕ)
 uri_chars open_count [] = Err (Fault BadQuery)
 uri_chars open_count (c ∷ []) = if c == 41 && open_count == 0 then Ok ([], []) else Err (Fault BadQuery)
@@ -29,7 +29,7 @@ uri_chars open_count (c ∷ d ∷ rest) =
     else if c == 41 then (if open_count == 0 then Ok ([], d ∷ rest) else with_char c (uri_chars (open_count - 1) (d ∷ rest)))
     else with_char c (uri_chars open_count (d ∷ rest))
 
--- one or more of them, and the `)` that ends the item
+-- at least one of them, and the `)` that ends the item
 abbrev pub some_uri : List ℕ × List ℕ → Read (List ℕ)
 some_uri ([], rest) = Err (Fault BadQuery)
 some_uri (c ∷ cs, rest) = Ok (c ∷ cs, rest)
@@ -37,12 +37,12 @@ some_uri (c ∷ cs, rest) = Ok (c ∷ cs, rest)
 abbrev pub uri_read : List ℕ → Read (List ℕ)
 uri_read text = uri_chars 0 text >>= some_uri
 
--- a word in front, and what follows it
+-- the text after a leading word
 abbrev pub past : Option (List ℕ) → Result (List ℕ) UriError
 past None = Err (Fault BadQuery)
 past (Some rest) = Ok rest
 
--- white space and `=` and white space, which may be absent
+-- the text after `=` and the optional white space around it
 abbrev pub equals_past : List ℕ → Result (List ℕ) UriError
 equals_past text = past (rest_after_front (codes "=") (after_front is_space text)) >>= λ rest. Ok (after_front is_space rest)
 
@@ -60,7 +60,7 @@ unreserved x = if is_reserved x.0 then Err (Fault BadQuery) else Ok x
 abbrev pub free_prefix_read : List ℕ → Read (List ℕ)
 free_prefix_read text = prefix_read text >>= unreserved
 
--- an item, and what follows it
+-- an item, and what comes after it
 abbrev pub item_read : List ℕ → Read Decl
 item_read text =
     past (rest_after_front (codes "xmlns(") text) >>= λ inner.
@@ -68,17 +68,18 @@ item_read text =
     equals_past p.1 >>= uri_read >>= λ u.
     Ok (record { prefix = p.0; uri = u.0 }, u.1)
 
--- at most n items, each with the spaces behind it, and nothing else
+-- at most n items, each with the spaces after it, and nothing else
 abbrev pub items_read : ℕ → List ℕ → Result (List Decl) UriError
 items_read n [] = Ok []
 items_read zero (c ∷ text) = Err (Fault BadQuery)
 items_read (suc n) (c ∷ text) = item_read (c ∷ text) >>= λ x. items_read n (after_front is_blank x.1) >>= λ items. Ok (x.0 ∷ items)
 
--- the bindings of a query: an item has more than one character, so there are fewer items than characters
+-- the bindings of a query: an item has more than one character, so there are fewer items than
+-- characters
 abbrev pub bindings_read : List ℕ → Result (List Decl) UriError
 bindings_read text = items_read (length text) (after_front is_blank text)
 
--- none where there is no query
+-- an absent query has none
 abbrev pub optional_bindings_read : Option (List ℕ) → Result (List Decl) UriError
 optional_bindings_read None = Ok []
 optional_bindings_read (Some text) = bindings_read text

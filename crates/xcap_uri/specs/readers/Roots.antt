@@ -2,11 +2,11 @@
 use Rattle.std.specs.Prelude.{ℕ, Bool, false, ◌&&◌, nat_le, List, [], ◌∷◌, codes, length, Option, None, Some}
 use Rattle.std.specs.List.{list_all}
 use Rattle.std.specs.Option.{option_or}
-use Rattle.xcap_uri.specs.Cuts.{rest_after_front, pieces}
+use Rattle.xcap_uri.specs.Delimiters.{rest_after_front, pieces}
 use Rattle.xcap_uri.specs.Roots.{slash, is_authority_char, is_segment_char, is_some_of}
-use Rattle.xcap_uri.specs.declared.root.TheConstants.{GREATEST_LENGTH}
+use Rattle.xcap_uri.specs.declared.root.TheConstants.{MAX_ROOT_LEN}
 
--- what follows the scheme
+-- what comes after the scheme
 abbrev pub behind_scheme : List ℕ → Option (List ℕ)
 behind_scheme text = option_or (rest_after_front (codes "http://") text) (rest_after_front (codes "https://") text)
 
@@ -15,10 +15,10 @@ abbrev pub are_authority_and_segments : List (List ℕ) → Bool
 are_authority_and_segments [] = false
 are_authority_and_segments (authority ∷ segments) = is_some_of is_authority_char authority && list_all (is_some_of is_segment_char) segments
 
-abbrev pub has_form : Option (List ℕ) → Bool
-has_form None = false
-has_form (Some rest) = are_authority_and_segments (pieces slash rest)
+abbrev pub is_root_after_scheme : Option (List ℕ) → Bool
+is_root_after_scheme None = false
+is_root_after_scheme (Some rest) = are_authority_and_segments (pieces slash rest)
 
 -- the text reads as a root
 abbrev pub reads_as_root : List ℕ → Bool
-reads_as_root text = nat_le (length text) GREATEST_LENGTH && has_form (behind_scheme text)
+reads_as_root text = nat_le (length text) MAX_ROOT_LEN && is_root_after_scheme (behind_scheme text)

@@ -1,4 +1,4 @@
--- What the segments of an address name, found from left to right.
+-- What the segments of an address name, read from left to right.
 use Rattle.std.specs.Prelude.{ℕ, Bool, true, false, List, [], ◌∷◌, Option, None, Some, option_map, Result, Ok, Err, if◌then◌else◌}
 use Rattle.std.specs.List.{list_any}
 use Rattle.std.specs.Str.{bytes_eq}
@@ -20,7 +20,7 @@ use Rattle.xcap_uri.specs.declared.shape.Shape.TheVariants.{Document, Node, Deep
 
 -- ---- the words
 
--- the usage of this name
+-- the AUID of this name
 abbrev pub auid_of : List ℕ → Option Auid
 auid_of name =
     if bytes_eq name resource_lists then Some ResourceLists
@@ -28,14 +28,14 @@ auid_of name =
     else if bytes_eq name xcap_caps then Some XcapCaps
     else None
 
--- the usage of this name, where its documents are stored
+-- the AUID of this name, if its documents are stored
 abbrev pub stored_auid_of : List ℕ → Option Auid
 stored_auid_of name =
     if bytes_eq name resource_lists then Some ResourceLists
     else if bytes_eq name rls_services then Some RlsServices
     else None
 
--- the mode of this name
+-- the diff processing mode of this name
 abbrev pub mode_of : List ℕ → Option Mode
 mode_of name =
     if bytes_eq name no_patching then Some NoPatching
@@ -51,18 +51,18 @@ document doc None = Ok (Document doc)
 document doc (Some []) = Err (Fault BadShape)
 document doc (Some (c ∷ cs)) = Ok (Node doc (c ∷ cs))
 
--- in a home: a name, or more, which lies below a document; then the selector isn't looked at
+-- after a home: a name, or more, which is below a document; then the selector isn't looked at
 abbrev pub in_home : Auid → Home → List (List ℕ) → Option (List ℕ) → Result Shape UriError
 in_home auid home [] selector = Err (Fault BadShape)
 in_home auid home (name ∷ []) selector = document (doc_of auid home name) selector
 in_home auid home (name ∷ next ∷ more) selector = Ok (Deep auid home)
 
--- behind `users`: a user
+-- after `users`: a user
 abbrev pub of_user : Auid → List (List ℕ) → Option (List ℕ) → Result Shape UriError
 of_user auid [] selector = Err (Fault BadShape)
 of_user auid (xui ∷ rest) selector = in_home auid (User xui) rest selector
 
--- behind a usage: `global` or `users`
+-- after an AUID: `global` or `users`
 abbrev pub in_usage : Auid → List (List ℕ) → Option (List ℕ) → Result Shape UriError
 in_usage auid [] selector = Err (Fault BadShape)
 in_usage auid (tree ∷ rest) selector =
@@ -70,19 +70,19 @@ in_usage auid (tree ∷ rest) selector =
     else if bytes_eq tree users then of_user auid rest selector
     else Err (Fault BadShape)
 
--- ---- notices and flat lists
+-- ---- feeds and flat lists
 
--- the document of a stored usage and a user
+-- the document of a stored AUID and a user
 abbrev pub stored_doc : List ℕ → List ℕ → List ℕ → List ℕ → Option DocId
 stored_doc auid tree xui name = if bytes_eq tree users then option_map (λ a. doc_of a (User xui) name) (stored_auid_of auid) else None
 
--- the notice about an element has a selector, which isn't empty
+-- the feed of an element has a selector, which isn't empty
 abbrev pub element_feed : ℕ → DocId → Option (List ℕ) → Result Shape UriError
 element_feed tag doc None = Err (Fault BadShape)
 element_feed tag doc (Some []) = Err (Fault BadShape)
 element_feed tag doc (Some (c ∷ cs)) = Ok (ElementFeed tag doc (c ∷ cs))
 
--- the notice about a document has a mode, and no selector
+-- the feed of a document has a mode, and no selector
 abbrev pub document_feed : Option Mode → ℕ → DocId → Option (List ℕ) → Result Shape UriError
 document_feed None tag doc selector = Err (Fault BadShape)
 document_feed (Some mode) tag doc None = Ok (Feed mode tag doc)
@@ -94,12 +94,12 @@ either_feed mode (Some tag) None selector = Err (Fault BadShape)
 either_feed mode (Some tag) (Some doc) selector =
     if bytes_eq mode element_word then element_feed tag doc selector else document_feed (mode_of mode) tag doc selector
 
--- behind `~feed`: a mode or `element`, a tag, a stored usage, `users`, a user and a name
+-- after `~feed`: a mode or `element`, an etag, a stored AUID, `users`, a user and a name
 abbrev pub feed_shape : List (List ℕ) → Option (List ℕ) → Result Shape UriError
 feed_shape (mode ∷ tag ∷ auid ∷ tree ∷ xui ∷ name ∷ []) selector = either_feed mode (tag_spelled tag) (stored_doc auid tree xui name) selector
 feed_shape _ selector = Err (Fault BadShape)
 
--- behind `~flat`: a user, a name and the address of a service, without separator
+-- after `~flat`: a user, a name and the address of a service, without separator
 abbrev pub flat_shape : List (List ℕ) → Option (List ℕ) → Result Shape UriError
 flat_shape (xui ∷ name ∷ service ∷ []) None = Ok (Flat (doc_of RlsServices (User xui) name) service)
 flat_shape _ selector = Err (Fault BadShape)

@@ -13,7 +13,7 @@ use Rattle.xml_tree.specs.declared.read_error.ReadError.TheVariants.{Fault, NoMe
 use Rattle.doc_names.specs.Ids.{separator}
 use Rattle.doc_names.specs.Usages.{namespace_of}
 use Rattle.doc_names.specs.declared.doc_id.Auid.{Auid}
-use Rattle.xcap_uri.specs.Cuts.{front_before, rest_behind, pieces}
+use Rattle.xcap_uri.specs.Delimiters.{front_before, rest_after, pieces}
 use Rattle.xcap_uri.specs.readers.Steps.{UriError, ◌>>=◌}
 use Rattle.xcap_uri.specs.readers.Queries.{optional_bindings_read}
 use Rattle.xcap_uri.specs.Roots.{slash}
@@ -26,7 +26,8 @@ use Rattle.xcap_uri.specs.declared.shape.Shape.TheVariants as shapes
 use Rattle.xcap_uri.specs.declared.target.Target.{Target}
 use Rattle.xcap_uri.specs.declared.target.Target.TheVariants.{Document, Node, Deep, Feed, ElementFeed, Flat}
 
--- the segments before the first one that stands for the separator, each decoded; and where there is that one, what stands behind it
+-- the segments before the first one that decodes to the separator, each decoded; and where there
+-- is one, the text after it
 abbrev pub segments_read : List (List ℕ) → Result (List (List ℕ) × Option (List ℕ)) UriError
 segments_read [] = Ok ([], None)
 segments_read (segment ∷ segments) =
@@ -49,11 +50,11 @@ abbrev pub as_target_part : Result Selector SelectorFault → Result Selector Ur
 as_target_part (Ok selector) = Ok selector
 as_target_part (Err fault) = Err (Fault (target_fault fault))
 
--- the selector that a text spells in a document of this usage
+-- the selector that a text spells in a document of this AUID
 abbrev pub part_read : List Decl → Auid → List ℕ → Result Selector UriError
 part_read bindings auid text = as_target_part (selector_read bindings (chars (namespace_of auid)) (encode_utf8_all text))
 
--- a notice is about an element, and about nothing else
+-- a feed of a node is about an element, and about nothing else
 abbrev pub ends_in_element : End → Selector → Result Selector UriError
 ends_in_element ends.Element selector = Ok selector
 ends_in_element (ends.Attribute uri local) selector = Err (Fault BadSelector)
@@ -76,10 +77,10 @@ abbrev pub rest_read : List ℕ → Result Target UriError
 rest_read rest =
     path_read (front_before question rest) >>= λ path.
     optional_text_read path.1 >>= λ selector.
-    optional_text_read (rest_behind question rest) >>= λ query.
+    optional_text_read (rest_after question rest) >>= λ query.
     shape_of path.0 selector >>= λ shape.
     optional_bindings_read query >>= λ bindings.
-    target_of shape bindings (raw_text path.1 (rest_behind question rest))
+    target_of shape bindings (raw_text path.1 (rest_after question rest))
 
 abbrev pub under_read : Option (List ℕ) → Result Target UriError
 under_read None = Err (Fault OutsideRoot)

@@ -14,20 +14,20 @@ StepsTo (Ends rest) read = read ≡ Ok ([], rest.now)
 StepsTo (Goes c open_count rest) read = read ≡ with_char c (uri_chars open_count rest.now)
 StepsTo Breaks read = read ≡ Err (Fault BadQuery)
 
--- what follows a character is shorter, by as much at least as more brackets are open
+-- what comes after a character is shorter, by at least the number of newly opened brackets
 abbrev pub IsShorter : ℕ → List ℕ → UriStep → Type 0
 IsShorter open_count text (Ends rest) = Unit {0}
 IsShorter open_count text (Goes c more rest) = (length rest.now < length text) × (more + length rest.now ≤ open_count + length text)
 IsShorter open_count text Breaks = Unit {0}
 
--- characters in front of those that are read
+-- characters before those that are read
 abbrev pub with_chars : List ℕ → Read (List ℕ) → Read (List ℕ)
 with_chars front read = read >>= λ x. Ok (front ++ x.0, x.1)
 
--- the binding that the code has read, and what follows it
+-- the binding that the code has read, and what comes after it
 abbrev pub item_in : Item → Decl × List ℕ
 item_in item = (record { prefix = item.prefix; uri = item.uri }, item.rest.now)
 
--- bindings in front of those that are read
+-- bindings before those that are read
 abbrev pub with_items : List Decl → Result (List Decl) UriError → Result (List Decl) UriError
 with_items front read = read >>= λ items. Ok (front ++ items)

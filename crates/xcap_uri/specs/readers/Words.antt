@@ -1,7 +1,7 @@
--- The names of usages and of modes, as characters.
+-- The AUIDs and the names of the modes, as characters.
 use Rattle.std.specs.Prelude.{ℕ, List, codes, chars}
 
--- the names of the three usages
+-- the three AUIDs
 abbrev pub resource_lists : List ℕ
 resource_lists = chars (codes "resource-lists")
 
@@ -11,7 +11,7 @@ rls_services = chars (codes "rls-services")
 abbrev pub xcap_caps : List ℕ
 xcap_caps = chars (codes "xcap-caps")
 
--- the names of the three modes
+-- the names of the three diff processing modes
 abbrev pub no_patching : List ℕ
 no_patching = chars (codes "no-patching")
 

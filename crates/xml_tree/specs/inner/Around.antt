@@ -1,10 +1,10 @@
--- Scopes that are linked outwards.
+-- Linked scopes.
 use Rattle.std.specs.Prelude.{List, [], ◌∷◌, ◌++◌}
 use Rattle.xml_tree.specs.declared.names.Decl.{Decl}
-use Rattle.xml_tree.specs.declared.around.Place.{Place}
-use Rattle.xml_tree.specs.declared.around.Place.TheVariants.{Nothing, Outermost, Within}
+use Rattle.xml_tree.specs.declared.linked_scope.Place.{Place}
+use Rattle.xml_tree.specs.declared.linked_scope.Place.TheVariants.{Nothing, Outermost, Within}
 
--- the lists of the scope around, and behind them the declarations of an element
+-- the lists of the scope around, then the declarations of an element
 abbrev pub lists_at : Place → List (List Decl)
 lists_at Nothing = []
 lists_at (Outermost scope) = scope.now

@@ -1,10 +1,10 @@
--- How a ghost variable stores a tree: a one-to-one map into pairs and numbers.
+-- How a ghost variable stores a tree: an injective map into pairs and numbers.
 use Rattle.std.specs.Prelude.{◌≡◌, ℕ, List}
 use Rattle.std.specs.Coded.{Coded, code_by, coded×, coded_ℕ, coded_list}
 use Rattle.std.proofs.Common.{arith}
 use mathlib.Core.Path.{refl, ap}
 use base.Stored.{Gv, gnil, gnum, gcons, num}
-use Rattle.xml_tree.specs.Tree.{Content, last, more, note, Tree, tree_of}
+use Rattle.xml_tree.specs.Tree.{Content, last, more, comment_node, Tree, tree_of}
 use Rattle.xml_tree.specs.declared.names.Name.{Name}
 use Rattle.xml_tree.specs.declared.names.Decl.{Decl}
 use Rattle.xml_tree.specs.declared.names.Attr.{Attr}
@@ -41,9 +41,9 @@ abbrev pub content_gv : Content → Gv
 content_gv (last t) = gcons (gnum 0) (text_code.code t)
 content_gv (more t n ds ats c rest) =
     gcons (gnum 1) (gcons (text_code.code t) (gcons (name_code.code n) (gcons (decls_code.code ds) (gcons (attrs_code.code ats) (gcons (content_gv c) (content_gv rest))))))
-content_gv (note t c rest) = gcons (gnum 2) (gcons (text_code.code t) (gcons (text_code.code c) (content_gv rest)))
+content_gv (comment_node t c rest) = gcons (gnum 2) (gcons (text_code.code t) (gcons (text_code.code c) (content_gv rest)))
 
--- the form of a content, as its code tells it
+-- which constructor a content has, by its code
 abbrev pub form : Gv → ℕ
 form g = num (left g)
 
@@ -56,16 +56,16 @@ content_inj (more t n ds ats c rest) (more t' n' ds' ats' c' rest') p = λ i.
     (attrs_code.inj ats ats' (ap (λ g. left (right (right (right (right g))))) p) i)
     (content_inj c c' (ap (λ g. left (right (right (right (right (right g)))))) p) i)
     (content_inj rest rest' (ap (λ g. right (right (right (right (right (right g)))))) p) i)
-content_inj (note t c rest) (note t' c' rest') p = λ i.
-    note (text_code.inj t t' (ap (λ g. left (right g)) p) i)
+content_inj (comment_node t c rest) (comment_node t' c' rest') p = λ i.
+    comment_node (text_code.inj t t' (ap (λ g. left (right g)) p) i)
     (text_code.inj c c' (ap (λ g. left (right (right g))) p) i)
     (content_inj rest rest' (ap (λ g. right (right (right g))) p) i)
 content_inj (last t) (more t' n' ds' ats' c' rest') p = absurd (omega (arith, ap form p))
-content_inj (last t) (note t' c' rest') p = absurd (omega (arith, ap form p))
+content_inj (last t) (comment_node t' c' rest') p = absurd (omega (arith, ap form p))
 content_inj (more t n ds ats c rest) (last u) p = absurd (omega (arith, ap form p))
-content_inj (more t n ds ats c rest) (note t' c' rest') p = absurd (omega (arith, ap form p))
-content_inj (note t c rest) (last u) p = absurd (omega (arith, ap form p))
-content_inj (note t c rest) (more t' n' ds' ats' c' rest') p = absurd (omega (arith, ap form p))
+content_inj (more t n ds ats c rest) (comment_node t' c' rest') p = absurd (omega (arith, ap form p))
+content_inj (comment_node t c rest) (last u) p = absurd (omega (arith, ap form p))
+content_inj (comment_node t c rest) (more t' n' ds' ats' c' rest') p = absurd (omega (arith, ap form p))
 
 abbrev pub content_code : Coded Content
 content_code = record { code = content_gv; inj = content_inj }

@@ -1,8 +1,8 @@
--- The characters of a word, however they are kept.
+-- The characters of a small text, in either representation.
 use Rattle.std.specs.Prelude.{ℕ, List, chars}
-use Rattle.xml_tree.specs.declared.word_bytes.WordBytes.{WordBytes}
-use Rattle.xml_tree.specs.declared.word_bytes.WordBytes.TheVariants.{Short, Long}
+use Rattle.xml_tree.specs.declared.small_text_storage.SmallTextStorage.{SmallTextStorage}
+use Rattle.xml_tree.specs.declared.small_text_storage.SmallTextStorage.TheVariants.{Short, Long}
 
-abbrev pub characters_of : {N : ℕ} → WordBytes N → List ℕ
+abbrev pub characters_of : {N : ℕ} → SmallTextStorage N → List ℕ
 characters_of (Short text) = chars text
 characters_of (Long text) = text.value

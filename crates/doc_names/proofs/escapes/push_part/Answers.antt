@@ -3,4 +3,4 @@ use Rattle.doc_names.proofs.Escaped.{parts_escaped}
 use Rattle.doc_names.proofs.escapes.push_part.Goals as goal
 
 pub returns : goal.returns
-returns c = record { adds_the_part = rw (c.in_ok-append_to.ensures.ok, c.utf8_percent_encode.ensures.text, c.as_str.ensures.bytes_of_the_characters, parts_escaped) refl }
+returns c = record { appended = rw (c.in_ok-append_to.ensures.ok, c.utf8_percent_encode.ensures.text, c.as_str.ensures.utf8_bytes, parts_escaped) refl }

@@ -3,4 +3,4 @@ use Rattle.doc_names.proofs.Escaped.{visible_escaped}
 use Rattle.doc_names.proofs.escapes.push_visible.Goals as goal
 
 pub returns : goal.returns
-returns c = record { adds_the_octets_escaped = rw (c.in_ok-append_to.ensures.ok, c.percent_encode.ensures.text, visible_escaped) refl }
+returns c = record { appended = rw (c.in_ok-append_to.ensures.ok, c.percent_encode.ensures.text, visible_escaped) refl }

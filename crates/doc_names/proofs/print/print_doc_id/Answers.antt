@@ -6,7 +6,7 @@ use Rattle.doc_names.proofs.print.print_doc_id.Goals as goal
 
 pub returns : goal.returns
 returns c = record {
-  prints_the_id =
-      let bytes : string_bytes c.push_part.new.line ≡ id_text c.args.doc.now = rw (c.in_ok-push_part.ensures.adds_the_part, c.in_ok-push_home.ensures.adds_the_segments, c.in_ok-push_auid.ensures.adds_the_name, c.new-line.ensures.bytes, append_assoc) refl in
-      c.own.ensures.holds_the_string ∙ ap chars bytes ∙ id_letters c.args.doc.now;
+  ok =
+      let bytes : string_bytes c.push_part.new.line ≡ id_text c.args.doc.now = rw (c.in_ok-push_part.ensures.appended, c.in_ok-push_home.ensures.appended, c.in_ok-push_auid.ensures.appended, c.new-line.ensures.bytes, append_assoc) refl in
+      c.own.ensures.exact ∙ ap chars bytes ∙ id_letters c.args.doc.now;
 }

@@ -2,4 +2,4 @@ use Rattle.edit_journal.proofs.Wholes.{one_whole}
 use Rattle.edit_journal.proofs.laws.bytes_have_one_list.Goals as goal
 
 pub returns : goal.returns
-returns c = record { one_list_and_one_rest = one_whole }
+returns c = record { one_reading = one_whole }

@@ -6,60 +6,60 @@ use Rattle.edit_journal.proofs.Fields.{body_stops, body_whole, field_stops, fiel
 use Rattle.edit_journal.proofs.Lengths.{field_length}
 use Rattle.edit_journal.proofs.record_fields.+fields_and_body.Goals as goal
 
-pub returns-in_err-block-clause-reads_the_fields_and_the_body : goal.returns-in_err-block-clause-reads_the_fields_and_the_body
-returns-in_err-block-clause-reads_the_fields_and_the_body t c =
+pub returns-in_err-block-clause-reads_rule : goal.returns-in_err-block-clause-reads_rule
+returns-in_err-block-clause-reads_rule t c =
     let seen : List ℕ → List Field × List ℕ = λ body. (drop (length c.args.fields.now) c.args.fields.now, body) in
     stops_with seen (FieldsAndBody c.args.count c.args.left) c.args.bytes.now c.from_residual.result c.in_err-block.field-0.0 c.from_residual.ensures.1
-    (body_stops seen c.args.bytes.now c.args.count c.args.left c.in_err-block.field-0.0 c.if-count-eq0.true c.requires.room c.in_err-block.ensures.reads_the_block)
+    (body_stops seen c.args.bytes.now c.args.count c.args.left c.in_err-block.field-0.0 c.if-count-eq0.true c.requires.room_left c.in_err-block.ensures.reads_rule)
 
-pub returns-then-count-eq0-clause-reads_the_fields_and_the_body : goal.returns-then-count-eq0-clause-reads_the_fields_and_the_body
-returns-then-count-eq0-clause-reads_the_fields_and_the_body t c =
-    let e = c.in_ok-block.ensures.reads_the_block in
-    (e.0, e.1, e.2, body_whole c.args.fields.now c.args.count c.args.left e.0 c.in_ok-block.field-0.now c.in_ok-from.field-0 c.if-count-eq0.true c.requires.room e.3 c.in_ok-from.ensures.copies_the_bytes)
+pub returns-then-count-eq0-clause-reads_rule : goal.returns-then-count-eq0-clause-reads_rule
+returns-then-count-eq0-clause-reads_rule t c =
+    let e = c.in_ok-block.ensures.reads_rule in
+    (e.0, e.1, e.2, body_whole c.args.fields.now c.args.count c.args.left e.0 c.in_ok-block.field-0.now c.in_ok-from.field-0 c.if-count-eq0.true c.requires.room_left e.3 c.in_ok-from.ensures.same_bytes)
 
-pub returns-in_err-field-clause-reads_the_fields_and_the_body : goal.returns-in_err-field-clause-reads_the_fields_and_the_body
-returns-in_err-field-clause-reads_the_fields_and_the_body t c =
+pub returns-in_err-field-clause-reads_rule : goal.returns-in_err-field-clause-reads_rule
+returns-in_err-field-clause-reads_rule t c =
     let some : 0 < c.args.count = omega (arith, c.if-count-eq0.false) in
     let seen : List ℕ → List Field × List ℕ = λ body. (drop (length c.args.fields.now) c.args.fields.now, body) in
     stops_with seen (FieldsAndBody c.args.count c.args.left) c.args.bytes.now c.from_residual-in_err-field.result c.in_err-field.field-0.0 c.from_residual-in_err-field.ensures.1
-    (field_stops seen c.args.bytes.now c.args.count c.args.left c.in_err-field.field-0.0 some c.in_err-field.ensures.reads_the_field)
+    (field_stops seen c.args.bytes.now c.args.count c.args.left c.in_err-field.field-0.0 some c.in_err-field.ensures.reads_rule)
 
 pub overflow_add-used : goal.overflow_add-used
 overflow_add-used t c =
-    let e = c.in_ok-field.ensures.reads_the_field in
-    omega (arith, ap length e.3.0, field_length c.in_ok-field.field, e.3.2, c.requires.left, c.count.ensures.counts_the_characters)
+    let e = c.in_ok-field.ensures.reads_rule in
+    omega (arith, ap length e.3.0, field_length c.in_ok-field.field, e.3.2, c.requires.left_bounded, c.count.ensures.exact)
 
 pub overflow_add-used-2 : goal.overflow_add-used-2
 overflow_add-used-2 t c =
-    let e = c.in_ok-field.ensures.reads_the_field in
-    omega (arith, ap length e.3.0, field_length c.in_ok-field.field, e.3.2, c.requires.left, c.count.ensures.counts_the_characters, c.len.ensures.counts_the_bytes)
+    let e = c.in_ok-field.ensures.reads_rule in
+    omega (arith, ap length e.3.0, field_length c.in_ok-field.field, e.3.2, c.requires.left_bounded, c.count.ensures.exact, c.len.ensures.exact)
 
 pub after-requires : goal.after-requires
 after-requires t c =
-    let e = c.in_ok-field.ensures.reads_the_field in
-    omega (arith, ap length e.3.0, field_length c.in_ok-field.field, ap length e.2, length-append e.0 e.1, c.count.ensures.counts_the_characters, c.len.ensures.counts_the_bytes)
+    let e = c.in_ok-field.ensures.reads_rule in
+    omega (arith, ap length e.3.0, field_length c.in_ok-field.field, ap length e.2, length-append e.0 e.1, c.count.ensures.exact, c.len.ensures.exact)
 
 pub overflow_sub-left-2 : goal.overflow_sub-left-2
 overflow_sub-left-2 t c =
-    let e = c.in_ok-field.ensures.reads_the_field in
-    omega (arith, ap length e.3.0, field_length c.in_ok-field.field, e.3.2, c.count.ensures.counts_the_characters, c.len.ensures.counts_the_bytes)
+    let e = c.in_ok-field.ensures.reads_rule in
+    omega (arith, ap length e.3.0, field_length c.in_ok-field.field, e.3.2, c.count.ensures.exact, c.len.ensures.exact)
 
 pub fields_and_body-requires : goal.fields_and_body-requires
 fields_and_body-requires t c =
-    let e = c.in_ok-field.ensures.reads_the_field in
-    let used : 8 + c.count.result + c.len.result ≡ length e.0 = omega (arith, ap length e.3.0, field_length c.in_ok-field.field, c.count.ensures.counts_the_characters, c.len.ensures.counts_the_bytes) in
+    let e = c.in_ok-field.ensures.reads_rule in
+    let used : 8 + c.count.result + c.len.result ≡ length e.0 = omega (arith, ap length e.3.0, field_length c.in_ok-field.field, c.count.ensures.exact, c.len.ensures.exact) in
     let some : 0 < c.args.count = omega (arith, c.if-count-eq0.false) in
-    (omega (arith, c.decreases), (omega (arith, c.requires.count), (subst (λ (n : ℕ). HasRoom (c.args.count - 1) (c.args.left - n)) (sym used) e.3.3, omega (arith, c.requires.left))))
+    (omega (arith, c.decreases), (omega (arith, c.requires.count_bounded), (subst (λ (n : ℕ). HasRoom (c.args.count - 1) (c.args.left - n)) (sym used) e.3.3, omega (arith, c.requires.left_bounded))))
 
-pub returns-clause-reads_the_fields_and_the_body : goal.returns-clause-reads_the_fields_and_the_body
-returns-clause-reads_the_fields_and_the_body t c =
-    let e = c.in_ok-field.ensures.reads_the_field in
-    let used : 8 + c.count.result + c.len.result ≡ length e.0 = omega (arith, ap length e.3.0, field_length c.in_ok-field.field, c.count.ensures.counts_the_characters, c.len.ensures.counts_the_bytes) in
+pub returns-clause-reads_rule : goal.returns-clause-reads_rule
+returns-clause-reads_rule t c =
+    let e = c.in_ok-field.ensures.reads_rule in
+    let used : 8 + c.count.result + c.len.result ≡ length e.0 = omega (arith, ap length e.3.0, field_length c.in_ok-field.field, c.count.ensures.exact, c.len.ensures.exact) in
     let some : 0 < c.args.count = omega (arith, c.if-count-eq0.false) in
-    let rest : c.after.result.now ≡ e.1 = c.after.ensures.drops_the_first ∙ behind c.args.bytes.now e.0 e.1 (8 + c.count.result + c.len.result) e.2 (sym used) in
+    let rest : c.after.result.now ≡ e.1 = c.after.ensures.exact ∙ behind c.args.bytes.now e.0 e.1 (8 + c.count.result + c.len.result) e.2 (sym used) in
     fields_go_on c.args.fields.now c.push.new.self c.fields_and_body.new.fields c.args.bytes.now e.0 e.1 c.in_ok-field.field c.args.count c.args.left (8 + c.count.result + c.len.result) c.fields_and_body.result some
-    c.requires.left e.2 e.3 used c.in_ok-push.ensures.adds_it_behind c.fields_and_body.ensures.keeps_the_fields_before
-    (subst (λ (l : List ℕ). Reads (λ (body : List ℕ). (drop (length c.push.new.self) c.fields_and_body.new.fields, body)) (FieldsAndBody (c.args.count - 1) (c.args.left - (8 + c.count.result + c.len.result))) l c.fields_and_body.result) rest c.fields_and_body.ensures.reads_the_fields_and_the_body)
+    c.requires.left_bounded e.2 e.3 used c.in_ok-push.ensures.appended c.fields_and_body.ensures.keeps_prefix
+    (subst (λ (l : List ℕ). Reads (λ (body : List ℕ). (drop (length c.push.new.self) c.fields_and_body.new.fields, body)) (FieldsAndBody (c.args.count - 1) (c.args.left - (8 + c.count.result + c.len.result))) l c.fields_and_body.result) rest c.fields_and_body.ensures.reads_rule)
 
-pub returns-clause-keeps_the_fields_before : goal.returns-clause-keeps_the_fields_before
-returns-clause-keeps_the_fields_before t c = fields_grow c.args.fields.now c.push.new.self c.fields_and_body.new.fields c.in_ok-field.field c.fields_and_body.result c.in_ok-push.ensures.adds_it_behind c.fields_and_body.ensures.keeps_the_fields_before
+pub returns-clause-keeps_prefix : goal.returns-clause-keeps_prefix
+returns-clause-keeps_prefix t c = fields_grow c.args.fields.now c.push.new.self c.fields_and_body.new.fields c.in_ok-field.field c.fields_and_body.result c.in_ok-push.ensures.appended c.fields_and_body.ensures.keeps_prefix

@@ -7,11 +7,11 @@ use Rattle.edit_journal.proofs.records.content_of.Goals as goal
 pub put_block-requires : goal.put_block-requires
 put_block-requires c =
     let request = c.args.request.now in
-    omega (arith, content_length request, c.requires.short, ap length c.as_slice.ensures.lends_the_bytes)
+    omega (arith, content_length request, c.requires.short, ap length c.as_slice.ensures.exact)
 
 pub put_fields-requires : goal.put_fields-requires
 put_fields-requires c =
     let request = c.args.request.now in
     let size = content_length request in
-    subst (λ (l : List Field). All IsWritable l) (sym c.as_slice-fields.ensures.lends_the_items)
+    subst (λ (l : List Field). All IsWritable l) (sym c.as_slice-fields.ensures.exact)
     (fields_writable request.fields c.requires.names (omega (arith, c.requires.short)))

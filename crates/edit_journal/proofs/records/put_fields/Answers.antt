@@ -10,7 +10,7 @@ fields-preserved c =
     let fields = c.args.fields.now in
     let at = c.fields.field-index in
     let before = flat_map field_text (take at fields) in
-    c.in_ok-put_field.ensures.adds_the_field_behind
+    c.in_ok-put_field.ensures.appended
     ∙ ap (λ (l : List ℕ). l ++ field_text item) c.fields.invariant
     ∙ append_assoc c.args.made.now before (field_text item)
     ∙ ap (λ (f : Field). c.args.made.now ++ (before ++ field_text f)) c.field-item.is

@@ -7,23 +7,23 @@ use Rattle.edit_ops.proofs.lengths.printed_len_after.Goals as goal
 pub unreachable-requires : goal.unreachable-requires
 unreachable-requires c =
     let root = c.args.root.now in
-    site_missing root c.args.change.now c.requires.fits (ap (λ p. at p root) (sym c.site_of.ensures.place_of_the_change) ∙ sym (c.in_default.ensures {u = tt}).element_at_the_path)
+    site_missing root c.args.change.now c.requires.fits (ap (λ p. at p root) (sym c.site_of.ensures.exact) ∙ sym (c.in_default.ensures {u = tt}).exact)
 
 pub lost_len-requires : goal.lost_len-requires
 lost_len-requires c =
     let root = c.args.root.now in
-    fits_at root c.in-Some.element.now c.args.change.now c.requires.fits (ap (λ p. at p root) (sym c.site_of.ensures.place_of_the_change) ∙ sym c.in-Some.ensures.element_at_the_path)
+    fits_at root c.in-Some.element.now c.args.change.now c.requires.fits (ap (λ p. at p root) (sym c.site_of.ensures.exact) ∙ sym c.in-Some.ensures.exact)
 
 pub overflow_sub-len : goal.overflow_sub-len
 overflow_sub-len c =
     let root = c.args.root.now in let change = c.args.change.now in let e = c.in-Some.element.now in
-    let there = ap (λ p. at p root) (sym c.site_of.ensures.place_of_the_change) ∙ sym c.in-Some.ensures.element_at_the_path in
+    let there = ap (λ p. at p root) (sym c.site_of.ensures.exact) ∙ sym c.in-Some.ensures.exact in
     let after = len_after root e change there (fits_at root e change c.requires.fits there) in
-    omega (arith, after.1, c.requires.len, c.lost_len.ensures.counts_what_is_lost)
+    omega (arith, after.1, c.requires.length_exact, c.lost_len.ensures.exact)
 
 pub returns : goal.returns
 returns c =
     let root = c.args.root.now in let change = c.args.change.now in let e = c.in-Some.element.now in
-    let there = ap (λ p. at p root) (sym c.site_of.ensures.place_of_the_change) ∙ sym c.in-Some.ensures.element_at_the_path in
+    let there = ap (λ p. at p root) (sym c.site_of.ensures.exact) ∙ sym c.in-Some.ensures.exact in
     let after = len_after root e change there (fits_at root e change c.requires.fits there) in
-    omega (arith, after.0, after.1, c.requires.len, c.lost_len.ensures.counts_what_is_lost, c.brought_len.ensures.counts_what_is_brought)
+    omega (arith, after.0, after.1, c.requires.length_exact, c.lost_len.ensures.exact, c.inserted_len.ensures.exact)

@@ -3,10 +3,10 @@ use Rattle.edit_plans.proofs.Judging.{true_false}
 use Rattle.edit_plans.proofs.siblings.is_marked.Goals as goal
 
 pub returns-then-is_left_out : goal.returns-then-is_left_out
-returns-then-is_left_out c = record { tells_whether_it_is_marked = (λ h. absurd (true_false false h refl), λ h. absurd (h.0 (c.is_left_out.ensures.tells_whether_it_is_left_out.0 c.if-is_left_out.true))) }
+returns-then-is_left_out c = record { exact = (λ h. absurd (true_false false h refl), λ h. absurd (h.0 (c.is_left_out.ensures.exact.0 c.if-is_left_out.true))) }
 
 pub returns : goal.returns
 returns c = record {
-  tells_whether_it_is_marked =
-      (λ h. ((λ e. true_false c.is_left_out.result (c.is_left_out.ensures.tells_whether_it_is_left_out.1 e) c.if-is_left_out.false), c.has_mark.ensures.tells_whether_it_has_the_mark.0 h), λ h. c.has_mark.ensures.tells_whether_it_has_the_mark.1 h.1);
+  exact =
+      (λ h. ((λ e. true_false c.is_left_out.result (c.is_left_out.ensures.exact.1 e) c.if-is_left_out.false), c.has_mark.ensures.exact.0 h), λ h. c.has_mark.ensures.exact.1 h.1);
 }

@@ -1,11 +1,11 @@
-use Rattle.element_watch.specs.inner.Seen.{state_in}
+use Rattle.element_watch.specs.inner.ElementStates.{state_in}
 use Rattle.element_watch.proofs.States.{one_notice, one_state, some_notice, state_is}
 use Rattle.element_watch.proofs.laws.each_element_has_one_notice.Goals as goal
 
 pub returns : goal.returns
 returns c = record {
-  there_is_a_state = λ u t selector ns. (state_in u t selector ns, state_is u t selector ns);
+  state_exists = λ u t selector ns. (state_in u t selector ns, state_is u t selector ns);
   states_are_one = one_state;
-  there_is_a_notice = some_notice;
+  notice_exists = some_notice;
   notices_are_one = one_notice;
 }

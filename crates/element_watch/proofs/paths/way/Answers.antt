@@ -1,14 +1,14 @@
 use Rattle.element_watch.proofs.Ways.{left_fits, left_is, left_whole}
 use Rattle.element_watch.proofs.paths.way.Goals as goal
 
-pub returns-clause-rest_behind_the_place : goal.returns-clause-rest_behind_the_place
-returns-clause-rest_behind_the_place c =
-    left_is (λ x. x.now) c.numbers-2.result.now c.numbers.result.now c.args.place.now c.args.path.now c.numbers-2.ensures.lends_the_numbers c.numbers.ensures.lends_the_numbers c.strip_prefix.result c.strip_prefix.ensures.cases
+pub returns-clause-exact : goal.returns-clause-exact
+returns-clause-exact c =
+    left_is (λ x. x.now) c.numbers-2.result.now c.numbers.result.now c.args.place.now c.args.path.now c.numbers-2.ensures.exact c.numbers.ensures.exact c.strip_prefix.result c.strip_prefix.ensures.cases
 
-pub returns-clause-way_completes_the_path : goal.returns-clause-way_completes_the_path
-returns-clause-way_completes_the_path c =
-    left_whole (λ x. x.now) c.numbers-2.result.now c.numbers.result.now c.args.place.now c.args.path.now c.numbers-2.ensures.lends_the_numbers c.numbers.ensures.lends_the_numbers c.strip_prefix.result c.strip_prefix.ensures.cases
+pub returns-clause-completes_path : goal.returns-clause-completes_path
+returns-clause-completes_path c =
+    left_whole (λ x. x.now) c.numbers-2.result.now c.numbers.result.now c.args.place.now c.args.path.now c.numbers-2.ensures.exact c.numbers.ensures.exact c.strip_prefix.result c.strip_prefix.ensures.cases
 
 pub returns-clause-path_still_fits : goal.returns-clause-path_still_fits
 returns-clause-path_still_fits c =
-    left_fits (λ x. x.now) c.numbers-2.result.now c.numbers.result.now c.args.place.now c.args.path.now c.numbers-2.ensures.lends_the_numbers c.numbers.ensures.lends_the_numbers c.strip_prefix.result c.numbers.ensures.path_is_short c.strip_prefix.ensures.cases
+    left_fits (λ x. x.now) c.numbers-2.result.now c.numbers.result.now c.args.place.now c.args.path.now c.numbers-2.ensures.exact c.numbers.ensures.exact c.strip_prefix.result c.numbers.ensures.path_is_short c.strip_prefix.ensures.cases

@@ -4,4 +4,4 @@ use Rattle.std.proofs.lemmas.Str.{chars-nil}
 use Rattle.http_wire.proofs.request.token_text.Goals as goal
 
 pub token-init : goal.token-init
-token-init c = c.own-text.ensures.holds_the_string ∙ ap chars c.new.ensures.bytes ∙ chars-nil
+token-init c = c.own-text.ensures.exact ∙ ap chars c.new.ensures.bytes ∙ chars-nil

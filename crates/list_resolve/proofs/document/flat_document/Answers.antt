@@ -5,14 +5,14 @@ use Rattle.list_resolve.proofs.document.flat_document.Goals as goal
 
 pub returns-then-len-gt-DOCUMENT_LIMIT : goal.returns-then-len-gt-DOCUMENT_LIMIT
 returns-then-len-gt-DOCUMENT_LIMIT c = record {
-  document_of_the_list =
-      sym (too_large c.args.uris.now c.in_ok-root.root c.document_len-len.result c.in_ok-root.ensures.root_with_the_list c.document_len-len.ensures.counts_the_printed_document c.if-len-gt-DOCUMENT_LIMIT.true);
+  list_document =
+      sym (too_large c.args.uris.now c.in_ok-root.root c.document_len-len.result c.in_ok-root.ensures.ok c.document_len-len.ensures.exact c.if-len-gt-DOCUMENT_LIMIT.true);
 }
 
 pub returns : goal.returns
 returns c = record {
-  document_of_the_list =
+  list_document =
       let few = c.if-len-gt-DOCUMENT_LIMIT.false in
       let le : c.document_len-len.result ≤ DOCUMENT_LIMIT = omega arith in
-      not_too_large c.args.uris.now c.in_ok-root.root c.document_len-len.result c.in_ok-root.ensures.root_with_the_list c.document_len-len.ensures.counts_the_printed_document le;
+      not_too_large c.args.uris.now c.in_ok-root.root c.document_len-len.result c.in_ok-root.ensures.ok c.document_len-len.ensures.exact le;
 }

@@ -3,4 +3,4 @@ use Rattle.xml_tree.proofs.Letters.{bytes_eq-chars}
 use Rattle.list_resolve.proofs.flat.is_same_text.Goals as goal
 
 pub returns : goal.returns
-returns c = record { tells_equal_texts = c.eq.ensures ∙ bytes_eq-chars c.args.a.now c.args.b.now c.utf8.a c.utf8.b }
+returns c = record { exact = c.eq.ensures ∙ bytes_eq-chars c.args.a.now c.args.b.now c.utf8.a c.utf8.b }

@@ -5,4 +5,4 @@ use Rattle.list_resolve.proofs.reference.text_inside.Goals as goal
 pub loop-node-init : goal.loop-node-init
 loop-node-init c =
     ap (λ xs. xs ++ nodes_text c.nodes-node-items.result.now) c.no_text-inside.ensures.holds_no_characters
-    ∙ all_text c.nodes-node-items.result.now c.args.element.now.content c.nodes-node-items.ensures.content_of_the_nodes
+    ∙ all_text c.nodes-node-items.result.now c.args.element.now.content c.nodes-node-items.ensures.nodes_content

@@ -1,18 +1,19 @@
 use Rattle.std.proofs.Common.{◌≡◌, ◌*◌, ◌+◌, drop}
 use Rattle.xml_tree.specs.Tree.{height}
-use Rattle.list_resolve.specs.Walks.{walk_behind, walked}
+use Rattle.list_resolve.specs.Walks.{walk_after, walked}
 use Rattle.list_resolve.specs.inner.Gathering.{with_items}
-use Rattle.list_resolve.specs.inner.Passing.{IsSound, leads_in}
-use Rattle.list_resolve.specs.inner.Views.{ground_in}
+use Rattle.list_resolve.specs.inner.SkippedElements.{IsSound, reference_resolved_in}
+use Rattle.list_resolve.specs.inner.Views.{context_in}
 use Rattle.list_resolve.proofs.Walks.{nodes_items}
 use Rattle.list_resolve.proofs.walk.+walk.Given as goal
 
--- by how many elements may still be added to the chain, then by height, which is at most `MAX_LEVELS` where a reference leads to
+-- by how many elements may still be added to the chain, then by height, which is at most
+-- `MAX_LEVELS` where a reference leads to
 abbrev pub decreases-walk_inside : goal.decreases-walk_inside
 decreases-walk_inside l = 300 * l.left + 3 * height l.element.now
 
-abbrev pub decreases-walk_kid : goal.decreases-walk_kid
-decreases-walk_kid l = 300 * l.left + 3 * height l.kid.now + 2
+abbrev pub decreases-walk_child_element : goal.decreases-walk_child_element
+decreases-walk_child_element l = 300 * l.left + 3 * height l.child_element.now + 2
 
 abbrev pub decreases-walk_element : goal.decreases-walk_element
 decreases-walk_element l = 300 * l.left + 3 * height l.element.now + 1
@@ -20,8 +21,8 @@ decreases-walk_element l = 300 * l.left + 3 * height l.element.now + 1
 abbrev pub decreases-walk_reference : goal.decreases-walk_reference
 decreases-walk_reference l = 300 * l.left + 3 * height l.element.now
 
-abbrev pub decreases-walk_behind : goal.decreases-walk_behind
-decreases-walk_behind l = 300 * l.left + 2
+abbrev pub decreases-walk_after : goal.decreases-walk_after
+decreases-walk_after l = 300 * l.left + 2
 
 abbrev pub decreases-walk_lead : goal.decreases-walk_lead
 decreases-walk_lead l = 300 * l.left + 299
@@ -35,7 +36,7 @@ decreases-walk_longer l = 300 * l.left + 297
 abbrev pub invariant-walk_inside-loop-node : goal.invariant-walk_inside-loop-node
 invariant-walk_inside-loop-node l =
     record {
-      gathered : with_items l.gatherer.tally (nodes_items (walk_behind (leads_in (ground_in l.ground)) l.ground.root.now l.left l.chain) l.ground.root.now l.row l.scope (drop l.node-index l.node-items))
-          ≡ with_items l.initial.gatherer.tally (walked (walk_behind (leads_in (ground_in l.ground)) l.ground.root.now l.left l.chain) l.ground.root.now l.row l.scope l.element.content);
-      sound : IsSound (ground_in l.ground) l.gatherer;
+      gathered : with_items l.collector.tally (nodes_items (walk_after (reference_resolved_in (context_in l.ground)) l.ground.root.now l.left l.chain) l.ground.root.now l.row l.scope (drop l.node-index l.node-items))
+          ≡ with_items l.initial.collector.tally (walked (walk_after (reference_resolved_in (context_in l.ground)) l.ground.root.now l.left l.chain) l.ground.root.now l.row l.scope l.element.content);
+      sound : IsSound (context_in l.ground) l.collector;
     }

@@ -4,8 +4,8 @@ use Rattle.node_select.proofs.laws.paths.Goals as goal
 
 pub returns : goal.returns
 returns g = record {
-  computed_path_is_the_selected_one = path_is;
-  selected_path_is_one = one_path;
-  selected_place_is_there = path_there;
-  last_step_selects_by_itself = λ first steps step root p i. (last_step_to first steps step root p i, last_step_from first steps step root p i);
+  computed_is_selected = path_is;
+  one_path = one_path;
+  path_exists = path_there;
+  last_step_alone = λ first steps step root p i. (last_step_to first steps step root p i, last_step_from first steps step root p i);
 }

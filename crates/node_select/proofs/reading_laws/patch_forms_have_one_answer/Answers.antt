@@ -3,6 +3,6 @@ use Rattle.node_select.proofs.reading_laws.patch_forms_have_one_answer.Goals as 
 
 pub returns : goal.returns
 returns c = record {
-  what_is_read_is_the_answer = form_answer;
-  there_is_no_other = one_form;
+  answer_is_exact = form_answer;
+  at_most_one = one_form;
 }

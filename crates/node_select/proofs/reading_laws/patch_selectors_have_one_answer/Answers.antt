@@ -3,6 +3,6 @@ use Rattle.node_select.proofs.reading_laws.patch_selectors_have_one_answer.Goals
 
 pub returns : goal.returns
 returns c = record {
-  what_is_read_is_the_answer = patch_selector_answer;
-  there_is_no_other = one_patch_selector;
+  answer_is_exact = patch_selector_answer;
+  at_most_one = one_patch_selector;
 }

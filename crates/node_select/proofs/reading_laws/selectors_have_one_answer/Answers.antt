@@ -3,6 +3,6 @@ use Rattle.node_select.proofs.reading_laws.selectors_have_one_answer.Goals as go
 
 pub returns : goal.returns
 returns c = record {
-  what_is_read_is_the_answer = selector_answer;
-  there_is_no_other = one_selector;
+  answer_is_exact = selector_answer;
+  at_most_one = one_selector;
 }

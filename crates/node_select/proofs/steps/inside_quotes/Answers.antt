@@ -17,19 +17,19 @@ pub loop-init : goal.loop-init
 loop-init c = record {
   utf8 = search rules;
   left =
-      let first : c.push_str.new.self ≡ (chars c.raw_run.result.0.now) = c.in_ok-push_str.ensures.adds_the_characters ∙ ap (λ (z : List ℕ). z ++ (chars c.raw_run.result.0.now)) c.no_text-value.ensures.holds_no_characters in
+      let first : c.push_str.new.self ≡ (chars c.raw_run.result.0.now) = c.in_ok-push_str.ensures.appends_chars ∙ ap (λ (z : List ℕ). z ++ (chars c.raw_run.result.0.now)) c.no_text-value.ensures.holds_no_characters in
       let left = c.raw_run.result.1.now in
       let text : shadow (Utf8 left) = search rules in
       let all : length left - 0 ≡ length (encode_utf8_all (chars left)) = omega (arith, ap length (encodes-chars left text)) in
-      rw (first, all) (start reference_follows (read_raw c.args.quote) read_reference literal_value (chars c.args.text.now) (chars c.raw_run.result.1.now) (chars c.raw_run.result.0.now) c.raw_run.ensures.reads_the_raw_ones_of_a_value);
+      rw (first, all) (start reference_follows (read_raw c.args.quote) read_reference literal_value (chars c.args.text.now) (chars c.raw_run.result.1.now) (chars c.raw_run.result.0.now) c.raw_run.ensures.reads_rule);
 }
 
 pub returns-in_err-c : goal.returns-in_err-c
 returns-in_err-c c = record {
-  reads_up_to_the_quote =
+  reads_rule =
       let p = err_from_is_err_and c.from_residual-in_err-c.result c.from_residual-in_err-c.ensures.1 in
-      rw (p.1, p.2) (ends reference_follows (read_piece c.args.quote) value_with c.in_err-c.field-0.0 c.loop.value _ c.loop.counter (chars c.loop.rest.now) (read_inside_quotes c.args.quote (chars c.args.text.now)) c.loop-test.true (sym c.reference_follows.ensures.tells_whether_a_reference_follows ∙ c.if-not-reference_follows.false)
-      (first_stops read_reference (λ _. read_raw c.args.quote) (chars c.loop.rest.now) c.in_err-c.field-0.0 c.in_err-c.ensures.reads_a_reference) c.loop.invariant.left);
+      rw (p.1, p.2) (ends reference_follows (read_piece c.args.quote) value_with c.in_err-c.field-0.0 c.loop.value _ c.loop.counter (chars c.loop.rest.now) (read_inside_quotes c.args.quote (chars c.args.text.now)) c.loop-test.true (sym c.reference_follows.ensures.exact ∙ c.if-not-reference_follows.false)
+      (first_stops read_reference (λ _. read_raw c.args.quote) (chars c.loop.rest.now) c.in_err-c.field-0.0 c.in_err-c.ensures.reads_rule) c.loop.invariant.left);
 }
 
 join : (front : List ℕ) (x : ℕ) (cs : List ℕ) (pieces : List (ℕ × List ℕ)) → front ++ (x ∷ (cs ++ more_plain pieces)) ≡ (front ++ (x ∷ cs)) ++ more_plain pieces
@@ -39,8 +39,8 @@ pub loop-preserved : goal.loop-preserved
 loop-preserved c = record {
   utf8 = search rules;
   left =
-      rw c.in_ok-push_piece.ensures.adds_the_piece (goes_on reference_follows (read_piece c.args.quote) value_with c.loop.value (c.loop.value ++ (c.in_ok-c.c ∷ (chars c.raw_run-in-loop.result.0.now))) _ c.loop.counter (chars c.loop.rest.now) (chars c.raw_run-in-loop.result.1.now) (c.in_ok-c.c, (chars c.raw_run-in-loop.result.0.now)) (read_inside_quotes c.args.quote (chars c.args.text.now)) c.loop-test.true (sym c.reference_follows.ensures.tells_whether_a_reference_follows ∙ c.if-not-reference_follows.false)
-      (both_ok read_reference (λ _. read_raw c.args.quote) (chars c.loop.rest.now) (chars c.in_ok-c.after.now) (chars c.raw_run-in-loop.result.1.now) c.in_ok-c.c (chars c.raw_run-in-loop.result.0.now) c.in_ok-c.ensures.reads_a_reference c.raw_run-in-loop.ensures.reads_the_raw_ones_of_a_value)
+      rw c.in_ok-push_piece.ensures.appended (goes_on reference_follows (read_piece c.args.quote) value_with c.loop.value (c.loop.value ++ (c.in_ok-c.c ∷ (chars c.raw_run-in-loop.result.0.now))) _ c.loop.counter (chars c.loop.rest.now) (chars c.raw_run-in-loop.result.1.now) (c.in_ok-c.c, (chars c.raw_run-in-loop.result.0.now)) (read_inside_quotes c.args.quote (chars c.args.text.now)) c.loop-test.true (sym c.reference_follows.ensures.exact ∙ c.if-not-reference_follows.false)
+      (both_ok read_reference (λ _. read_raw c.args.quote) (chars c.loop.rest.now) (chars c.in_ok-c.after.now) (chars c.raw_run-in-loop.result.1.now) c.in_ok-c.c (chars c.raw_run-in-loop.result.0.now) c.in_ok-c.ensures.reads_rule c.raw_run-in-loop.ensures.reads_rule)
       (λ xs. join c.loop.value c.in_ok-c.c (chars c.raw_run-in-loop.result.0.now) xs) c.loop.invariant.left);
 }
 
@@ -49,8 +49,8 @@ none_more front = append-nil front
 
 pub returns : goal.returns
 returns c = record {
-  reads_up_to_the_quote = elim c.loop-test.branch [
+  reads_rule = elim c.loop-test.branch [
     | else-loop-test w ↦ rw (none_more c.loop.value) at (is_done reference_follows (read_piece c.args.quote) value_with c.loop.value _ c.loop.counter (chars c.loop.rest.now) (read_inside_quotes c.args.quote (chars c.args.text.now)) w.loop-test.false c.loop.invariant.left)
-    | then-loop-test+then-not-reference_follows w ↦ rw (none_more c.loop.value) at (is_stopped reference_follows (read_piece c.args.quote) value_with c.loop.value _ c.loop.counter (chars c.loop.rest.now) (read_inside_quotes c.args.quote (chars c.args.text.now)) (sym w.reference_follows.ensures.tells_whether_a_reference_follows ∙ w.if-not-reference_follows.true) c.loop.invariant.left)
+    | then-loop-test+then-not-reference_follows w ↦ rw (none_more c.loop.value) at (is_stopped reference_follows (read_piece c.args.quote) value_with c.loop.value _ c.loop.counter (chars c.loop.rest.now) (read_inside_quotes c.args.quote (chars c.args.text.now)) (sym w.reference_follows.ensures.exact ∙ w.if-not-reference_follows.true) c.loop.invariant.left)
   ];
 }

@@ -1,7 +1,7 @@
 use Rattle.std.proofs.Common.{◌≡◌, ◌-◌, chars}
 use denote.Text.{Utf8}
 use denote.Shadow.{shadow}
-use Rattle.grammar_rules.specs.readers.Functions.{read_at_most}
+use Rattle.xml_grammar.specs.readers.Functions.{read_at_most}
 use Rattle.tree_text.specs.readers.Texts.{reference_follows}
 use Rattle.tree_text.proofs.Loops.{finish}
 use Rattle.tree_text.specs.readers.Members.{read_piece}

@@ -1,8 +1,8 @@
 use Rattle.std.proofs.Common.{◌≡◌, ◌≤◌, chars, length}
 use denote.Text.{Utf8}
 use denote.Shadow.{shadow}
-use Rattle.grammar_rules.specs.Digits.{decimal_digits}
-use Rattle.grammar_rules.specs.Rules.{number_from}
+use Rattle.xml_grammar.specs.Digits.{decimal_digits}
+use Rattle.xml_grammar.specs.Rules.{number_from}
 use Rattle.node_select.specs.Grammar.{greatest_position}
 use Rattle.node_select.proofs.steps.position_value.Given as goal
 

@@ -7,14 +7,14 @@ use Rattle.patch_apply.proofs.attributes.remove_attr.Goals as goal
 
 pub returns-then-not-is_bare : goal.returns-then-not-is_bare
 returns-then-not-is_bare c = record {
-  by_the_words = take_not c.args.path.now c.args.place c.args.operation.now.content c.args.tree (sym c.is_bare.ensures.tells_whether_it_is_bare ∙ c.if-not-is_bare.true);
+  as_specified = take_not c.args.path.now c.args.place c.args.operation.now.content c.args.tree (sym c.is_bare.ensures.exact ∙ c.if-not-is_bare.true);
 }
 
 pub returns : goal.returns
 returns c = record {
-  by_the_words =
+  as_specified =
       let p = c.args.path.now in let t = c.args.tree in
-      take_made p c.args.operation.now.content t (some_if (at p t) _ c.requires.there) c.requires.low c.args.place
-      (sym c.is_bare.ensures.tells_whether_it_is_bare ∙ c.if-not-is_bare.false)
-      ∙ ap Ok (sym c.take_at.ensures.takes_it_out);
+      take_made p c.args.operation.now.content t (some_if (at p t) _ c.requires.place_exists) c.requires.height_bounded c.args.place
+      (sym c.is_bare.ensures.exact ∙ c.if-not-is_bare.false)
+      ∙ ap Ok (sym c.take_at.ensures.tree_changed);
 }

@@ -10,15 +10,15 @@ use Rattle.patch_apply.proofs.attributes.replace_text.Goals as goal
 
 pub returns-in_default : goal.returns-in_default
 returns-in_default c = record {
-  by_the_words = λ scope. text_none scope c.args.path.now c.args.place c.args.operation.now.content c.args.tree (sym c.in_ok-found.ensures.value_that_stands_there ∙ c.in_default.is);
+  as_specified = λ scope. text_none scope c.args.path.now c.args.place c.args.operation.now.content c.args.tree (sym c.in_ok-found.ensures.ok ∙ c.in_default.is);
 }
 
 pub returns : goal.returns
 returns c = record {
-  by_the_words = λ scope.
+  as_specified = λ scope.
       let p = c.args.path.now in let i = c.args.place in let t = c.args.tree in
-      text_made p c.args.operation.now.content t (some_if (at p t) _ c.requires.there) c.requires.low scope i c.in-Some.value
-      (sym c.in_ok-found.ensures.value_that_stands_there ∙ c.in-Some.is)
-      ∙ ap (λ (ns : List Node). Ok (change_at p (exchange_nodes i (suc i) ns) t)) (sym c.in_ok-nodes.ensures.text_as_a_node)
-      ∙ ap Ok (sym c.in_ok-exchange_one.ensures.exchanges_it);
+      text_made p c.args.operation.now.content t (some_if (at p t) _ c.requires.place_exists) c.requires.height_bounded scope i c.in-Some.value
+      (sym c.in_ok-found.ensures.ok ∙ c.in-Some.is)
+      ∙ ap (λ (ns : List Node). Ok (change_at p (exchange_nodes i (suc i) ns) t)) (sym c.in_ok-nodes.ensures.ok)
+      ∙ ap Ok (sym c.in_ok-exchange_one.ensures.ok);
 }

@@ -2,12 +2,12 @@ use Rattle.std.proofs.Common.{◌<◌, length, sym, subst, ap, ◌∙◌}
 use Rattle.xml_tree.specs.Attributes.{with_value}
 use Rattle.xml_tree.specs.Tree.{Tree, at}
 use Rattle.xml_tree.proofs.PathLemmas.{from_there, made_at}
-use Rattle.patch_words.specs.Applied.{with_attrs}
+use Rattle.patch_rules.specs.PatchOperations.{with_attrs}
 use Rattle.patch_apply.proofs.Depths.{some_if}
 use Rattle.patch_apply.proofs.attributes.write_at.Goals as goal
 
-pub edit_at-requires-clause-there : goal.edit_at-requires-clause-there
-edit_at-requires-clause-there c = some_if (at c.args.path.now c.args.tree.now) _ c.requires
+pub edit_at-requires-clause-place_exists : goal.edit_at-requires-clause-place_exists
+edit_at-requires-clause-place_exists c = some_if (at c.args.path.now c.args.tree.now) _ c.requires
 
 pub edit_at-requires-clause-callable : goal.edit_at-requires-clause-callable
 edit_at-requires-clause-callable c = λ e is p shows.
@@ -15,7 +15,7 @@ edit_at-requires-clause-callable c = λ e is p shows.
 
 pub returns : goal.returns
 returns c = record {
-  writes_it =
-      let done = c.edit_at.ensures.edits_the_element_there in let f = with_attrs (with_value c.args.place c.args.value) in
+  tree_changed =
+      let done = c.edit_at.ensures.edits_element in let f = with_attrs (with_value c.args.place c.args.value) in
       made_at c.args.path.now f done.here done.left c.args.tree.now c.edit_at.new.self done.there (sym done.edits.leaves ∙ done.edits.met ∙ ap f done.edits.shows) done.put;
 }

@@ -1,6 +1,6 @@
 use Rattle.std.proofs.Common.{◌≡◌, drop, map}
 use Rattle.std.specs.List.{list_all}
-use Rattle.patch_words.specs.Replay.{is_document}
+use Rattle.patch_rules.specs.Replay.{is_document}
 use Rattle.patch_apply.proofs.documents.are_documents.Given as goal
 
 abbrev pub invariant-loop-document : goal.invariant-loop-document

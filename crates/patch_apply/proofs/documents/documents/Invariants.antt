@@ -1,8 +1,8 @@
 use Rattle.std.proofs.Common.{◌≡◌, ◌++◌, codes, drop, filter, map}
 use Rattle.xml_tree.specs.Nodes.{content_of}
-use Rattle.xml_tree.specs.Tree.{kids}
-use Rattle.patch_words.specs.Replay.{is_called}
+use Rattle.xml_tree.specs.Tree.{child_elements}
+use Rattle.patch_rules.specs.Replay.{has_diff_name}
 use Rattle.patch_apply.proofs.documents.documents.Given as goal
 
 abbrev pub invariant-loop-node : goal.invariant-loop-node
-invariant-loop-node l = map (λ x. x.now) l.all.items ++ filter (is_called l.scope (codes "document")) (kids (content_of (drop l.node-index l.node-items))) ≡ filter (is_called l.scope (codes "document")) (kids (content_of l.node-items))
+invariant-loop-node l = map (λ x. x.now) l.all.items ++ filter (has_diff_name l.scope (codes "document")) (child_elements (content_of (drop l.node-index l.node-items))) ≡ filter (has_diff_name l.scope (codes "document")) (child_elements (content_of l.node-items))

@@ -7,31 +7,31 @@ use Rattle.patch_apply.proofs.elements.replace_element.Goals as goal
 
 pub returns-in_default : goal.returns-in_default
 returns-in_default c = record {
-  by_the_words = replace_none c.args.here.now c.args.path.now c.args.operation.now.content c.args.tree (sym (c.in_default.ensures {u = tt}).one_element_of_the_content);
+  as_specified = replace_none c.args.here.now c.args.path.now c.args.operation.now.content c.args.tree (sym (c.in_default.ensures {u = tt}).exact);
 }
 
 pub returns-then-not-may_stand : goal.returns-then-not-may_stand
 returns-then-not-may_stand c = record {
-  by_the_words =
-      element_deep c.args.here.now c.args.path.now c.in-Some.new.now c.args.operation.now.content c.args.tree c.requires.there c.requires.low
-      (sym (c.in-Some.ensures {u = tt}).one_element_of_the_content) (sym c.may_stand.ensures.tells_whether_it_fits ∙ c.if-not-may_stand.true);
+  as_specified =
+      element_deep c.args.here.now c.args.path.now c.in-Some.new.now c.args.operation.now.content c.args.tree c.requires.place_exists c.requires.height_bounded
+      (sym (c.in-Some.ensures {u = tt}).exact) (sym c.may_stand.ensures.exact ∙ c.if-not-may_stand.true);
 }
 
 pub returns-then-not-alike_around : goal.returns-then-not-alike_around
 returns-then-not-alike_around c = record {
-  by_the_words =
-      element_unlike c.args.here.now c.args.path.now c.in-Some.new.now c.args.operation.now.content c.args.tree c.requires.there c.requires.low
-      (sym (c.in-Some.ensures {u = tt}).one_element_of_the_content) (sym c.may_stand.ensures.tells_whether_it_fits ∙ c.if-not-may_stand.false)
-      (sym c.alike_around.ensures.tells_whether_they_mean_the_same ∙ c.if-not-alike_around.true);
+  as_specified =
+      element_unlike c.args.here.now c.args.path.now c.in-Some.new.now c.args.operation.now.content c.args.tree c.requires.place_exists c.requires.height_bounded
+      (sym (c.in-Some.ensures {u = tt}).exact) (sym c.may_stand.ensures.exact ∙ c.if-not-may_stand.false)
+      (sym c.alike_around.ensures.exact ∙ c.if-not-alike_around.true);
 }
 
 pub returns : goal.returns
 returns c = record {
-  by_the_words =
+  as_specified =
       let p = c.args.path.now in let t = c.args.tree in
-      element_made c.args.here.now p c.in-Some.new.now c.args.operation.now.content t c.requires.there c.requires.low
-      (sym (c.in-Some.ensures {u = tt}).one_element_of_the_content) (sym c.may_stand.ensures.tells_whether_it_fits ∙ c.if-not-may_stand.false)
-      (sym c.alike_around.ensures.tells_whether_they_mean_the_same ∙ c.if-not-alike_around.false)
-      ∙ ap (λ (e : Tree). Ok (put_over p e t)) (sym c.in_ok-copy.ensures.makes_an_equal_tree)
-      ∙ ap Ok (sym c.put_over-old.ensures.element_is_exchanged);
+      element_made c.args.here.now p c.in-Some.new.now c.args.operation.now.content t c.requires.place_exists c.requires.height_bounded
+      (sym (c.in-Some.ensures {u = tt}).exact) (sym c.may_stand.ensures.exact ∙ c.if-not-may_stand.false)
+      (sym c.alike_around.ensures.exact ∙ c.if-not-alike_around.false)
+      ∙ ap (λ (e : Tree). Ok (put_over p e t)) (sym c.in_ok-copy.ensures.equal_copy)
+      ∙ ap Ok (sym c.put_over-old.ensures.element_replaced);
 }

@@ -1,7 +1,7 @@
 use Rattle.std.proofs.Common.{◌≡◌, bytes_eq, List, ℕ, IsUtf8, refl, ap, ◌∙◌}
 use Rattle.std.specs.Str.{chars}
 use lib.Utf8.{encode}
-use Rattle.patch_words.specs.Notices.{diff_uri}
+use Rattle.patch_rules.specs.Notices.{diff_uri}
 use Rattle.xml_tree.proofs.Letters.{bytes_eq-chars}
 use Rattle.patch_apply.proofs.names.is_diff_uri.Goals as goal
 
@@ -15,7 +15,7 @@ letters = refl
 
 pub returns : goal.returns
 returns c = record {
-  tells_whether_it_is_that_one =
+  exact =
       let text : List ℕ = c.args.uri.now in
       c.eq.ensures ∙ bytes_eq-chars text diff_uri c.utf8.uri diff_utf8 ∙ ap (bytes_eq (chars text)) letters;
 }

@@ -1,5 +1,5 @@
 use Rattle.std.proofs.Common.{◌≡◌, ◌<◌, drop}
-use Rattle.patch_words.specs.Applied.{text_number}
+use Rattle.patch_rules.specs.PatchOperations.{text_number}
 use Rattle.patch_apply.proofs.nodes.text_number.Given as goal
 
 abbrev pub invariant-loop-i : goal.invariant-loop-i

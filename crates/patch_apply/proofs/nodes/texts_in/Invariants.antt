@@ -1,5 +1,5 @@
 use Rattle.std.proofs.Common.{◌≡◌, ◌+◌, ◌≤◌, drop}
-use Rattle.patch_words.specs.Applied.{texts_in}
+use Rattle.patch_rules.specs.PatchOperations.{texts_in}
 use Rattle.patch_apply.proofs.nodes.texts_in.Given as goal
 
 abbrev pub invariant-loop-node : goal.invariant-loop-node

@@ -1,43 +1,43 @@
 use Rattle.std.proofs.Common.{chars, sym, ap, ◌∙◌}
 use Rattle.node_select.specs.Faults.{IsPatchSelectorAnswer}
-use Rattle.patch_words.specs.Applied.{suits}
+use Rattle.patch_rules.specs.PatchOperations.{suits}
 use Rattle.patch_apply.specs.inner.Forms.{is_type_bound}
-use Rattle.patch_apply.specs.inner.Seen.{task_in}
+use Rattle.patch_apply.specs.inner.PrivateTypes.{task_in}
 use Rattle.patch_apply.proofs.Selecting.{fault_answered, found, refused_so, selecting, type_is_bound, unsuited, untyped}
 use Rattle.patch_apply.proofs.selectors.selector_for.Goals as goal
 
 pub returns-then-not-suits : goal.returns-then-not-suits
 returns-then-not-suits c = record {
-  selector_that_is_meant =
+  grammar_answer =
       let here = c.args.here.now in let sel = c.args.sel.now in let task = task_in c.args.task.now in
-      let x = found here c.in_ok-bindings.bindings (chars c.default_uri.result.now) c.as_str.result.now sel c.in_ok-bindings.ensures.all_bindings_in_scope c.default_uri.ensures.default_namespace c.as_str.ensures.characters_of_the_text c.in-Ok.selector
-      c.in-Ok.ensures.answer_by_the_grammar in
-      unsuited here sel task x.reading x.form (ap (suits task) (sym (c.form_of.ensures.form_of_the_end ∙ x.ends)) ∙ sym c.suits.ensures.tells_whether_it_suits ∙ c.if-not-suits.true);
+      let x = found here c.in_ok-bindings.bindings (chars c.default_uri.result.now) c.as_str.result.now sel c.in_ok-bindings.ensures.ok c.default_uri.ensures.default_namespace c.as_str.ensures.same_chars c.in-Ok.selector
+      c.in-Ok.ensures.grammar_answer in
+      unsuited here sel task x.reading x.form (ap (suits task) (sym (c.form_of.ensures.exact ∙ x.ends)) ∙ sym c.suits.ensures.exact ∙ c.if-not-suits.true);
 }
 
 pub returns-then-not-is_bound_type : goal.returns-then-not-is_bound_type
 returns-then-not-is_bound_type c = record {
-  selector_that_is_meant =
+  grammar_answer =
       let here = c.args.here.now in let sel = c.args.sel.now in let task = task_in c.args.task.now in
-      let x = found here c.in_ok-bindings.bindings (chars c.default_uri.result.now) c.as_str.result.now sel c.in_ok-bindings.ensures.all_bindings_in_scope c.default_uri.ensures.default_namespace c.as_str.ensures.characters_of_the_text c.in-Ok.selector
-      c.in-Ok.ensures.answer_by_the_grammar in
-      untyped here sel task x.reading c.in-Ok.selector x.form (ap (suits task) (sym (c.form_of.ensures.form_of_the_end ∙ x.ends)) ∙ sym c.suits.ensures.tells_whether_it_suits ∙ c.if-not-suits.false) x.means (sym (type_is_bound here task) ∙ ((λ i. is_type_bound (sym c.in_ok-bindings.ensures.all_bindings_in_scope i) task) ∙ sym c.is_bound_type.ensures.tells_whether_it_is_bound ∙ c.if-not-is_bound_type.true));
+      let x = found here c.in_ok-bindings.bindings (chars c.default_uri.result.now) c.as_str.result.now sel c.in_ok-bindings.ensures.ok c.default_uri.ensures.default_namespace c.as_str.ensures.same_chars c.in-Ok.selector
+      c.in-Ok.ensures.grammar_answer in
+      untyped here sel task x.reading c.in-Ok.selector x.form (ap (suits task) (sym (c.form_of.ensures.exact ∙ x.ends)) ∙ sym c.suits.ensures.exact ∙ c.if-not-suits.false) x.means (sym (type_is_bound here task) ∙ ((λ i. is_type_bound (sym c.in_ok-bindings.ensures.ok i) task) ∙ sym c.is_bound_type.ensures.exact ∙ c.if-not-is_bound_type.true));
 }
 
 pub returns-in-Ok : goal.returns-in-Ok
 returns-in-Ok c = record {
-  selector_that_is_meant =
+  grammar_answer =
       let here = c.args.here.now in let sel = c.args.sel.now in let task = task_in c.args.task.now in
-      let x = found here c.in_ok-bindings.bindings (chars c.default_uri.result.now) c.as_str.result.now sel c.in_ok-bindings.ensures.all_bindings_in_scope c.default_uri.ensures.default_namespace c.as_str.ensures.characters_of_the_text c.in-Ok.selector
-      c.in-Ok.ensures.answer_by_the_grammar in
-      selecting here sel task x.reading c.in-Ok.selector x.form (ap (suits task) (sym (c.form_of.ensures.form_of_the_end ∙ x.ends)) ∙ sym c.suits.ensures.tells_whether_it_suits ∙ c.if-not-suits.false) x.means (sym (type_is_bound here task) ∙ ((λ i. is_type_bound (sym c.in_ok-bindings.ensures.all_bindings_in_scope i) task) ∙ sym c.is_bound_type.ensures.tells_whether_it_is_bound ∙ c.if-not-is_bound_type.false));
+      let x = found here c.in_ok-bindings.bindings (chars c.default_uri.result.now) c.as_str.result.now sel c.in_ok-bindings.ensures.ok c.default_uri.ensures.default_namespace c.as_str.ensures.same_chars c.in-Ok.selector
+      c.in-Ok.ensures.grammar_answer in
+      selecting here sel task x.reading c.in-Ok.selector x.form (ap (suits task) (sym (c.form_of.ensures.exact ∙ x.ends)) ∙ sym c.suits.ensures.exact ∙ c.if-not-suits.false) x.means (sym (type_is_bound here task) ∙ ((λ i. is_type_bound (sym c.in_ok-bindings.ensures.ok i) task) ∙ sym c.is_bound_type.ensures.exact ∙ c.if-not-is_bound_type.false));
 }
 
-pub refused-requires : goal.refused-requires
-refused-requires c =
-    refused_so c.args.here.now c.in_ok-bindings.bindings (chars c.default_uri.result.now) c.as_str.result.now c.args.sel.now c.in_ok-bindings.ensures.all_bindings_in_scope c.default_uri.ensures.default_namespace c.as_str.ensures.characters_of_the_text
+pub selector_error-requires : goal.selector_error-requires
+selector_error-requires c =
+    refused_so c.args.here.now c.in_ok-bindings.bindings (chars c.default_uri.result.now) c.as_str.result.now c.args.sel.now c.in_ok-bindings.ensures.ok c.default_uri.ensures.default_namespace c.as_str.ensures.same_chars
     c.in-Err-Fault.fault
     (
     fault_answered (IsPatchSelectorAnswer c.in_ok-bindings.bindings (chars c.default_uri.result.now) c.as_str.result.now) _ c.in-Err-Fault.fault c.in-Err-Fault.field-0-is
-    c.in-Err-Fault.ensures.answer_by_the_grammar
+    c.in-Err-Fault.ensures.grammar_answer
     )

@@ -7,8 +7,8 @@ pub requests-preserved : goal.requests-preserved
 requests-preserved c =
     let more : c.requests.made < c.args.count = c.requests-test.true in
     let number : ℕ = c.args.first + c.requests.made in
-    let text : c.as_bytes.result.now ≡ numbered_request number = c.as_bytes.ensures.value ∙ c.as_str.ensures.value ∙ c.in_ok-text.ensures.request_of_that_number in
-    let added : c.extend.new.self ≡ c.requests.bytes ++ numbered_request number = c.in_ok-extend.ensures.adds_the_bytes_or_nothing ∙ ap (λ (l : List ℕ). c.requests.bytes ++ l) text in
+    let text : c.as_bytes.result.now ≡ numbered_request number = c.as_bytes.ensures.value ∙ c.as_str.ensures.value ∙ c.in_ok-text.ensures.ok in
+    let added : c.extend.new.self ≡ c.requests.bytes ++ numbered_request number = c.in_ok-extend.ensures.appended_or_unchanged ∙ ap (λ (l : List ℕ). c.requests.bytes ++ l) text in
     record {
       within = omega (arith, more);
       all =

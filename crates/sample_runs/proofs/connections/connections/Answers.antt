@@ -10,7 +10,7 @@ connections-preserved c =
     let count : ℕ = (requests + 999) / 1000 in
     let more : number < count = c.connections-test.true in
     let made : c.min.result ≡ min 1000 (requests - number * 1000) = c.min.ensures ∙ ap (λ (n : ℕ). min 1000 n) c.saturating_sub.ensures in
-    let bytes : c.in_ok-connection.field-0 ≡ connection_bytes requests number = c.in_ok-connection.ensures.bytes_of_the_requests ∙ ap (λ (n : ℕ). requests_from (number * 1000) n) made in
+    let bytes : c.in_ok-connection.field-0 ≡ connection_bytes requests number = c.in_ok-connection.ensures.ok ∙ ap (λ (n : ℕ). requests_from (number * 1000) n) made in
     let added : c.push.new.self.items ≡ c.connections.all.items ++ connection_bytes requests number ∷ [] =
     c.in_ok-push.ensures.items ∙ ap (λ (b : List ℕ). c.connections.all.items ++ b ∷ []) bytes in
     record {

@@ -3,13 +3,13 @@ use Rattle.sample_runs.specs.Samples.{Samples}
 use Rattle.sample_runs.proofs.Together.{few_connections}
 use Rattle.sample_runs.proofs.run.run_sample.Goals as goal
 
-pub served-requires-clause-few : goal.served-requires-clause-few
-served-requires-clause-few c =
+pub run_connections-requires-clause-within_max : goal.run_connections-requires-clause-within_max
+run_connections-requires-clause-within_max c =
     let same : c.from-requests.result ≡ c.args.requests = grind (arith, c.from-requests.ensures) in
     let few : c.from-requests.result ≤ 4294967295 = omega (arith, same, c.ranges.requests.fits) in
-    rw c.in_ok-connections.ensures.bytes_of_the_connections (few_connections c.from-requests.result few)
+    rw c.in_ok-connections.ensures.ok (few_connections c.from-requests.result few)
 
 pub returns : goal.returns
 returns c =
     let same : c.from-requests.result ≡ c.args.requests = grind (arith, c.from-requests.ensures) in
-    record { sums_up_the_sample = subst (λ (n : ℕ). IfOk c.served.result (λ summary. Samples n summary)) same c.served.ensures.sums_up_the_sample }
+    record { sample_summary = subst (λ (n : ℕ). IfOk c.run_connections.result (λ summary. Samples n summary)) same c.run_connections.ensures.sample_summary }

@@ -2,17 +2,17 @@ use Rattle.std.proofs.Common.{◌&&◌, sym, ap, ◌∙◌}
 use Rattle.std.proofs.lemmas.Str.{chars-nil}
 use Rattle.std.specs.Str.{bytes_eq}
 use Rattle.usage_docs.specs.Keys.{word}
-use Rattle.usage_docs.specs.declared.rows.Key.TheVariants.{Uri}
+use Rattle.usage_docs.specs.declared.schema_table.Key.TheVariants.{Uri}
 use Rattle.store_core.proofs.addresses.is_uri.Goals as goal
 
 pub returns-then-is : goal.returns-then-is
 returns-then-is c = record {
-  tells_whether_it_is_the_name =
-      c.is_uri_word.ensures.tells_whether_it_is_the_word ∙ ap (λ b. b && bytes_eq c.args.name.now.local (word Uri)) (sym c.if-is.true ∙ c.is.ensures.tells_whether_it_has_these ∙ ap (bytes_eq c.args.name.now.prefix) chars-nil);
+  exact =
+      c.is_uri_word.ensures.exact ∙ ap (λ b. b && bytes_eq c.args.name.now.local (word Uri)) (sym c.if-is.true ∙ c.is.ensures.exact ∙ ap (bytes_eq c.args.name.now.prefix) chars-nil);
 }
 
 pub returns-else-is : goal.returns-else-is
 returns-else-is c = record {
-  tells_whether_it_is_the_name =
-      c.if-is.false ∙ ap (λ b. b && bytes_eq c.args.name.now.local (word Uri)) (sym c.if-is.false ∙ c.is.ensures.tells_whether_it_has_these ∙ ap (bytes_eq c.args.name.now.prefix) chars-nil);
+  exact =
+      c.if-is.false ∙ ap (λ b. b && bytes_eq c.args.name.now.local (word Uri)) (sym c.if-is.false ∙ c.is.ensures.exact ∙ ap (bytes_eq c.args.name.now.prefix) chars-nil);
 }

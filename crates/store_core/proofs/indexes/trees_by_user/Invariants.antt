@@ -1,5 +1,5 @@
 use Rattle.std.proofs.Common.{◌≡◌, []}
-use Rattle.store_core.specs.inner.Listed.{entered, listed, pairs_in}
+use Rattle.store_core.specs.inner.ServiceListing.{entered, listed, pairs_in}
 use Rattle.store_core.proofs.indexes.trees_by_user.Given as goal
 
 abbrev pub invariant-loop-doc : goal.invariant-loop-doc

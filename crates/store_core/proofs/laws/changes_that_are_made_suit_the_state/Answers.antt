@@ -2,4 +2,4 @@ use Rattle.store_core.proofs.Accepted.{accepted-suits}
 use Rattle.store_core.proofs.laws.changes_that_are_made_suit_the_state.Goals as goal
 
 pub returns : goal.returns
-returns c = record { suits_if_it_is_made = accepted-suits }
+returns c = record { made_suits = accepted-suits }

@@ -2,4 +2,4 @@ use Rattle.store_core.proofs.Standing.{stands-after}
 use Rattle.store_core.proofs.laws.stores_stand_after_each_change.Goals as goal
 
 pub returns : goal.returns
-returns c = record { stands_after_the_change = stands-after }
+returns c = record { represents_after = stands-after }

@@ -3,4 +3,4 @@ use Rattle.store_core.proofs.Keyed.{taken-out}
 use Rattle.store_core.proofs.step.end.Goals as goal
 
 pub returns : goal.returns
-returns c = record { takes_it_out = c.shift_remove.ensures.entries ∙ taken-out c.args.doc.now c.args.documents.now.entries c.len-count.ensures.unique }
+returns c = record { tree_changed = c.shift_remove.ensures.entries ∙ taken-out c.args.doc.now c.args.documents.now.entries c.len-count.ensures.unique }

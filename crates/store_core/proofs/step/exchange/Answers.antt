@@ -1,33 +1,33 @@
 use Rattle.std.proofs.Common.{◌≡◌, Some, refl, sym, subst, ◌∙◌}
 use Rattle.std.specs.Map.{lookup}
-use Rattle.doc_names.specs.Same.{same_id}
+use Rattle.doc_names.specs.Equality.{same_id}
 use Rattle.edit_ops.specs.Changes.{Fits}
 use Rattle.store_core.specs.declared.entry.Entry.{Entry}
-use Rattle.store_core.specs.Making.{IsOwnWhere, IsStagedIn}
+use Rattle.store_core.specs.TreeChanges.{IsOwnWhere, IsStagedIn}
 use Rattle.store_core.proofs.Keyed.{exchanged-in, looked-up, one-value}
 use Rattle.store_core.proofs.step.exchange.Goals as goal
 
-pub renew-requires-clause-fits : goal.renew-requires-clause-fits
-renew-requires-clause-fits c =
+pub update_entry-requires-clause-fits : goal.update_entry-requires-clause-fits
+update_entry-requires-clause-fits c =
     let r = c.requires in
     subst (λ (v : Entry). Fits v.tree.root c.args.note.change) (one-value c.args.doc.now c.args.documents.now.entries r.0 c.in-Some.entry.now r.1 c.in-Some.ensures.value) r.2
 
-pub renew-requires-clause-staged : goal.renew-requires-clause-staged
-renew-requires-clause-staged c =
+pub update_entry-requires-clause-change_staged : goal.update_entry-requires-clause-change_staged
+update_entry-requires-clause-change_staged c =
     let r = c.requires in
     subst (λ (v : Entry). IsStagedIn v.tree.root c.args.note.change c.args.staged) (one-value c.args.doc.now c.args.documents.now.entries r.0 c.in-Some.entry.now r.1 c.in-Some.ensures.value) r.3
 
-pub renew-requires-clause-own : goal.renew-requires-clause-own
-renew-requires-clause-own c =
+pub update_entry-requires-clause-tree_owned : goal.update_entry-requires-clause-tree_owned
+update_entry-requires-clause-tree_owned c =
     let r = c.requires in
     subst (λ (v : Entry). IsOwnWhere c.args.staged v.tree.own) (one-value c.args.doc.now c.args.documents.now.entries r.0 c.in-Some.entry.now r.1 c.in-Some.ensures.value) r.4
 
 pub returns : goal.returns
 returns c = record {
-  renews_the_one_entry =
+  renews_entry =
       let es = c.args.documents.now.entries in
       let doc = c.args.doc.now in
-      let w = c.renew.new.entry in
+      let w = c.update_entry.new.entry in
       let there : lookup (same_id doc) es ≡ Some c.in-Some.entry.now = sym (looked-up doc es) ∙ sym c.in-Some.ensures.value in
-      (c.in-Some.entry.now, w, there, c.renew.ensures.renewed_by_the_edit, (c.get_mut.follows.holds w).0 ∙ exchanged-in doc es w c.get_mut.ensures.unique, refl);
+      (c.in-Some.entry.now, w, there, c.update_entry.ensures.renewed_entry, (c.get_mut.follows.holds w).0 ∙ exchanged-in doc es w c.get_mut.ensures.unique, refl);
 }

@@ -3,4 +3,4 @@ use Rattle.store_core.proofs.Keyed.{looked-up}
 use Rattle.store_core.proofs.step.find.Goals as goal
 
 pub returns : goal.returns
-returns c = record { entry_of_the_document = c.get.ensures.value ∙ looked-up c.args.doc.now c.args.documents.now.entries }
+returns c = record { exact = c.get.ensures.value ∙ looked-up c.args.doc.now c.args.documents.now.entries }

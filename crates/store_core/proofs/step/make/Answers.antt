@@ -6,7 +6,7 @@ use Rattle.store_core.proofs.step.make.Goals as goal
 
 pub returns : goal.returns
 returns c = record {
-  puts_it_behind_the_others =
+  appends_entry =
       let entries = rw c.unwrap.ensures at c.insert.ensures.entries in
       entries ∙ insert_entry-new eq-value.it c.args.documents.now c.args.doc c.args.entry (looked-up c.args.doc c.args.documents.now.entries ∙ c.requires.absent);
 }

@@ -5,16 +5,16 @@ use Rattle.store_core.specs.inner.Storing.{trees_in}
 use Rattle.store_core.proofs.Owning.{own-missing, own-written, same-written}
 use Rattle.store_core.proofs.step.unshare.Goals as goal
 
-pub returns-in-Some-clause-holds_the_same : goal.returns-in-Some-clause-holds_the_same
-returns-in-Some-clause-holds_the_same c =
-    let w = c.unshare_tree.new.entry in
-    same-written c.args.doc.now c.args.documents.now.entries _ c.in-Some.entry.now w (c.get_mut.follows.holds w).0 c.in-Some.ensures.value c.unshare_tree.ensures.holds_the_same
+pub returns-in-Some-clause-contents_unchanged : goal.returns-in-Some-clause-contents_unchanged
+returns-in-Some-clause-contents_unchanged c =
+    let w = c.make_tree_unique.new.entry in
+    same-written c.args.doc.now c.args.documents.now.entries _ c.in-Some.entry.now w (c.get_mut.follows.holds w).0 c.in-Some.ensures.value c.make_tree_unique.ensures.contents_unchanged
 
-pub returns-in-Some-clause-nobody_shares_its_tree : goal.returns-in-Some-clause-nobody_shares_its_tree
-returns-in-Some-clause-nobody_shares_its_tree c =
-    let w = c.unshare_tree.new.entry in
-    on_ok_weaker c.unshare_tree.result (own-written c.args.doc.now c.args.documents.now.entries _ c.in-Some.entry.now w (c.get_mut.follows.holds w).0 c.in-Some.ensures.value) c.unshare_tree.ensures.nobody_shares_its_tree
+pub returns-in-Some-clause-tree_unshared : goal.returns-in-Some-clause-tree_unshared
+returns-in-Some-clause-tree_unshared c =
+    let w = c.make_tree_unique.new.entry in
+    on_ok_weaker c.make_tree_unique.result (own-written c.args.doc.now c.args.documents.now.entries _ c.in-Some.entry.now w (c.get_mut.follows.holds w).0 c.in-Some.ensures.value) c.make_tree_unique.ensures.tree_unshared
 
-pub returns-in-None-clause-nobody_shares_its_tree : goal.returns-in-None-clause-nobody_shares_its_tree
-returns-in-None-clause-nobody_shares_its_tree c =
+pub returns-in-None-clause-tree_unshared : goal.returns-in-None-clause-tree_unshared
+returns-in-None-clause-tree_unshared c =
     subst (λ m. IsOwn (trees_in m.entries) c.args.doc.now) (sym c.get_mut.follows.holds-at-none) (own-missing c.args.doc.now c.args.documents.now.entries c.in-None.ensures.value)

@@ -8,8 +8,8 @@ use Rattle.tree_text.specs.readers.Bindings.{lists}
 use Rattle.tree_text.specs.readers.Members.{tree_with, with_chars, with_one, read_member, read_filled}
 use Rattle.tree_text.specs.Names.{attrs_of}
 use Rattle.tree_text.specs.Pieces.{StartTag}
-use Rattle.tree_text.specs.declared.said.Said.{Said}
-use Rattle.tree_text.specs.declared.tags.Tag.{Tag as CodeTag}
+use Rattle.tree_text.specs.declared.raw_attribute.RawAttribute.{RawAttribute}
+use Rattle.tree_text.specs.declared.start_tags.RawStartTag.{RawStartTag as CodeTag}
 use Rattle.tree_text.specs.readers.Texts.{markup_follows, read_tag, read_markup, read_chars, read_element}
 use Rattle.tree_text.specs.readers.Views.{name_in, tag_in}
 use Rattle.tree_text.proofs.ChildLemmas.{there, is_bare, still_normal, in_place}
@@ -24,17 +24,17 @@ content-loop-init t c =
     let text : shadow (Utf8 start) = search rules in
     record {
       utf8 = text;
-      filled = begins (read_element c.args.levels (lists c.args.bindings.now) c.args.depth) c.args.element.now c.requires.1.1.1.1 (chars c.args.text.now) (chars start) c.push_run.new.element _ (omega (arith, ap length (encodes-chars start text))) c.in_ok-start.ensures.reads_the_run_onto_it;
+      filled = begins (read_element c.args.levels (lists c.args.bindings.now) c.args.depth) c.args.element.now c.requires.1.1.1.1 (chars c.args.text.now) (chars start) c.push_run.new.element _ (omega (arith, ap length (encodes-chars start text))) c.in_ok-start.ensures.reads_onto;
       back = still c.args.bindings.now c.requires.1.1.0;
     }
 
-pub content-returns-in_err-after-clause-reads_as_the_rule_does : goal.content-returns-in_err-after-clause-reads_as_the_rule_does
-content-returns-in_err-after-clause-reads_as_the_rule_does t c =
+pub content-returns-in_err-after-clause-reads_rule : goal.content-returns-in_err-after-clause-reads_rule
+content-returns-in_err-after-clause-reads_rule t c =
     let p = err_from_is_err_and c.from_residual-in_err-after.result c.from_residual-in_err-after.ensures.1 in
     let inner = read_element c.args.levels (lists c.args.bindings.now) c.args.depth in
     let stop = c.in_err-after.field-0.0 in
-    let stops = onto_stops c.args.levels c.args.depth c.loop.element (chars c.loop.rest.now) stop (lists c.loop.bindings) (lists c.args.bindings.now) c.loop.invariant.back.same c.in_err-after.ensures.reads_as_the_rule_does in
-    rw (p.1, p.2) (ends markup_follows (read_member inner) tree_with stop c.loop.element _ c.loop.counter (chars c.loop.rest.now) (read_filled c.args.element.now inner (chars c.args.text.now)) c.loop-test.true (sym c.markup_follows.ensures.tells_whether_markup_follows ∙ c.if-not-markup_follows.false)
+    let stops = onto_stops c.args.levels c.args.depth c.loop.element (chars c.loop.rest.now) stop (lists c.loop.bindings) (lists c.args.bindings.now) c.loop.invariant.back.same c.in_err-after.ensures.reads_rule in
+    rw (p.1, p.2) (ends markup_follows (read_member inner) tree_with stop c.loop.element _ c.loop.counter (chars c.loop.rest.now) (read_filled c.args.element.now inner (chars c.args.text.now)) c.loop-test.true (sym c.markup_follows.ensures.exact ∙ c.if-not-markup_follows.false)
     (first_stops (read_markup inner) (λ _. read_chars) (chars c.loop.rest.now) stop (valued_fails (with_one c.loop.element) (read_markup inner) (chars c.loop.rest.now) stop stops)) c.loop.invariant.filled)
 
 pub content-loop-preserved : goal.content-loop-preserved
@@ -45,119 +45,119 @@ content-loop-preserved t c =
     let added = c.push_markup.new.element in
     let more = c.push_run-in-loop.new.element in
     let so_far = c.loop.invariant in
-    let one_read = onto_ok c.args.levels c.args.depth c.loop.element added (chars c.loop.rest.now) after (lists c.loop.bindings) (lists c.args.bindings.now) so_far.back.same c.in_ok-after.ensures.reads_as_the_rule_does in
+    let one_read = onto_ok c.args.levels c.args.depth c.loop.element added (chars c.loop.rest.now) after (lists c.loop.bindings) (lists c.args.bindings.now) so_far.back.same c.in_ok-after.ensures.reads_rule in
     let one = valued_ok (with_one c.loop.element) (read_markup inner (chars c.loop.rest.now)) added after one_read in
-    let run = valued_ok (with_chars added) (read_chars after) more left c.in_ok-rest.ensures.reads_the_run_onto_it in
+    let run = valued_ok (with_chars added) (read_chars after) more left c.in_ok-rest.ensures.reads_onto in
     record {
       utf8 = search rules;
-      filled = goes_on markup_follows (read_member inner) tree_with c.loop.element more _ c.loop.counter (chars c.loop.rest.now) left (one.value, run.value) (read_filled c.args.element.now inner (chars c.args.text.now)) c.loop-test.true (sym c.markup_follows.ensures.tells_whether_markup_follows ∙ c.if-not-markup_follows.false)
+      filled = goes_on markup_follows (read_member inner) tree_with c.loop.element more _ c.loop.counter (chars c.loop.rest.now) left (one.value, run.value) (read_filled c.args.element.now inner (chars c.args.text.now)) c.loop-test.true (sym c.markup_follows.ensures.exact ∙ c.if-not-markup_follows.false)
           (both_ok (read_markup inner) (λ _. read_chars) (chars c.loop.rest.now) after left one.value run.value one.read run.read)
           (λ xs. piece_more c.loop.element added one.value run.value xs one.made ∙ ap (λ (e : Tree). tree_with e xs) run.made) so_far.filled;
-      back = back_again c.args.bindings.now c.loop.bindings c.push_markup.new.bindings so_far.back c.in_ok-after.ensures.bindings_are_those_of_before;
+      back = back_again c.args.bindings.now c.loop.bindings c.push_markup.new.bindings so_far.back c.in_ok-after.ensures.bindings_restored;
     }
 
-pub content-returns-clause-reads_as_the_rule_does : goal.content-returns-clause-reads_as_the_rule_does
-content-returns-clause-reads_as_the_rule_does t c =
+pub content-returns-clause-reads_rule : goal.content-returns-clause-reads_rule
+content-returns-clause-reads_rule t c =
     let inner = read_element c.args.levels (lists c.args.bindings.now) c.args.depth in
     let total = read_filled c.args.element.now inner (chars c.args.text.now) in
     elim c.loop-test.branch [
       | content-else-loop-test w ↦ is_done markup_follows (read_member inner) tree_with c.loop.element _ c.loop.counter (chars c.loop.rest.now) total w.loop-test.false c.loop.invariant.filled
-      | content-then-loop-test+then-not-markup_follows w ↦ is_stopped markup_follows (read_member inner) tree_with c.loop.element _ c.loop.counter (chars c.loop.rest.now) total (sym w.markup_follows.ensures.tells_whether_markup_follows ∙ w.if-not-markup_follows.true) c.loop.invariant.filled
+      | content-then-loop-test+then-not-markup_follows w ↦ is_stopped markup_follows (read_member inner) tree_with c.loop.element _ c.loop.counter (chars c.loop.rest.now) total (sym w.markup_follows.ensures.exact ∙ w.if-not-markup_follows.true) c.loop.invariant.filled
     ]
 
-pub content-returns-clause-bindings_are_those_of_before : goal.content-returns-clause-bindings_are_those_of_before
-content-returns-clause-bindings_are_those_of_before t c = c.loop.invariant.back
+pub content-returns-clause-bindings_restored : goal.content-returns-clause-bindings_restored
+content-returns-clause-bindings_restored t c = c.loop.invariant.back
 
--- the tag, as it was read
-tagged : (text behind : List ℕ) (t : CodeTag) (all said : List Said) → all ≡ said → read_tag text ≡ Ok (tag_in text t said, behind) → read_tag text ≡ Ok (tag_in text t all, behind)
-tagged text behind t all said same h = h ∙ ap (λ (z : List Said). let x : StartTag × List ℕ = (tag_in text t z, behind) in Ok x) (sym same)
+-- the tag, as read
+tagged : (text behind : List ℕ) (t : CodeTag) (all raw_attribute : List RawAttribute) → all ≡ raw_attribute → read_tag text ≡ Ok (tag_in text t raw_attribute, behind) → read_tag text ≡ Ok (tag_in text t all, behind)
+tagged text behind t all raw_attribute same h = h ∙ ap (λ (z : List RawAttribute). let x : StartTag × List ℕ = (tag_in text t z, behind) in Ok x) (sym same)
 
-pub fill-returns-in_err-judged-clause-reads_as_the_rule_does : goal.fill-returns-in_err-judged-clause-reads_as_the_rule_does
-fill-returns-in_err-judged-clause-reads_as_the_rule_does t c =
-    let p = err_from_is_err_and c.from_residual-in_err-judged.result c.from_residual-in_err-judged.ensures.1 in
-    let stop = c.in_err-judged.field-0.0 in
+pub fill-returns-in_err-check_tag_names-clause-reads_rule : goal.fill-returns-in_err-check_tag_names-clause-reads_rule
+fill-returns-in_err-check_tag_names-clause-reads_rule t c =
+    let p = err_from_is_err_and c.from_residual-in_err-check_tag_names.result c.from_residual-in_err-check_tag_names.ensures.1 in
+    let stop = c.in_err-check_tag_names.field-0.0 in
     let scope = lists c.args.bindings.now in
     let all = c.as_slice-all.result.now in
-    let behind = chars c.args.tag.now.behind.now in
+    let behind = chars c.args.start_tag.now.behind.now in
     rw (p.1, p.2) (tag_err (c.args.inner + 1) c.args.inner c.args.depth scope (chars c.args.text.now) stop refl
-    (misjudged scope (lists c.enter.new.self) c.in_ok-decls.decls.items (chars c.args.text.now) behind (tag_in (chars c.args.text.now) c.args.tag.now all) (tagged (chars c.args.text.now) behind c.args.tag.now all c.args.said.now.items c.as_slice-all.ensures.value c.requires.1.1.1.1.0)
-    c.in_ok-decls.ensures.declarations_among_them c.in_ok-enter.ensures.scope_grows_by_them stop c.in_err-judged.ensures.judges_the_names_of_the_tag))
+    (misjudged scope (lists c.enter.new.self) c.in_ok-decls.decls.items (chars c.args.text.now) behind (tag_in (chars c.args.text.now) c.args.start_tag.now all) (tagged (chars c.args.text.now) behind c.args.start_tag.now all c.args.raw_attribute.now.items c.as_slice-all.ensures.value c.requires.1.1.1.1.0)
+    c.in_ok-decls.ensures.ok c.in_ok-enter.ensures.scope_grows stop c.in_err-check_tag_names.ensures.judged_names))
 
-pub fill-returns-in_err-rest-clause-reads_as_the_rule_does : goal.fill-returns-in_err-rest-clause-reads_as_the_rule_does
-fill-returns-in_err-rest-clause-reads_as_the_rule_does t c =
+pub fill-returns-in_err-rest-clause-reads_rule : goal.fill-returns-in_err-rest-clause-reads_rule
+fill-returns-in_err-rest-clause-reads_rule t c =
     let p = err_from_is_err_and c.from_residual-in_err-rest.result c.from_residual-in_err-rest.ensures.1 in
-    let declared = c.in_ok-decls.ensures.declarations_among_them in
+    let declared = c.in_ok-decls.ensures.ok in
     let scope = lists c.args.bindings.now in
     let here = lists c.enter.new.self in
     let decls = c.in_ok-decls.decls.items in
     let all = c.as_slice-all.result.now in
-    let behind = chars c.args.tag.now.behind.now in
-    let tag = tag_in (chars c.args.text.now) c.args.tag.now all in
-    let read = tagged (chars c.args.text.now) behind c.args.tag.now all c.args.said.now.items c.as_slice-all.ensures.value c.requires.1.1.1.1.0 in
-    rw (p.1, p.2) (element_err (c.args.inner + 1) c.args.inner c.args.depth scope here decls (chars c.args.text.now) behind tag refl
-    (judged_is scope here decls (chars c.args.text.now) behind tag read declared c.in_ok-enter.ensures.scope_grows_by_them ∙ c.in_ok-judged.ensures.judges_the_names_of_the_tag)
-    declared c.in_ok-enter.ensures.scope_grows_by_them c.push_attrs.new.element c.in_err-rest.field-0.0 c.in_err-rest.ensures.reads_as_the_rule_does)
+    let behind = chars c.args.start_tag.now.behind.now in
+    let start_tag = tag_in (chars c.args.text.now) c.args.start_tag.now all in
+    let read = tagged (chars c.args.text.now) behind c.args.start_tag.now all c.args.raw_attribute.now.items c.as_slice-all.ensures.value c.requires.1.1.1.1.0 in
+    rw (p.1, p.2) (element_err (c.args.inner + 1) c.args.inner c.args.depth scope here decls (chars c.args.text.now) behind start_tag refl
+    (judged_is scope here decls (chars c.args.text.now) behind start_tag read declared c.in_ok-enter.ensures.scope_grows ∙ c.in_ok-check_tag_names.ensures.judged_names)
+    declared c.in_ok-enter.ensures.scope_grows c.push_attrs.new.element c.in_err-rest.field-0.0 c.in_err-rest.ensures.reads_rule)
 
 pub fill-returns : goal.fill-returns
 fill-returns t c =
-    let declared = c.in_ok-decls.ensures.declarations_among_them in
+    let declared = c.in_ok-decls.ensures.ok in
     let scope = lists c.args.bindings.now in
     let here = lists c.enter.new.self in
     let decls = c.in_ok-decls.decls.items in
     let all = c.as_slice-all.result.now in
     let same = c.as_slice-all.ensures.value in
-    let behind = chars c.args.tag.now.behind.now in
-    let tag = tag_in (chars c.args.text.now) c.args.tag.now all in
-    let inside = c.in_ok-enter.ensures.scope_grows_by_them in
-    let read = tagged (chars c.args.text.now) behind c.args.tag.now all c.args.said.now.items same c.requires.1.1.1.1.0 in
-    let out = closed c.args.bindings.now c.enter.new.self c.behind_tag.new.bindings c.leave-decls.new.self decls c.leave-decls.result.items inside c.in_ok-rest.ensures.bindings_are_those_of_before c.leave-decls.ensures.scope_shrinks_by_them c.leave-decls.ensures.lists_are_kept_in_step in
+    let behind = chars c.args.start_tag.now.behind.now in
+    let start_tag = tag_in (chars c.args.text.now) c.args.start_tag.now all in
+    let inside = c.in_ok-enter.ensures.scope_grows in
+    let read = tagged (chars c.args.text.now) behind c.args.start_tag.now all c.args.raw_attribute.now.items same c.requires.1.1.1.1.0 in
+    let out = closed c.args.bindings.now c.enter.new.self c.behind_tag.new.bindings c.leave-decls.new.self decls c.leave-decls.result.items inside c.in_ok-rest.ensures.bindings_restored c.leave-decls.ensures.scope_shrinks c.leave-decls.ensures.lists_in_step in
     let dressed =
-    c.in_ok-push_attrs.ensures.adds_the_attributes ∙ ap (λ (z : Tree). record z { attrs = z.attrs ++ attrs_of c.args.said.now.items }) c.requires.1.1.1.1.1
-    ∙ ap (λ (z : List Said). tree_of tag.name [] (attrs_of z) (last [])) (sym same) in
+    c.in_ok-push_attrs.ensures.appended ∙ ap (λ (z : Tree). record z { attrs = z.attrs ++ attrs_of c.args.raw_attribute.now.items }) c.requires.1.1.1.1.1
+    ∙ ap (λ (z : List RawAttribute). tree_of start_tag.name [] (attrs_of z) (last [])) (sym same) in
     record {
-      reads_as_the_rule_does = rw c.in_ok-push_decls.ensures.adds_the_declarations (rw out.0 (element_ok (c.args.inner + 1) c.args.inner c.args.depth scope here decls (chars c.args.text.now) behind tag refl
-          (judged_is scope here decls (chars c.args.text.now) behind tag read declared inside ∙ c.in_ok-judged.ensures.judges_the_names_of_the_tag)
-          declared inside c.push_attrs.new.element c.behind_tag.new.element (chars c.in_ok-rest.rest.now) dressed c.in_ok-rest.ensures.reads_as_the_rule_does));
-      bindings_are_those_of_before = out.1;
+      reads_rule = rw c.in_ok-push_decls.ensures.adds_declarations (rw out.0 (element_ok (c.args.inner + 1) c.args.inner c.args.depth scope here decls (chars c.args.text.now) behind start_tag refl
+          (judged_is scope here decls (chars c.args.text.now) behind start_tag read declared inside ∙ c.in_ok-check_tag_names.ensures.judged_names)
+          declared inside c.push_attrs.new.element c.behind_tag.new.element (chars c.in_ok-rest.rest.now) dressed c.in_ok-rest.ensures.reads_rule));
+      bindings_restored = out.1;
     }
 
-pub push_child-returns-in_err-tag-clause-reads_as_the_rule_does : goal.push_child-returns-in_err-tag-clause-reads_as_the_rule_does
-push_child-returns-in_err-tag-clause-reads_as_the_rule_does t c =
+pub push_child-returns-in_err-start_tag-clause-reads_rule : goal.push_child-returns-in_err-start_tag-clause-reads_rule
+push_child-returns-in_err-start_tag-clause-reads_rule t c =
     let p = err_from_is_err_and c.from_residual.result c.from_residual.ensures.1 in
-    let stop = c.in_err-tag.field-0.0 in
+    let stop = c.in_err-start_tag.field-0.0 in
     let scope = lists c.args.bindings.now in
     rw (p.1, p.2) (child_stops c.args.parent.now (read_element c.args.levels scope c.args.depth) (chars c.args.text.now) stop
-    (untagged c.args.levels c.in-Some.inner c.args.depth scope (chars c.args.text.now) stop (omega (arith, c.in-Some.ensures)) c.in_err-tag.ensures.reads_as_the_rule_does))
+    (untagged c.args.levels c.in-Some.inner c.args.depth scope (chars c.args.text.now) stop (omega (arith, c.in-Some.ensures)) c.in_err-start_tag.ensures.reads_rule))
 
-pub push_child-returns-in_err-rest-clause-reads_as_the_rule_does : goal.push_child-returns-in_err-rest-clause-reads_as_the_rule_does
-push_child-returns-in_err-rest-clause-reads_as_the_rule_does t c =
+pub push_child-returns-in_err-rest-clause-reads_rule : goal.push_child-returns-in_err-rest-clause-reads_rule
+push_child-returns-in_err-rest-clause-reads_rule t c =
     let p = err_from_is_err_and c.from_residual-in_err-rest.result c.from_residual-in_err-rest.ensures.1 in
     let stop = c.in_err-rest.field-0.0 in
     let scope = lists c.args.bindings.now in
     rw (p.1, p.2) (child_stops c.args.parent.now (read_element c.args.levels scope c.args.depth) (chars c.args.text.now) stop
-    (level_stops c.args.levels c.in-Some.inner c.args.depth scope (chars c.args.text.now) stop (omega (arith, c.in-Some.ensures)) c.in_err-rest.ensures.reads_as_the_rule_does))
+    (level_stops c.args.levels c.in-Some.inner c.args.depth scope (chars c.args.text.now) stop (omega (arith, c.in-Some.ensures)) c.in_err-rest.ensures.reads_rule))
 
 pub push_child-last_elem-child-requires : goal.push_child-last_elem-child-requires
 push_child-last_elem-child-requires t c =
-    there c.take_nodes-nodes.result.items c.push_bare.new.nodes.items (tree_of (name_in c.in_ok-tag.tag.written) [] [] (last [])) c.in_ok-push_bare.ensures.adds_a_bare_element
+    there c.take_nodes-nodes.result.items c.push_bare.new.nodes.items (tree_of (name_in c.in_ok-start_tag.start_tag.written) [] [] (last [])) c.in_ok-push_bare.ensures.appends_bare
 
 pub push_child-fill-requires : goal.push_child-fill-requires
 push_child-fill-requires t c =
-    let bare = is_bare c.take_nodes-nodes.result.items c.push_bare.new.nodes.items (tree_of (name_in c.in_ok-tag.tag.written) [] [] (last [])) c.in_ok-push_bare.ensures.adds_a_bare_element c.last_elem-child.result.now c.last_elem-child.ensures.lends_the_element in
+    let bare = is_bare c.take_nodes-nodes.result.items c.push_bare.new.nodes.items (tree_of (name_in c.in_ok-start_tag.start_tag.written) [] [] (last [])) c.in_ok-push_bare.ensures.appends_bare c.last_elem-child.result.now c.last_elem-child.ensures.lends_element in
     search (rules, bare)
 
 pub push_child-put_nodes-requires-clause-normal : goal.push_child-put_nodes-requires-clause-normal
 push_child-put_nodes-requires-clause-normal t c =
-    still_normal c.take_nodes-nodes.result.items c.push_bare.new.nodes.items (tree_of (name_in c.in_ok-tag.tag.written) [] [] (last [])) c.in_ok-push_bare.ensures.adds_a_bare_element c.fill.new.element c.take_nodes-nodes.ensures.nodes_are_normal
+    still_normal c.take_nodes-nodes.result.items c.push_bare.new.nodes.items (tree_of (name_in c.in_ok-start_tag.start_tag.written) [] [] (last [])) c.in_ok-push_bare.ensures.appends_bare c.fill.new.element c.take_nodes-nodes.ensures.nodes_are_normal
 
 pub push_child-returns : goal.push_child-returns
 push_child-returns t c =
     let scope = lists c.args.bindings.now in
-    let bare = tree_of (name_in c.in_ok-tag.tag.written) [] [] (last []) in
+    let bare = tree_of (name_in c.in_ok-start_tag.start_tag.written) [] [] (last []) in
     let taken = c.take_nodes-nodes.ensures in
-    let made = in_place c.take_nodes-nodes.result.items c.push_bare.new.nodes.items bare c.in_ok-push_bare.ensures.adds_a_bare_element c.fill.new.element c.args.parent.now c.take_nodes-nodes.new.self c.put_nodes.new.self taken.content_of_the_nodes taken.leaves_none c.put_nodes.ensures.puts_them_in in
+    let made = in_place c.take_nodes-nodes.result.items c.push_bare.new.nodes.items bare c.in_ok-push_bare.ensures.appends_bare c.fill.new.element c.args.parent.now c.take_nodes-nodes.new.self c.put_nodes.new.self taken.nodes_content taken.leaves_none c.put_nodes.ensures.exact in
     record {
-      reads_as_the_rule_does = rw made (child_ok c.args.parent.now (read_element c.args.levels scope c.args.depth) (chars c.args.text.now) (chars c.in_ok-rest.rest.now) c.fill.new.element
-          (level_ok c.args.levels c.in-Some.inner c.args.depth scope (chars c.args.text.now) (chars c.in_ok-rest.rest.now) c.fill.new.element (omega (arith, c.in-Some.ensures)) c.in_ok-rest.ensures.reads_as_the_rule_does));
-      bindings_are_those_of_before = c.in_ok-rest.ensures.bindings_are_those_of_before;
+      reads_rule = rw made (child_ok c.args.parent.now (read_element c.args.levels scope c.args.depth) (chars c.args.text.now) (chars c.in_ok-rest.rest.now) c.fill.new.element
+          (level_ok c.args.levels c.in-Some.inner c.args.depth scope (chars c.args.text.now) (chars c.in_ok-rest.rest.now) c.fill.new.element (omega (arith, c.in-Some.ensures)) c.in_ok-rest.ensures.reads_rule));
+      bindings_restored = c.in_ok-rest.ensures.bindings_restored;
     }

@@ -1,7 +1,7 @@
 use Rattle.std.proofs.Common.{◌≡◌, ◌+◌, ◌*◌, ◌-◌, chars}
 use denote.Text.{Utf8}
 use denote.Shadow.{shadow}
-use Rattle.grammar_rules.specs.readers.Functions.{read_at_most}
+use Rattle.xml_grammar.specs.readers.Functions.{read_at_most}
 use Rattle.tree_text.specs.readers.Bindings.{AreBack, lists}
 use Rattle.tree_text.specs.readers.Members.{tree_with, read_member, read_filled}
 use Rattle.tree_text.specs.readers.Texts.{markup_follows, read_element}

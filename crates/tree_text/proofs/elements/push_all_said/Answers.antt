@@ -9,6 +9,6 @@ pub loop-one-preserved : goal.loop-one-preserved
 loop-one-preserved c =
     let one = attrs_of (c.in-Some.one ∷ []) in
     rw (attrs-append c.loop-one.yielded c.in-Some.one)
-    (c.in_ok-push_said.ensures.adds_it_if_it_is_an_attribute
+    (c.in_ok-push_raw_attribute.ensures.appended
     ∙ ap (λ (e : Tree). let z : Tree = record e { attrs = e.attrs ++ one } in z) c.loop-one.invariant
     ∙ ap (λ (all : List Attr). let z : Tree = record c.args.element.now { attrs = all } in z) (append_assoc c.args.element.now.attrs (attrs_of c.loop-one.yielded) one))

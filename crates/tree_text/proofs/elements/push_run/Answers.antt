@@ -3,4 +3,4 @@ use Rattle.tree_text.proofs.PlainFronts.{nothing_onto}
 use Rattle.tree_text.proofs.elements.push_run.Goals as goal
 
 pub returns-then-run_ends : goal.returns-then-run_ends
-returns-then-run_ends c = record { reads_the_run_onto_it = nothing_onto c.args.element.now (chars c.args.text.now) (sym c.if-run_ends.ensures.tells_whether_the_run_ends) }
+returns-then-run_ends c = record { reads_onto = nothing_onto c.args.element.now (chars c.args.text.now) (sym c.if-run_ends.ensures.exact) }

@@ -6,11 +6,11 @@ use Rattle.tree_text.proofs.elements.push_some.Goals as goal
 
 pub returns-then-run_ends : goal.returns-then-run_ends
 returns-then-run_ends c = record {
-  reads_the_run_onto_it =
+  reads_onto =
       let text = chars c.args.text.now in
       let plain = chars c.run.result.0.now in
       let rest = chars c.run.result.1.now in
-      let front = c.run.ensures.characters_in_front in
-      rw (c.in_ok-push_plain.ensures.adds_the_characters, c.in_ok-plain.ensures.copies_the_text) (chars_onto c.args.element.now text plain rest
-      (plain_chars text plain rest (run_whole is_plain_in_content text plain rest front c.run.ensures.rest_behind_them) (run_all is_plain_in_content text plain front) (sym c.if-run_ends.ensures.tells_whether_the_run_ends)));
+      let front = c.run.ensures.front_of_run in
+      rw (c.in_ok-push_plain.ensures.appends_chars, c.in_ok-plain.ensures.same_chars) (chars_onto c.args.element.now text plain rest
+      (plain_chars text plain rest (run_whole is_plain_in_content text plain rest front c.run.ensures.rest_after_run) (run_all is_plain_in_content text plain front) (sym c.if-run_ends.ensures.exact)));
 }

@@ -5,10 +5,10 @@ use Rattle.tree_text.proofs.escapes.push_escaped.Goals as goal
 
 pub returns-then-is_plain : goal.returns-then-is_plain
 returns-then-is_plain c = record {
-  adds_the_printed_text =
+  appended =
       let f = flat_map (escape_in c.args.place) in
       let bytes = c.as_bytes.result.now in
       let same = c.as_bytes.ensures.value in
-      let plain : f c.args.text.now ≡ c.args.text.now = ap f (sym same) ∙ c.if-is_plain.ensures.bytes_stand_for_themselves refl ∙ same in
-      subst (λ (cs : List ℕ). OnOk c.push_str.result (c.push_str.new.self ≡ c.args.out.now ++ cs)) (sym (plain_chars c.args.place c.args.text.now c.utf8.text plain)) c.push_str.ensures.adds_the_characters;
+      let plain : f c.args.text.now ≡ c.args.text.now = ap f (sym same) ∙ c.if-is_plain.ensures.plain_unescaped refl ∙ same in
+      subst (λ (cs : List ℕ). OnOk c.push_str.result (c.push_str.new.self ≡ c.args.out.now ++ cs)) (sym (plain_chars c.args.place c.args.text.now c.utf8.text plain)) c.push_str.ensures.appends_chars;
 }

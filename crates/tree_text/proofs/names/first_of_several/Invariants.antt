@@ -5,9 +5,9 @@ use Rattle.tree_text.specs.Names.{widths}
 use Rattle.tree_text.specs.readers.Judging.{first_wrong}
 use Rattle.tree_text.proofs.names.first_of_several.Given as goal
 
-abbrev pub invariant-loop-said : goal.invariant-loop-said
-invariant-loop-said l = record {
-  left : first_wrong (lists l.here) [] l.opening l.all ≡ first_wrong (lists l.here) (take l.said-index l.all) l.at (drop l.said-index l.all);
-  place : l.at + widths (drop l.said-index l.all) ≡ l.opening + widths l.all;
-  kept : Holds l.here (take l.said-index l.all) l.seen;
+abbrev pub invariant-loop-raw_attribute : goal.invariant-loop-raw_attribute
+invariant-loop-raw_attribute l = record {
+  left : first_wrong (lists l.here) [] l.opening l.all ≡ first_wrong (lists l.here) (take l.raw_attribute-index l.all) l.at (drop l.raw_attribute-index l.all);
+  place : l.at + widths (drop l.raw_attribute-index l.all) ≡ l.opening + widths l.all;
+  kept : Holds l.here (take l.raw_attribute-index l.all) l.seen;
 }

@@ -7,7 +7,7 @@ use Rattle.tree_text.proofs.names.is_default.Goals as goal
 
 pub returns : goal.returns
 returns c = record {
-  tells_whether_it_is_empty =
+  exact =
       let text = c.args.prefix.now in
       let test = c.is_empty.ensures in
       both_ways _ _

@@ -3,4 +3,4 @@ use Rattle.std.proofs.lemmas.Str.{chars-nil}
 use Rattle.tree_text.proofs.names.is_no_uri.Goals as goal
 
 pub returns : goal.returns
-returns c = record { tells_whether_it_is_empty = c.is.ensures.tells_whether_it_has_these ∙ ap (bytes_eq c.args.uri.now) chars-nil }
+returns c = record { exact = c.is.ensures.exact ∙ ap (bytes_eq c.args.uri.now) chars-nil }

@@ -5,8 +5,8 @@ use Rattle.tree_text.proofs.names.is_nothing.Goals as goal
 
 pub returns : goal.returns
 returns c = record {
-  tells_whether_it_is_empty =
+  exact =
       let prefix = c.args.prefix.now in
-      let test = c.is_empty.ensures.tells_whether_it_has_none in
+      let test = c.is_empty.ensures.exact in
       both_ways _ _ (λ yes. (bytes_decides prefix []).1 (test.0 yes)) (λ none. test.1 ((bytes_decides prefix []).0 none));
 }

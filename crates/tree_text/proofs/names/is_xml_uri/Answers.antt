@@ -9,4 +9,4 @@ letters = refl
 
 pub returns : goal.returns
 unfolding xml_uri
-returns c = record { tells_whether_it_is_that_of_xml = c.is.ensures.tells_whether_it_has_these ∙ ap (bytes_eq c.args.text.now) letters }
+returns c = record { exact = c.is.ensures.exact ∙ ap (bytes_eq c.args.text.now) letters }

@@ -8,13 +8,13 @@ use Rattle.tree_text.proofs.print_laws.prints_are_read_back.Goals as goal
 
 pub returns : goal.returns
 returns c = record {
-  of_a_document = λ depth scope root unbound proper fits.
+  for_document = λ depth scope root unbound proper fits.
       let bytes = encode_utf8_all (document_print root) in
       subst (TextAnswer depth scope bytes) (document_is_read depth scope root unbound proper fits).read (text_answer depth scope bytes);
-  of_an_element = λ depth scope root unbound proper fits.
+  for_element = λ depth scope root unbound proper fits.
       let bytes = encode_utf8_all (print root) in
       subst (TextAnswer depth scope bytes) (element_is_read depth scope root unbound proper fits).read (text_answer depth scope bytes);
-  of_a_value = λ value chars.
+  for_value = λ value chars.
       let bytes = encode_utf8_all (body_print value) in
       subst (BodyAnswer bytes) (body_is_read value chars) (body_answer bytes);
 }

@@ -3,7 +3,7 @@ use Rattle.tree_text.proofs.print_laws.prints_spell_what_was_printed.Goals as go
 
 pub returns : goal.returns
 returns c = record {
-  of_a_document = λ depth scope root unbound proper fits. (document_is_read depth scope root unbound proper fits).spelled;
-  of_an_element = λ depth scope root unbound proper fits. (element_is_read depth scope root unbound proper fits).spelled;
-  of_a_value = body_is_spelled;
+  for_document = λ depth scope root unbound proper fits. (document_is_read depth scope root unbound proper fits).spelled;
+  for_element = λ depth scope root unbound proper fits. (element_is_read depth scope root unbound proper fits).spelled;
+  for_value = body_is_spelled;
 }

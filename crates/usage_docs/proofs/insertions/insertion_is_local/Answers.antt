@@ -3,4 +3,4 @@ use Rattle.usage_docs.proofs.Neighbours.{insertion}
 use Rattle.usage_docs.proofs.insertions.insertion_is_local.Goals as goal
 
 pub returns : goal.returns
-returns c = record { by_the_model = insertion; by_parts = insertion_by_parts }
+returns c = record { by_model = insertion; by_parts = insertion_by_parts }

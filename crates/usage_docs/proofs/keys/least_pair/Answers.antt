@@ -1,6 +1,6 @@
 use Rattle.std.proofs.Common.{ℕ, ◌+◌, Option, Some, add-one, ap, arith, subst, sym, ◌∙◌}
 use Rattle.std.proofs.lemmas.Bool.{false≢true}
-use Rattle.usage_docs.specs.declared.rows.Kind.{Kind}
+use Rattle.usage_docs.specs.declared.schema_table.ElementKind.{ElementKind}
 use Rattle.usage_docs.specs.readers.Repeats.{IsLeastPair}
 use Rattle.usage_docs.proofs.RepeatLemmas.{lesser_pair, no_pair_yet, other_pair, pairs_end}
 use Rattle.usage_docs.proofs.keys.least_pair.Goals as goal
@@ -20,13 +20,13 @@ loop-at-preserved c =
     let less = c.loop-at-test.true in
     elim c.if-is_pair.branch [
       | then-is_pair w ↦
-          subst (λ (o : Option (ℕ × Kind)). IsLeastPair keys (at + 1) o) (sym (w.found-is ∙ ap Some w.lesser.ensures.first_of_the_two))
-          (lesser_pair keys at one other (omega (arith, pos)) less c.index-keys-at-in-loop-at.is c.index-keys-at.is (at + 1) found (add-one at) (c.is_pair.ensures.tells_whether_the_key_is_repeated.0 w.if-is_pair.true) c.loop-at.invariant)
+          subst (λ (o : Option (ℕ × ElementKind)). IsLeastPair keys (at + 1) o) (sym (w.found-is ∙ ap Some w.lesser.ensures.exact))
+          (lesser_pair keys at one other (omega (arith, pos)) less c.index-keys-at-in-loop-at.is c.index-keys-at.is (at + 1) found (add-one at) (c.is_pair.ensures.exact.0 w.if-is_pair.true) c.loop-at.invariant)
       | else-is_pair w ↦
-          subst (λ (o : Option (ℕ × Kind)). IsLeastPair keys (at + 1) o) (sym w.found-is)
+          subst (λ (o : Option (ℕ × ElementKind)). IsLeastPair keys (at + 1) o) (sym w.found-is)
           (other_pair keys at one other (omega (arith, pos)) less c.index-keys-at-in-loop-at.is c.index-keys-at.is (at + 1) found (add-one at)
-          (λ pair. false≢true (sym w.if-is_pair.false ∙ c.is_pair.ensures.tells_whether_the_key_is_repeated.1 pair)) c.loop-at.invariant)
+          (λ pair. false≢true (sym w.if-is_pair.false ∙ c.is_pair.ensures.exact.1 pair)) c.loop-at.invariant)
     ]
 
 pub returns : goal.returns
-returns c = record { finds_the_least = pairs_end c.args.keys.now c.loop-at.at c.loop-at.found c.loop-at-test.false c.loop-at.invariant }
+returns c = record { is_least_pair = pairs_end c.args.keys.now c.loop-at.at c.loop-at.found c.loop-at-test.false c.loop-at.invariant }

@@ -9,7 +9,7 @@ use Rattle.usage_docs.proofs.lengths.binding_len.Goals as goal
 
 pub returns-in-Ok : goal.returns-in-Ok
 returns-in-Ok c = record {
-  counts_the_binding =
+  exact =
       let p = c.args.prefix.now in
       let bs = c.args.bindings.now in
       let binding = c.index-bindings-place.result in
@@ -17,12 +17,12 @@ returns-in-Ok c = record {
       let one : binding_of p bs ≡ binding ∷ [] =
       found p bs c.requires c.in-Ok.place binding c.in-Ok.ensures.bound (is binding) ∙ ap (λ (b : Decl). b ∷ []) (sym c.index-bindings-place.is) in
       let len : decls_len (binding_of p bs) ≡ byte_len (print_decl binding) = ap decls_len one ∙ only_one binding in
-      c.decl_len.ensures.counts_the_printed_declaration ∙ sym (λ i. min (len i) 18446744073709551615);
+      c.decl_len.ensures.exact ∙ sym (λ i. min (len i) 18446744073709551615);
 }
 
 pub returns-in-Err : goal.returns-in-Err
 returns-in-Err c = record {
-  counts_the_binding =
+  exact =
       let p = c.args.prefix.now in
       let parts = c.in-Err.ensures.position (to_prefix p) (always_returns_same _ _ _ (λ a r f called. search rules)) in
       sym (ap (λ (bs : List Decl). min (decls_len bs) 18446744073709551615) (not_found p c.args.bindings.now c.requires c.in-Err.field-0 parts));

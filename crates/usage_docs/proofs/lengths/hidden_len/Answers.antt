@@ -31,7 +31,7 @@ loop-decl-preserved c =
             let new : is_some (declared xs d.prefix) ≡ false = was_new _ _ _ c.in_ok-insert.ensures.added (inv.seen (lent d.prefix)) w.if-branch.true in
             let more : decls_len (hidden (take (i + 1) own) bs) ≡ decls_len (hidden xs bs) + decls_len (binding_of d.prefix bs) =
             ap (λ (ds : List Decl). decls_len (hidden ds bs)) next ∙ hides_more xs d new bs in
-            two_capped 18446744073709551615 _ _ _ _ _ _ inv.counted w.binding_len.ensures.counts_the_binding (w.total-is ∙ w.saturating_add-total.ensures) more)
+            two_capped 18446744073709551615 _ _ _ _ _ _ inv.counted w.binding_len.ensures.exact (w.total-is ∙ w.saturating_add-total.ensures) more)
         | else-branch w ↦ (
             let old : is_some (declared xs d.prefix) ≡ true = was_not_new _ _ _ c.in_ok-insert.ensures.added (inv.seen (lent d.prefix)) w.if-branch.false in
             let same : hidden (take (i + 1) own) bs ≡ hidden xs bs = ap (λ (ds : List Decl). hidden ds bs) next ∙ hides_same xs d old bs in
@@ -41,7 +41,7 @@ loop-decl-preserved c =
 
 pub returns : goal.returns
 returns c = record {
-  counts_what_is_hidden =
+  ok =
       c.loop-decl.invariant.counted
       ∙ ap (λ (ds : List Decl). min (decls_len (hidden ds c.args.bindings.now)) 18446744073709551615) (take_all c.loop-decl.decl-index c.args.own.now c.loop-decl-test.false);
 }

@@ -9,11 +9,11 @@ use Rattle.usage_docs.proofs.lengths.service_len.Goals as goal
 
 pub returns-then-is_empty : goal.returns-then-is_empty
 returns-then-is_empty c = record {
-  counts_the_listed_service =
+  ok =
       let root = c.args.outer.now.decls.now in
-      let e = c.args.kid.now in
-      let none : length e.decls ≡ 0 = ap length (sym c.decls-own.ensures.lends_the_declarations) ∙ eqb-true (length c.decls-own.result.now) 0 (sym c.is_empty.ensures ∙ c.if-is_empty.true) in
-      two_capped 18446744073709551615 _ _ _ _ _ _ c.printed_len.ensures.counts_the_printed_element c.requires.counted c.saturating_add-whole.ensures (plain_service root e none);
+      let e = c.args.child_element.now in
+      let none : length e.decls ≡ 0 = ap length (sym c.decls-own.ensures.exact) ∙ eqb-true (length c.decls-own.result.now) 0 (sym c.is_empty.ensures ∙ c.if-is_empty.true) in
+      two_capped 18446744073709551615 _ _ _ _ _ _ c.printed_len.ensures.exact c.requires.counted c.saturating_add-whole.ensures (plain_service root e none);
 }
 
 pub hidden_len-requires : goal.hidden_len-requires
@@ -23,21 +23,21 @@ hidden_len-requires c =
 
 pub overflow_sub-whole : goal.overflow_sub-whole
 overflow_sub-whole c =
-    hid_within c.args.outer.now.decls.now c.args.kid.now _ _ _ _ _ _ c.decls-own.ensures.lends_the_declarations (c.deref.ensures.value ∙ c.requires.bindings) c.printed_len.ensures.counts_the_printed_element c.requires.counted
-    c.saturating_add-whole.ensures c.if-whole.false c.in_ok-hidden.ensures.counts_what_is_hidden
+    hid_within c.args.outer.now.decls.now c.args.child_element.now _ _ _ _ _ _ c.decls-own.ensures.exact (c.deref.ensures.value ∙ c.requires.bindings) c.printed_len.ensures.exact c.requires.counted
+    c.saturating_add-whole.ensures c.if-whole.false c.in_ok-hidden.ensures.ok
 
 pub overflow_sub-whole-2 : goal.overflow_sub-whole-2
 overflow_sub-whole-2 c =
-    own_within c.args.outer.now.decls.now c.args.kid.now _ _ _ _ _ _ c.decls-own.ensures.lends_the_declarations (c.deref.ensures.value ∙ c.requires.bindings) c.printed_len.ensures.counts_the_printed_element c.requires.counted
-    c.saturating_add-whole.ensures c.if-whole.false c.in_ok-hidden.ensures.counts_what_is_hidden c.decls_len.result c.decls_len.ensures.counts_the_printed_declarations
+    own_within c.args.outer.now.decls.now c.args.child_element.now _ _ _ _ _ _ c.decls-own.ensures.exact (c.deref.ensures.value ∙ c.requires.bindings) c.printed_len.ensures.exact c.requires.counted
+    c.saturating_add-whole.ensures c.if-whole.false c.in_ok-hidden.ensures.ok c.decls_len.result c.decls_len.ensures.exact
 
 pub returns : goal.returns
 returns c = record {
-  counts_the_listed_service =
-      let own : List Decl = c.args.kid.now.decls in
-      let is = c.decls-own.ensures.lends_the_declarations in
-      shown_len c.args.outer.now.decls.now c.args.kid.now _ _ _ _ _ _ is (c.deref.ensures.value ∙ c.requires.bindings) c.printed_len.ensures.counts_the_printed_element c.requires.counted
-      c.saturating_add-whole.ensures c.if-whole.false c.in_ok-hidden.ensures.counts_what_is_hidden c.decls_len.result c.in_ok-shown.shown c.saturating_add.result
-      (bindings_in (own ∷ [])) c.decls_len.ensures.counts_the_printed_declarations
-      (c.in_ok-shown.ensures.counts_the_bindings ∙ ap (λ (ds : List Decl). min (decls_len (bindings_in (ds ∷ []))) 18446744073709551615) is) refl c.saturating_add.ensures;
+  ok =
+      let own : List Decl = c.args.child_element.now.decls in
+      let is = c.decls-own.ensures.exact in
+      shown_len c.args.outer.now.decls.now c.args.child_element.now _ _ _ _ _ _ is (c.deref.ensures.value ∙ c.requires.bindings) c.printed_len.ensures.exact c.requires.counted
+      c.saturating_add-whole.ensures c.if-whole.false c.in_ok-hidden.ensures.ok c.decls_len.result c.in_ok-shown.shown c.saturating_add.result
+      (bindings_in (own ∷ [])) c.decls_len.ensures.exact
+      (c.in_ok-shown.ensures.ok ∙ ap (λ (ds : List Decl). min (decls_len (bindings_in (ds ∷ []))) 18446744073709551615) is) refl c.saturating_add.ensures;
 }

@@ -1,48 +1,48 @@
 use Rattle.std.proofs.Common.{rules, inl, refl, sym, ◌∙◌, arith}
 use Rattle.edit_journal.specs.Streams.{stream_state}
-use Rattle.logged_serve.specs.Logging.{Accepts}
-use Rattle.feed_laws.specs.Holding.{FollowedStep}
+use Rattle.edit_journal.specs.LoggedRequests.{Accepts}
+use Rattle.xcap_machine.specs.SubscriberVersions.{FollowedStep}
 use Rattle.xcap_app.proofs.Keeping.{fits_whole, holds_whole, kept_done, kept_failed, kept_port_failed}
 use Rattle.xcap_app.proofs.keep.serve_logged.Goals as goal
 
 pub serve_port_logged-served-requires-clause-fits : goal.serve_port_logged-served-requires-clause-fits
 serve_port_logged-served-requires-clause-fits g c =
     let j = c.args.journal.now in
-    fits_whole c.args.log.now (stream_state (g.O.Line.state j.output.now) j.output.ghost_name j.len j.faults) c.requires.whole c.requires.fits
+    fits_whole c.args.log.now (stream_state (g.O.Line.state j.output.now) j.output.ghost_name j.len j.faults) c.requires.not_torn c.requires.fits
 
-pub serve_port_logged-served-requires-clause-room : goal.serve_port_logged-served-requires-clause-room
-serve_port_logged-served-requires-clause-room g c = omega (arith, c.requires.short, c.ranges.count.fits)
+pub serve_port_logged-served-requires-clause-room_left : goal.serve_port_logged-served-requires-clause-room_left
+serve_port_logged-served-requires-clause-room_left g c = omega (arith, c.requires.length_bounded, c.ranges.count.fits)
 
 pub returns-in-Err-clause-keeps_on : goal.returns-in-Err-clause-keeps_on
 returns-in-Err-clause-keeps_on g c = λ requests m kept stands redone told held.
-    inl (c.in-Err.ensures.listens_or_fails_with_a_cause, held, refl)
+    inl (c.in-Err.ensures.listens_or_fails, held, refl)
 
 pub returns-then-has_failed-clause-keeps_on : goal.returns-then-has_failed-clause-keeps_on
 returns-then-has_failed-clause-keeps_on g c = λ requests m kept stands redone told held.
     let p = g.P.Line.state in
     let s = c.args.server.now in
-    let holds = holds_whole (Accepts (FollowedStep s.root) m) c.args.log.now requests _ c.requires.whole c.requires.fits told held in
+    let holds = holds_whole (Accepts (FollowedStep s.root) m) c.args.log.now requests _ c.requires.not_torn c.requires.fits told held in
     kept_failed g.W.Watchers.keeps c.args.address.now c.args.count c.serve_port_logged-served.result requests s c.serve_port_logged-served.new.server m c.serve_port_logged-served.new.log _ _
     (p c.args.port.now) (p c.listen.new.self) (p c.serve_port_logged-served.new.port) c.args.watchers.now c.serve_port_logged-served.new.watchers
-    c.requires.no_fault c.serve_port_logged-served.ensures.still_fits redone c.in_default.ensures.listens_or_fails_with_a_cause (c.serve_port_logged-served.ensures.serves_as_the_machine m requests kept stands holds)
-    (sym c.has_failed.ensures.tells_whether_a_call_failed ∙ c.if-has_failed.true)
+    c.requires.no_fault c.serve_port_logged-served.ensures.still_fits redone c.in_default.ensures.listens_or_fails (c.serve_port_logged-served.ensures.machine_session m requests kept stands holds)
+    (sym c.has_failed.ensures.exact ∙ c.if-has_failed.true)
 
 pub returns-in-PortFailed-clause-keeps_on : goal.returns-in-PortFailed-clause-keeps_on
 returns-in-PortFailed-clause-keeps_on g c = λ requests m kept stands redone told held.
     let p = g.P.Line.state in
     let s = c.args.server.now in
-    let holds = holds_whole (Accepts (FollowedStep s.root) m) c.args.log.now requests _ c.requires.whole c.requires.fits told held in
+    let holds = holds_whole (Accepts (FollowedStep s.root) m) c.args.log.now requests _ c.requires.not_torn c.requires.fits told held in
     kept_port_failed g.W.Watchers.keeps c.args.address.now c.args.count c.serve_port_logged-served.result requests s c.serve_port_logged-served.new.server m c.serve_port_logged-served.new.log _ _
     (p c.args.port.now) (p c.listen.new.self) (p c.serve_port_logged-served.new.port) c.args.watchers.now c.serve_port_logged-served.new.watchers
-    c.requires.no_fault c.serve_port_logged-served.ensures.still_fits redone c.in_default.ensures.listens_or_fails_with_a_cause (c.serve_port_logged-served.ensures.serves_as_the_machine m requests kept stands holds)
-    (sym c.has_failed.ensures.tells_whether_a_call_failed ∙ c.if-has_failed.false) c.in-PortFailed.is
+    c.requires.no_fault c.serve_port_logged-served.ensures.still_fits redone c.in_default.ensures.listens_or_fails (c.serve_port_logged-served.ensures.machine_session m requests kept stands holds)
+    (sym c.has_failed.ensures.exact ∙ c.if-has_failed.false) c.in-PortFailed.is
 
 pub returns-in-Count-clause-keeps_on : goal.returns-in-Count-clause-keeps_on
 returns-in-Count-clause-keeps_on g c = λ requests m kept stands redone told held.
     let p = g.P.Line.state in
     let s = c.args.server.now in
-    let holds = holds_whole (Accepts (FollowedStep s.root) m) c.args.log.now requests _ c.requires.whole c.requires.fits told held in
+    let holds = holds_whole (Accepts (FollowedStep s.root) m) c.args.log.now requests _ c.requires.not_torn c.requires.fits told held in
     kept_done g.W.Watchers.keeps c.args.address.now c.args.count c.serve_port_logged-served.result requests s c.serve_port_logged-served.new.server m c.serve_port_logged-served.new.log _ _
     (p c.args.port.now) (p c.listen.new.self) (p c.serve_port_logged-served.new.port) c.args.watchers.now c.serve_port_logged-served.new.watchers
-    c.requires.no_fault c.serve_port_logged-served.ensures.still_fits redone c.in_default.ensures.listens_or_fails_with_a_cause (c.serve_port_logged-served.ensures.serves_as_the_machine m requests kept stands holds)
-    (sym c.has_failed.ensures.tells_whether_a_call_failed ∙ c.if-has_failed.false) (search rules)
+    c.requires.no_fault c.serve_port_logged-served.ensures.still_fits redone c.in_default.ensures.listens_or_fails (c.serve_port_logged-served.ensures.machine_session m requests kept stands holds)
+    (sym c.has_failed.ensures.exact ∙ c.if-has_failed.false) (search rules)

@@ -3,9 +3,9 @@ use Rattle.xcap_app.proofs.replay.replay_by.Goals as goal
 
 pub returns : goal.returns
 returns g c = record {
-  replays_by_the_server =
+  replays_command =
       let i = g.I.Line.state in
       let o = g.O.Line.state in
       replayed g.W.Watchers.keeps c.args.server.now.root c.serve_pair.result c.exit_of.result c.args.server.now.content (i c.args.input.now) (i c.serve_pair.new.input) (o c.args.output.now) (o c.serve_pair.new.output)
-      c.args.watchers.now c.serve_pair.new.watchers c.requires c.serve_pair.ensures.serves_the_input c.exit_of.ensures.exit_of_the_connection;
+      c.args.watchers.now c.serve_pair.new.watchers c.requires c.serve_pair.ensures.serves_input c.exit_of.ensures.exact;
 }

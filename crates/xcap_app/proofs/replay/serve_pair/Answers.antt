@@ -6,12 +6,12 @@ use Rattle.xcap_app.proofs.replay.serve_pair.Goals as goal
 
 pub returns : goal.returns
 returns g c = record {
-  serves_the_input = λ m kept stands.
+  serves_input = λ m kept stands.
       let i = g.I.Line.state in
       let o = g.O.Line.state in
       let made = c.new-pair.result in
       let p = c.serve_connection.new.line in
-      let s = c.serve_connection.ensures.serves_as_the_machine m kept stands in
+      let s = c.serve_connection.ensures.machine_session m kept stands in
       let r : ServesInput g.W.Watchers.keeps c.args.server.now.root m c.serve_connection.result (i c.args.input.now) (i p.input.now) (o c.args.output.now) (o p.output.now) c.args.watchers.now c.serve_connection.new.watchers =
       by_pair g.W.Watchers.keeps c.args.server.now.root c.serve_connection.result m s.0 (i c.args.input.now) (o c.args.output.now) (i p.input.now) (o p.output.now)
       (pair_state (i made.input.now) (o made.output.now) (made.input.ghost_name ∷ made.output.ghost_name ∷ []))

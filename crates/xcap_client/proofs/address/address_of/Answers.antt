@@ -14,13 +14,13 @@ without_port root named = rw named refl
 
 pub returns : goal.returns
 returns c = record {
-  address_of_the_root =
-      let bytes : c.as_bytes.result.now ≡ encode_utf8_all (authority_of c.args.root.now) = c.as_bytes.ensures.value ∙ sym (encodes-chars c.authority-2.result.now c.authority-2.utf8) ∙ ap encode_utf8_all c.authority-2.ensures.tells_the_authority in
-      let test = sym (c.names_port.ensures.tells_whether_a_port_is_named ∙ ap names_port bytes) in
-      let begun = c.in_ok-address.ensures.copies_the_text ∙ c.authority.ensures.tells_the_authority in
+  ok =
+      let bytes : c.as_bytes.result.now ≡ encode_utf8_all (authority_of c.args.root.now) = c.as_bytes.ensures.value ∙ sym (encodes-chars c.authority-2.result.now c.authority-2.utf8) ∙ ap encode_utf8_all c.authority-2.ensures.exact in
+      let test = sym (c.names_port.ensures.exact ∙ ap names_port bytes) in
+      let begun = c.in_ok-address.ensures.same_chars ∙ c.authority.ensures.exact in
       elim c.if-not-names_port.branch [
         | then-not-names_port+in_ok-push_str w ↦
-            let pushed : w.push_str.new.self ≡ c.in_ok-address.address ++ codes ":80" = w.in_ok-push_str.ensures.adds_the_characters ∙ ap (λ (l : List ℕ). c.in_ok-address.address ++ l) port in
+            let pushed : w.push_str.new.self ≡ c.in_ok-address.address ++ codes ":80" = w.in_ok-push_str.ensures.appends_chars ∙ ap (λ (l : List ℕ). c.in_ok-address.address ++ l) port in
             w.address-is ∙ pushed ∙ ap (λ (l : List ℕ). l ++ codes ":80") begun ∙ without_port c.args.root.now (test ∙ w.if-not-names_port.true)
         | else-not-names_port w ↦ w.address-is ∙ begun ∙ with_port c.args.root.now (test ∙ w.if-not-names_port.false)
       ];

@@ -1,8 +1,8 @@
 use Rattle.xcap_client.proofs.Words.{get, is_lawful, getting_is_lawful}
 use Rattle.xcap_client.proofs.asks.getting.Goals as goal
 
-pub returns-clause-asks_as_said : goal.returns-clause-asks_as_said
-returns-clause-asks_as_said c = rw get at c.bare.ensures.asks_without_a_body
+pub returns-clause-ok : goal.returns-clause-ok
+returns-clause-ok c = rw get at c.bare.ensures.ok
 
-pub returns-clause-ask_is_lawful : goal.returns-clause-ask_is_lawful
-returns-clause-ask_is_lawful c = is_lawful _ c.bare.result (getting_is_lawful _ _) (returns-clause-asks_as_said c)
+pub returns-clause-lawful_ask : goal.returns-clause-lawful_ask
+returns-clause-lawful_ask c = is_lawful _ c.bare.result (getting_is_lawful _ _) (returns-clause-ok c)

@@ -8,7 +8,7 @@ returns g c = record {
   one_exchange_judged = record {
     given = Ok c.in_ok-response.response;
     exchanges = c.in_ok-response.ensures.one_exchange;
-    judged = c.judge.ensures.judged_by_the_status;
+    judged = c.judge.ensures.judged_by_status;
   };
 }
 

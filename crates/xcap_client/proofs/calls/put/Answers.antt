@@ -1,7 +1,7 @@
 use Rattle.std.proofs.Common.{refl, subst, ap, ◌∙◌}
 use Rattle.std.specs.Prelude.{Err}
 use Rattle.std.proofs.lemmas.Result.{err_from_is_err_and}
-use Rattle.http_exchange.specs.declared.request.Ask.{Ask}
+use Rattle.xcap_client.specs.declared.request.Ask.{Ask}
 use Rattle.xcap_client.specs.declared.fault.ClientFault.TheVariants.{NoMemory}
 use Rattle.xcap_client.specs.Calls.{Calls}
 use Rattle.xcap_client.specs.Exchanges.{not_begun}
@@ -9,12 +9,12 @@ use Rattle.xcap_client.proofs.calls.put.Goals as goal
 
 pub returns : goal.returns
 returns g c = record {
-  asks_that_it_stands = subst (λ (ask : Ask). Calls c.args.root.now ask (g.C.Line.state c.args.peer.now) (g.C.Line.state c.call.new.peer) c.call.result) c.in_ok-ask.ensures.asks_as_said c.call.ensures.one_exchange_judged;
+  calls_put = subst (λ (ask : Ask). Calls c.args.root.now ask (g.C.Line.state c.args.peer.now) (g.C.Line.state c.call.new.peer) c.call.result) c.in_ok-ask.ensures.ok c.call.ensures.one_exchange_judged;
 }
 
 pub returns-in_err-ask : goal.returns-in_err-ask
 returns-in_err-ask g c = record {
-  asks_that_it_stands =
+  calls_put =
       let p = err_from_is_err_and c.from_residual.result c.from_residual.ensures.1 in
       record { given = Err NoMemory; exchanges = not_begun refl refl; judged = p.1 ∙ ap Err p.2 };
 }

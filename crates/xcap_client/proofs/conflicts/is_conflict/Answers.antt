@@ -8,11 +8,11 @@ use Rattle.xcap_client.proofs.conflicts.is_conflict.Goals as goal
 
 pub returns-then-is_error_uri : goal.returns-then-is_error_uri
 returns-then-is_error_uri c = record {
-  tells_whether_it_is_one =
+  exact =
       let local : List ℕ = c.args.root.now.name.local in
-      let named : c.is.result ≡ bytes_eq local (codes "xcap-error") = c.is.ensures.tells_whether_it_has_these ∙ ap (λ (n : Name). bytes_eq n.local (chars (codes "xcap-error"))) c.name.ensures.lends_the_name ∙ ap (bytes_eq local) xcap_error in
-      let same : true ≡ bytes_eq (chars c.in-Some.uri.now) error_uri = sym c.if-is_error_uri.true ∙ c.is_error_uri.ensures.tells_whether_it_is_that_one in
+      let named : c.is.result ≡ bytes_eq local (codes "xcap-error") = c.is.ensures.exact ∙ ap (λ (n : Name). bytes_eq n.local (chars (codes "xcap-error"))) c.name.ensures.exact ∙ ap (bytes_eq local) xcap_error in
+      let same : true ≡ bytes_eq (chars c.in-Some.uri.now) error_uri = sym c.if-is_error_uri.true ∙ c.is_error_uri.ensures.exact in
       named
       ∙ ap (λ (b : Bool). b && bytes_eq local (codes "xcap-error")) same
-      ∙ ap (λ (uri : Option (List ℕ)). same_uri uri (Some error_uri) && bytes_eq local (codes "xcap-error")) c.in-Some.ensures.namespace_of_its_name;
+      ∙ ap (λ (uri : Option (List ℕ)). same_uri uri (Some error_uri) && bytes_eq local (codes "xcap-error")) c.in-Some.ensures.exact;
 }

@@ -15,7 +15,7 @@ letters = refl
 
 pub returns : goal.returns
 returns c = record {
-  tells_whether_it_is_that_one =
+  exact =
       let uri : List ℕ = c.args.uri.now in
       c.eq.ensures ∙ bytes_eq-chars uri error_uri c.utf8.uri in_utf8 ∙ ap (bytes_eq (chars uri)) letters;
 }

@@ -2,4 +2,4 @@ use Rattle.xcap_client.proofs.Passed.{connects_once}
 use Rattle.xcap_client.proofs.laws.calls_make_one_connection.Goals as goal
 
 pub returns : goal.returns
-returns c = record { one_connection_at_most = connects_once }
+returns c = record { one_at_most = connects_once }

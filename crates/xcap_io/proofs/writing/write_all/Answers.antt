@@ -11,8 +11,8 @@ loop-done-preserved g c =
     let bytes = c.args.bytes.now in
     let done = c.loop-done.done in
     record {
-      within = omega (arith, length-drop done bytes, rw take_rest at call.within_the_piece_or_buffer.1);
-      taken = appends_next _ _ _ done c.in_ok-done.field-0 bytes so_far.taken (rw take_rest at call.takes_bytes_behind_those_before);
+      within = omega (arith, length-drop done bytes, rw take_rest at call.in_bounds.1);
+      taken = appends_next _ _ _ done c.in_ok-done.field-0 bytes so_far.taken (rw take_rest at call.appends_written);
       writes = writes_on _ _ _ so_far.writes call.only_writes.writes;
       stayed = call.only_writes.counts ∙ so_far.stayed;
     }

@@ -1,6 +1,6 @@
 use Rattle.std.proofs.Common.{◌≡◌, length, ◌-◌, ◌≤◌, take}
 use Rattle.xcap_io.specs.Causes.{Writes}
-use Rattle.xcap_io.specs.Passing.{Took}
+use Rattle.xcap_io.specs.StreamTraffic.{Took}
 use Rattle.xcap_io.proofs.writing.write_all.Given as goal
 
 abbrev pub invariant-loop-done : goal.invariant-loop-done

@@ -1,8 +1,8 @@
 use Rattle.xcap_server.proofs.Counting.{line_counts, port_counts}
 use Rattle.xcap_server.proofs.laws.all_bytes_count.Goals as goal
 
-pub returns-clause-bytes_of_one_line_count : goal.returns-clause-bytes_of_one_line_count
-returns-clause-bytes_of_one_line_count g c = line_counts g.W.Watchers.keeps
+pub returns-clause-one_stream_bytes : goal.returns-clause-one_stream_bytes
+returns-clause-one_stream_bytes g c = line_counts g.W.Watchers.keeps
 
-pub returns-clause-bytes_of_each_connection_count : goal.returns-clause-bytes_of_each_connection_count
-returns-clause-bytes_of_each_connection_count g c = port_counts g.W.Watchers.keeps
+pub returns-clause-each_connection_bytes : goal.returns-clause-each_connection_bytes
+returns-clause-each_connection_bytes g c = port_counts g.W.Watchers.keeps

@@ -1,6 +1,6 @@
 use Rattle.std.proofs.Common.{subst}
 use Rattle.xcap_uri.specs.declared.target.Target.{Target}
-use Rattle.machine_words.specs.Requests.{IsWritableTarget}
+use Rattle.xcap_machine.specs.Requests.{IsWritableTarget}
 use Rattle.xcap_server.proofs.requests.put_target.Goals as goal
 
 pub put_node-requires-clause-writable : goal.put_node-requires-clause-writable

@@ -6,7 +6,7 @@ use Rattle.xcap_uri.proofs.ancestors.push_selector.Goals as goal
 
 pub returns : goal.returns
 returns c = record {
-  adds_the_escaped_selector =
+  appended =
       let end = YieldsList-end (YieldsList-from_chars c.args.selector.now c.utf8.selector cc) c.loop-c.yielded _ c.loop-c.yielded_by _ _ c.in-None.is c.next.ensures.steps in
       c.loop-c.invariant ∙ ap (λ (z : List ℕ). c.args.uri.now ++ flat_map bracket_escape z) (sym (map-id c.loop-c.yielded) ∙ end.0);
 }

@@ -4,4 +4,4 @@ use Rattle.xcap_uri.specs.inner.Spelled.{IsOctet}
 use Rattle.xcap_uri.proofs.laws.are_octets.Goals as goal
 
 pub returns : goal.returns
-returns c = record { each_is_an_octet = All-from_get_or IsOctet c.args.octets.now 0 (λ i within. omega (arith, c.type_inv.octets i)) }
+returns c = record { all_octets = All-from_get_or IsOctet c.args.octets.now 0 (λ i within. omega (arith, c.type_inv.octets i)) }

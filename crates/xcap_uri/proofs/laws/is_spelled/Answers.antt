@@ -5,10 +5,10 @@ use Rattle.xcap_uri.proofs.laws.is_spelled.Goals as goal
 
 pub returns : goal.returns
 returns c = record {
-  spelled_by_its_octets =
+  spelled_text =
       record {
-        utf8 = subst IsUtf8 c.as_str.ensures.bytes_of_the_characters c.as_str.utf8;
-        octets = subst (All IsOctet) (c.as_bytes.ensures.value ∙ c.as_str.ensures.bytes_of_the_characters) c.are_octets.ensures.each_is_an_octet;
-        letters = ap chars (sym c.as_str.ensures.bytes_of_the_characters) ∙ c.as_str.ensures.characters_of_the_text;
+        utf8 = subst IsUtf8 c.as_str.ensures.utf8_bytes c.as_str.utf8;
+        octets = subst (All IsOctet) (c.as_bytes.ensures.value ∙ c.as_str.ensures.utf8_bytes) c.are_octets.ensures.all_octets;
+        letters = ap chars (sym c.as_str.ensures.utf8_bytes) ∙ c.as_str.ensures.same_chars;
       };
 }

@@ -11,6 +11,6 @@ returns c =
     let root = c.args.root.now in
     let doc = c.args.doc.now in
     record {
-      below_the_path_of_the_root = λ readable. read_is root (path_of root ++ (slash ∷ id_text doc)) (Document doc) (reads_back root doc c.text-text.ensures.text_is_a_root c.is_spelled_home.ensures.user_spelled_by_its_octets c.is_spelled.ensures.spelled_by_its_octets readable);
-      below_the_whole_root = λ readable. read_is root (root ++ (slash ∷ id_text doc)) (Document doc) (reads_back_whole root doc c.is_spelled_home.ensures.user_spelled_by_its_octets c.is_spelled.ensures.spelled_by_its_octets readable);
+      below_root_path = λ readable. read_is root (path_of root ++ (slash ∷ id_text doc)) (Document doc) (reads_back root doc c.text-text.ensures.valid_root_text c.is_spelled_home.ensures.spelled_home c.is_spelled.ensures.spelled_text readable);
+      below_whole_root = λ readable. read_is root (root ++ (slash ∷ id_text doc)) (Document doc) (reads_back_whole root doc c.is_spelled_home.ensures.spelled_home c.is_spelled.ensures.spelled_text readable);
     }

@@ -1,5 +1,5 @@
 use Rattle.std.proofs.Common.{◌≡◌, drop}
-use Rattle.xcap_uri.specs.Cuts.{rest_after_front}
+use Rattle.xcap_uri.specs.Delimiters.{rest_after_front}
 use Rattle.xcap_uri.proofs.query.after.Given as goal
 
 abbrev pub invariant-loop-expected : goal.invariant-loop-expected

@@ -4,7 +4,7 @@ use Rattle.xcap_uri.specs.Queries.{is_blank}
 use Rattle.xcap_uri.proofs.query.past_blanks.Goals as goal
 
 pub split_at-requires : goal.split_at-requires
-split_at-requires c = omega (arith, run_len_le is_blank c.args.text.now, c.blank_len.ensures.counts_the_spaces)
+split_at-requires c = omega (arith, run_len_le is_blank c.args.text.now, c.blank_len.ensures.exact)
 
 pub returns : goal.returns
-returns c = record { rest_behind_spaces = c.split_at.ensures.back ∙ ap (λ n. drop n c.args.text.now) c.blank_len.ensures.counts_the_spaces ∙ drop_run is_blank c.args.text.now }
+returns c = record { exact = c.split_at.ensures.back ∙ ap (λ n. drop n c.args.text.now) c.blank_len.ensures.exact ∙ drop_run is_blank c.args.text.now }

@@ -4,7 +4,7 @@ use Rattle.xml_tree.specs.Characters.{is_space}
 use Rattle.xcap_uri.proofs.query.past_space.Goals as goal
 
 pub split_at-requires : goal.split_at-requires
-split_at-requires c = omega (arith, run_len_le is_space c.args.text.now, c.space_len.ensures.counts_the_white_space)
+split_at-requires c = omega (arith, run_len_le is_space c.args.text.now, c.space_len.ensures.exact)
 
 pub returns : goal.returns
-returns c = record { rest_behind_white_space = c.split_at.ensures.back ∙ ap (λ n. drop n c.args.text.now) c.space_len.ensures.counts_the_white_space ∙ drop_run is_space c.args.text.now }
+returns c = record { exact = c.split_at.ensures.back ∙ ap (λ n. drop n c.args.text.now) c.space_len.ensures.exact ∙ drop_run is_space c.args.text.now }

@@ -1,6 +1,6 @@
 use Rattle.std.proofs.Common.{◌≡◌, length}
 use Rattle.std.specs.List.{list_all}
-use Rattle.xcap_uri.specs.Cuts.{pieces}
+use Rattle.xcap_uri.specs.Delimiters.{pieces}
 use Rattle.xcap_uri.specs.Roots.{is_some_of, is_segment_char, slash}
 use Rattle.xcap_uri.proofs.root.are_segments.Given as goal
 

@@ -8,11 +8,11 @@ use Rattle.xcap_uri.proofs.root.read_root.Goals as goal
 pub returns-in_default : goal.returns-in_default
 unfolding root_of
 returns-in_default c = record {
-  reads_the_root =
+  ok =
       let text = c.args.text.now in
-      sym (cond-false (is_root text) (Some text) None (no_root text (ap behind_scheme (sym c.as_bytes-text.ensures.value) ∙ sym c.in_default.ensures.rest_behind_the_scheme)));
+      sym (cond-false (is_root text) (Some text) None (no_root text (ap behind_scheme (sym c.as_bytes-text.ensures.value) ∙ sym c.in_default.ensures.exact)));
 }
 
-pub make_root-requires-clause-root : goal.make_root-requires-clause-root
-make_root-requires-clause-root c =
-    some_root c.as_bytes-text.result.now c.in-Some.rest.now (sym c.in-Some.ensures.rest_behind_the_scheme) c.if-text-gt-GREATEST_LENGTH.false (sym c.if-not-are_authority_and_segments.ensures.tells_whether_segments_follow_an_authority)
+pub make_root-requires-clause-valid_root_text : goal.make_root-requires-clause-valid_root_text
+make_root-requires-clause-valid_root_text c =
+    some_root c.as_bytes-text.result.now c.in-Some.rest.now (sym c.in-Some.ensures.exact) c.if-text-gt-MAX_ROOT_LEN.false (sym c.if-not-are_authority_and_segments.ensures.exact)

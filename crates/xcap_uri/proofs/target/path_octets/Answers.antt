@@ -4,4 +4,4 @@ use Rattle.xcap_uri.proofs.Ascii.{octets_are, path_letters}
 use Rattle.xcap_uri.proofs.target.path_octets.Goals as goal
 
 pub returns : goal.returns
-returns c = record { octets_of_the_path = c.as_bytes.ensures.value ∙ octets_are c.path.result.now (path_of c.args.root.now) c.path.utf8 c.path.ensures.path_of_the_root (path_letters c.args.root.now c.path.ensures.text_is_a_root) }
+returns c = record { exact = c.as_bytes.ensures.value ∙ octets_are c.path.result.now (path_of c.args.root.now) c.path.utf8 c.path.ensures.root_path (path_letters c.args.root.now c.path.ensures.valid_root_text) }

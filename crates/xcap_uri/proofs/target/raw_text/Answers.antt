@@ -7,8 +7,8 @@ use Rattle.xcap_uri.proofs.target.raw_text.Goals as goal
 
 pub returns-in_ok-push_raw-in-Some : goal.returns-in_ok-push_raw-in-Some
 returns-in_ok-push_raw-in-Some c = record {
-  text_of_what_is_raw =
+  ok =
       let octets = with_query c.in-Some.selector.now (option_map (λ x. x.now) c.args.query) in
-      let bytes = c.in_ok-push_raw-in-Some.ensures.adds_what_is_raw ∙ ap (λ (l : List ℕ). l ++ escaped is_visible octets) c.new-line.ensures.bytes in
-      rw c.in-Some.is (c.own.ensures.holds_the_string ∙ ap chars bytes ∙ visible_letters octets);
+      let bytes = c.in_ok-push_raw-in-Some.ensures.appended ∙ ap (λ (l : List ℕ). l ++ escaped is_visible octets) c.new-line.ensures.bytes in
+      rw c.in-Some.is (c.own.ensures.exact ∙ ap chars bytes ∙ visible_letters octets);
 }

@@ -8,7 +8,7 @@ returns c =
     let root = c.args.root.now in
     let target = c.args.target.now in
     record {
-      answer_by_the_rules = target_answered root target c.read.result c.read.ensures.answer_or_want_of_memory;
-      outside_without_memory = c.read.ensures.outside_the_root_is_told_so;
-      readable_ids = answer_nameable (target_read root target) c.read.result (target_readable root target) c.read.ensures.answer_or_want_of_memory;
+      rules_answer = target_answered root target c.read.result c.read.ensures.stated_answer;
+      outside_without_memory = c.read.ensures.outside_is_refused;
+      readable_ids = answer_nameable (target_read root target) c.read.result (target_readable root target) c.read.ensures.stated_answer;
     }

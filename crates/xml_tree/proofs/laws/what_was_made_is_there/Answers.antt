@@ -2,4 +2,4 @@ use Rattle.xml_tree.proofs.PlaceLaws.{at-changed, at-put_over}
 use Rattle.xml_tree.proofs.laws.what_was_made_is_there.Goals as goal
 
 pub returns : goal.returns
-returns c = record { place_holds_the_change = at-changed; place_holds_what_was_put = at-put_over }
+returns c = record { holds_changed = at-changed; holds_put = at-put_over }

@@ -20,5 +20,5 @@ returns c =
     let h : suc (c.len-at.result - 1) ≡ length ns.items = omega (arith, c.len-at.ensures, ns.ok.0, last_there ns.items c.requires) in
     let at : c.len-at.result - 1 ≡ length ns.items - 1 = ap (λ (n : ℕ). n - 1) (c.len-at.ensures ∙ ns.ok.0) in (
       (refl, λ w. ap (λ (i : ℕ). with_item ns i (Elem w)) at),
-      record { writes_back = tt; lends_the_element = sym (ap elem_of c.index_mut.ensures.value ∙ last_at ns.items (c.len-at.result - 1) node h) ∙ c.elem_mut.ensures.lends_the_element },
+      record { writes_back = tt; lends_element = sym (ap elem_of c.index_mut.ensures.value ∙ last_at ns.items (c.len-at.result - 1) node h) ∙ c.elem_mut.ensures.lends_element },
     )

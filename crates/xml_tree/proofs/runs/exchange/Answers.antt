@@ -7,7 +7,7 @@ use Rattle.xml_tree.specs.Nodes.{AreNormal, content_of}
 use Rattle.xml_tree.proofs.RunLemmas.{AreNormal-drop, AreNormal-take, AreNormal-three, content_of-between}
 use Rattle.xml_tree.proofs.runs.exchange.Goals as goal
 
--- what stands in the place of the nodes
+-- the nodes that are in place of the old ones
 spliced : (c : goal.After-drop-gone) → c.splice.new.self.items ≡ take c.in_ok-start.start c.args.nodes.now.items ++ (c.in_ok-joined.joined.items ++ drop c.in_ok-end.end c.args.nodes.now.items)
 spliced c =
     let it = c.in_ok-_gone.ensures.items in
@@ -16,24 +16,24 @@ spliced c =
     let all = items_from_drains it.1 (drained.1.0, drained.1.1, λ _. (drained.0, drained.1.2)) (YieldsList-from_vec c.in_ok-joined.joined.items it.2.0 same_len) in
     it.4 ∙ ap (λ l. splice c.args.nodes.now.items c.in_ok-start.start c.in_ok-end.end l) (sym (map-id it.1) ∙ all)
 
-pub returns-clause-normal_nodes_stay_normal : goal.returns-clause-normal_nodes_stay_normal
-returns-clause-normal_nodes_stay_normal c = λ normal.
+pub returns-clause-stays_normal : goal.returns-clause-stays_normal
+returns-clause-stays_normal c = λ normal.
     let ns = c.args.nodes.now.items in
-    let start = rw c.deref.ensures.value at c.in_ok-start.ensures.no_text_meets_the_cut in
-    let end = rw c.deref-2.ensures.value at c.in_ok-end.ensures.no_text_meets_the_cut in
+    let start = rw c.deref.ensures.value at c.in_ok-start.ensures.no_adjoining_text in
+    let end = rw c.deref-2.ensures.value at c.in_ok-end.ensures.no_adjoining_text in
     subst AreNormal (sym (spliced c))
-    (AreNormal-three (take c.in_ok-start.start ns) c.in_ok-joined.joined.items (drop c.in_ok-end.end ns) (AreNormal-take c.in_ok-start.start ns normal) c.in_ok-joined.ensures.normal_nodes_stay_normal
+    (AreNormal-three (take c.in_ok-start.start ns) c.in_ok-joined.joined.items (drop c.in_ok-end.end ns) (AreNormal-take c.in_ok-start.start ns normal) c.in_ok-joined.ensures.stays_normal
     (AreNormal-drop c.in_ok-end.end ns normal) (start normal) (end normal))
 
-pub returns-clause-exchanges_the_nodes : goal.returns-clause-exchanges_the_nodes
-returns-clause-exchanges_the_nodes c =
+pub returns-clause-replaces_nodes : goal.returns-clause-replaces_nodes
+returns-clause-replaces_nodes c =
     let ns = c.args.nodes.now.items in
     let before = take c.in_ok-start.start ns in
     let n1 = c.with_text_before.new.more.items in
     let n2 = c.with_text_behind.new.more.items in
-    let start = rw c.deref.ensures.value at c.in_ok-start.ensures.nodes_stay_in_order in
-    let end = rw c.deref-2.ensures.value at c.in_ok-end.ensures.nodes_stay_in_order in
-    ap content_of (spliced c) ∙ content_of-between before c.in_ok-joined.joined.items n2 (drop c.in_ok-end.end ns) c.in_ok-joined.ensures.content_stays
+    let start = rw c.deref.ensures.value at c.in_ok-start.ensures.nodes_in_order in
+    let end = rw c.deref-2.ensures.value at c.in_ok-end.ensures.nodes_in_order in
+    ap content_of (spliced c) ∙ content_of-between before c.in_ok-joined.joined.items n2 (drop c.in_ok-end.end ns) c.in_ok-joined.ensures.same_content
     ∙ ap content_of
     (ap (λ l. before ++ l) end ∙ sym (append_assoc before n1 (drop c.args.to ns)) ∙ ap (λ l. l ++ drop c.args.to ns) start
     ∙ append_assoc (take c.args.from ns) c.args.new.items (drop c.args.to ns))

@@ -15,7 +15,7 @@ letters = refl
 
 pub returns : goal.returns
 returns c = record {
-  tells_whether_it_is_xml =
+  exact =
       let text : List ℕ = c.args.prefix.now in
       c.eq.ensures ∙ bytes_eq-chars text xml_prefix c.utf8.prefix xml_utf8 ∙ ap (bytes_eq (chars text)) letters;
 }

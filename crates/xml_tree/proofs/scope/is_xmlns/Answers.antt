@@ -15,7 +15,7 @@ letters = refl
 
 pub returns : goal.returns
 returns c = record {
-  tells_whether_it_is_xmlns =
+  exact =
       let text : List ℕ = c.args.prefix.now in
       c.eq.ensures ∙ bytes_eq-chars text xmlns_prefix c.utf8.prefix xmlns_utf8 ∙ ap (bytes_eq (chars text)) letters;
 }

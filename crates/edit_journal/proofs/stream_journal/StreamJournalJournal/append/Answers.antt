@@ -15,8 +15,8 @@ loop-done-preserved g c =
     let bytes = c.args.bytes.now in
     let done = c.loop-done.done in
     record {
-      within = omega (arith, length-drop done bytes, rw take_rest at call.within_the_piece_or_buffer.1);
-      taken = appends_next _ _ _ done c.in-Ok.count bytes so_far.taken (rw take_rest at call.takes_bytes_behind_those_before);
+      within = omega (arith, length-drop done bytes, rw take_rest at call.in_bounds.1);
+      taken = appends_next _ _ _ done c.in-Ok.count bytes so_far.taken (rw take_rest at call.appends_written);
       writes = writes_on _ _ _ so_far.writes call.only_writes.writes;
       stayed = call.only_writes.counts ∙ so_far.stayed;
       count = omega (arith, so_far.count);
@@ -33,12 +33,12 @@ returns-in-Err g c =
     let old = g.O.Line.state c.args.self.now.output.now in
     let mid = g.O.Line.state c.loop-done.self.output.now in
     let new = g.O.Line.state c.write.new.self in record {
-      adds_the_bytes_behind =
+      appends_bytes =
           subst (λ (name : GName). Adds (stream_state old c.args.self.now.output.ghost_name c.args.self.now.len c.args.self.now.faults) (stream_state new name c.loop-done.self.len c.fault.new.count) (Err c.fault.result) bytes)
           (sym so_far.name)
           (stream_stops old new c.args.self.now.output.ghost_name c.args.self.now.len c.loop-done.self.len c.args.self.now.faults c.fault.new.count c.fault.result bytes done so_far.within
-          c.requires (call.takes_bytes_behind_those_before ∙ so_far.taken) so_far.count (writes_on old mid new so_far.writes call.only_writes.writes)
-          (omega (arith, so_far.faults, c.fault.ensures.count_never_falls)) (omega (arith, so_far.faults, c.fault.ensures.count_rose)) (omega (arith, so_far.stayed, call.only_writes.counts)));
+          c.requires (call.appends_written ∙ so_far.taken) so_far.count (writes_on old mid new so_far.writes call.only_writes.writes)
+          (omega (arith, so_far.faults, c.fault.ensures.count_never_falls)) (omega (arith, so_far.faults, c.fault.ensures.count_rises)) (omega (arith, so_far.stayed, call.only_writes.counts)));
     }
 
 pub returns : goal.returns
@@ -50,7 +50,7 @@ returns g c =
     let whole : done ≡ length bytes = omega (arith, so_far.within, c.loop-done-test.false) in
     let old = g.O.Line.state c.args.self.now.output.now in
     let new = g.O.Line.state c.loop-done.self.output.now in record {
-      adds_the_bytes_behind =
+      appends_bytes =
           subst (λ (name : GName). Adds (stream_state old c.args.self.now.output.ghost_name c.args.self.now.len c.args.self.now.faults) (stream_state new name c.loop-done.self.len c.loop-done.self.faults) (Ok tt) bytes)
           (sym so_far.name)
           (stream_adds old new c.args.self.now.output.ghost_name c.args.self.now.len c.loop-done.self.len c.args.self.now.faults c.loop-done.self.faults bytes

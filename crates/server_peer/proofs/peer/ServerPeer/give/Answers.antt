@@ -1,5 +1,5 @@
 use Rattle.std.proofs.Common.{◌≡◌, ℕ, ◌+◌, ◌-◌, ◌≤◌, List, length, take, drop, ap, ◌∙◌, arith, length-drop}
-use Rattle.xcap_io.specs.Histories.{History}
+use Rattle.xcap_io.specs.Histories.{ConnectionHistory}
 use Rattle.server_peer.proofs.Rooms.{gives_on}
 use Rattle.server_peer.proofs.peer.ServerPeer.give.Goals as goal
 
@@ -7,19 +7,19 @@ pub overflow_add-self : goal.overflow_add-self
 overflow_add-self c =
     let bytes : List ℕ = c.self.inside.replies.bytes in
     let given : ℕ = c.self.inside.given in
-    let left : length c.behind-left.result.now ≡ length bytes - given = ap length c.behind-left.ensures.lends_those_behind ∙ length-drop given bytes in
-    omega (arith, left, c.min-count.ensures, c.self.invariant.3, c.behind-left.ensures.fit_a_length)
+    let left : length c.behind-left.result.now ≡ length bytes - given = ap length c.behind-left.ensures.exact ∙ length-drop given bytes in
+    omega (arith, left, c.min-count.ensures, c.self.invariant.3, c.behind-left.ensures.fits_u64)
 
 pub invariant_of-self-2 : goal.invariant_of-self-2
 invariant_of-self-2 c =
     let bytes : List ℕ = c.self.inside.replies.bytes in
     let given : ℕ = c.self.inside.given in
     let count : ℕ = c.min-count.result in
-    let left : length c.behind-left.result.now ≡ length bytes - given = ap length c.behind-left.ensures.lends_those_behind ∙ length-drop given bytes in
+    let left : length c.behind-left.result.now ≡ length bytes - given = ap length c.behind-left.ensures.exact ∙ length-drop given bytes in
     let fits : given + count ≤ length bytes = omega (arith, left, c.min-count.ensures, c.self.invariant.3) in
-    let front : c.copy_from_slice.new.self ≡ take count (drop given bytes) = c.copy_from_slice.ensures.after ∙ ap (λ (l : List ℕ). take count l) c.behind-left.ensures.lends_those_behind in (
-      ap (λ (h : History). h.is_present) c.gave.ensures.told_as_given ∙ c.self.invariant.0,
-      ap (λ (h : History). h.now.taken) c.gave.ensures.told_as_given ∙ c.self.invariant.1,
-      ap (λ (h : History). h.now.given) c.gave.ensures.told_as_given ∙ gives_on bytes c.copy_from_slice.new.self _ c.self.inside.log.history.now.given given count fits front c.self.invariant.2,
+    let front : c.copy_from_slice.new.self ≡ take count (drop given bytes) = c.copy_from_slice.ensures.after ∙ ap (λ (l : List ℕ). take count l) c.behind-left.ensures.exact in (
+      ap (λ (h : ConnectionHistory). h.is_present) c.gave.ensures.given_is_logged ∙ c.self.invariant.0,
+      ap (λ (h : ConnectionHistory). h.now.taken) c.gave.ensures.given_is_logged ∙ c.self.invariant.1,
+      ap (λ (h : ConnectionHistory). h.now.given) c.gave.ensures.given_is_logged ∙ gives_on bytes c.copy_from_slice.new.self _ c.self.inside.log.history.now.given given count fits front c.self.invariant.2,
       fits,
     )

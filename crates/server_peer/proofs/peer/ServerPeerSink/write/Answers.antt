@@ -5,16 +5,16 @@ use Rattle.server_peer.specs.Rooms.{WrittenState}
 use Rattle.server_peer.specs.contracts.peer.ServerPeer.{the_view}
 use Rattle.server_peer.proofs.peer.ServerPeerSink.write.Goals as goal
 
-pub returns-then-count-eq0-clause-does_what_memory_does : goal.returns-then-count-eq0-clause-does_what_memory_does
-returns-then-count-eq0-clause-does_what_memory_does c =
+pub returns-then-count-eq0-clause-as_memory_form : goal.returns-then-count-eq0-clause-as_memory_form
+returns-then-count-eq0-clause-as_memory_form c =
     let inside = c.self.inside in
     let w : WrittenState = inside.written in
     let some : 0 < length c.args.piece.now = c.requires in
     let none : c.add-count.result ≡ 0 = c.if-count-eq0.true in
-    let within : length w.bytes ≤ w.room = c.add-count.ensures.within_the_room in
-    let full : length w.bytes ≡ w.room = omega (arith, some, none, within, c.add-count.ensures.counts_what_there_is_room_for) in
+    let within : length w.bytes ≤ w.room = c.add-count.ensures.within_capacity in
+    let full : length w.bytes ≡ w.room = omega (arith, some, none, within, c.add-count.ensures.exact) in
     let same : c.add-count.new.self ≡ w =
-    c.add-count.ensures.adds_that
+    c.add-count.ensures.appends_taken
     ∙ ap (λ (n : ℕ). record w { bytes = w.bytes ++ take n c.args.piece.now }) none
     ∙ ap (λ (l : List ℕ). record w { bytes = l }) (append-nil w.bytes) in (
       inr (ap (λ (p : PeerOverServer). length p.written.bytes) (sym c.self.view_is) ∙ full ∙ ap (λ (p : PeerOverServer). p.written.room) c.self.view_is),

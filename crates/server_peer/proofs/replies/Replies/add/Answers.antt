@@ -13,7 +13,7 @@ invariant_of-self c =
     let k : ℕ = c.reply_to-replied.result.held in
     let more : Bool = c.self.inside.is_over in
     let over : Bool = c.reply_to-replied.result.is_over in
-    let f = c.reply_to-replied.ensures.replies_to_the_bytes in
+    let f = c.reply_to-replied.ensures.replies_to_bytes in
     let within : held ≤ length items = c.self.invariant.0 in
     let same : now ≡ items = c.deref_mut.ensures.value in
     let size : length behind ≡ length items - held = omega (arith, f.same_room, length-take (length now - held) (drop held now), length-drop held now, ap length same) in
@@ -21,8 +21,8 @@ invariant_of-self c =
     (sym (written_behind items now behind c.self.inside.room.len held same c.deref_mut.ensures.len within size))
     (held_within items behind f.replies held k more over within size f.keeps, full_then items behind f.replies held k more over within size f.keeps c.self.invariant.1)
 
-pub returns-clause-adds_the_replies : goal.returns-clause-adds_the_replies
-returns-clause-adds_the_replies c =
+pub returns-clause-adds_replies : goal.returns-clause-adds_replies
+returns-clause-adds_replies c =
     let items : List ℕ = c.self.inside.room.items in
     let now : List ℕ = c.deref_mut.result.now in
     let behind : List ℕ = c.reply_to-replied.new.room in
@@ -30,7 +30,7 @@ returns-clause-adds_the_replies c =
     let k : ℕ = c.reply_to-replied.result.held in
     let more : Bool = c.self.inside.is_over in
     let over : Bool = c.reply_to-replied.result.is_over in
-    let f = c.reply_to-replied.ensures.replies_to_the_bytes in
+    let f = c.reply_to-replied.ensures.replies_to_bytes in
     let within : held ≤ length items = c.self.invariant.0 in
     let same : now ≡ items = c.deref_mut.ensures.value in
     let size : length behind ≡ length items - held = omega (arith, f.same_room, length-take (length now - held) (drop held now), length-drop held now, ap length same) in

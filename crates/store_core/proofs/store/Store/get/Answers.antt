@@ -2,47 +2,47 @@ use Rattle.std.proofs.Common.{◌≡◌, ◌≤◌, ℕ, Option, None, Some, sym
 use Rattle.std.specs.Map.{lookup}
 use Rattle.std.specs.Option.{option_map}
 use Rattle.xml_tree.specs.Tree.{Tree, height}
-use Rattle.doc_names.specs.Same.{same_id}
+use Rattle.doc_names.specs.Equality.{same_id}
 use Rattle.doc_names.specs.Usages.{usage_of}
 use Rattle.store_core.specs.declared.entry.Entry.{Entry}
-use Rattle.store_core.specs.Changing.{document_in, held_name}
-use Rattle.store_core.specs.Held.{Held}
-use Rattle.store_core.specs.Keeping.{IsSoundFor}
+use Rattle.store_core.specs.DocumentChanges.{document_in, stored_name}
+use Rattle.store_core.specs.Contents.{StoredDocument}
+use Rattle.store_core.specs.ValidStates.{IsSoundFor}
 use Rattle.store_core.specs.Stored.{Stored}
 use Rattle.store_core.proofs.Entries.{tree-and-tag}
 use Rattle.store_core.proofs.Stored.{low-entry, sound-entry}
 use Rattle.store_core.proofs.store.Store.get.Goals as goal
 
-pub returns-in_err-entry-clause-version_that_is_held : goal.returns-in_err-entry-clause-version_that_is_held
-returns-in_err-entry-clause-version_that_is_held c =
+pub returns-in_err-entry-clause-stored_version : goal.returns-in_err-entry-clause-stored_version
+returns-in_err-entry-clause-stored_version c =
     let es = c.self.inside.documents.entries in
     let doc = c.args.doc.now in
-    let none : None ≡ lookup (same_id doc) es = rw c.in_err-entry.was at c.find.ensures.entry_of_the_document in
-    let same = ap (λ (s : Stored). option_map {U = Tree × ℕ} (λ (h : Held). (h.tree, h.tag)) (document_in held_name s.content.documents doc)) c.self.view_is in
+    let none : None ≡ lookup (same_id doc) es = rw c.in_err-entry.was at c.find.ensures.exact in
+    let same = ap (λ (s : Stored). option_map {U = Tree × ℕ} (λ (h : StoredDocument). (h.tree, h.tag)) (document_in stored_name s.content.documents doc)) c.self.view_is in
     let told : c.from_residual.result ≡ None = search rules in
     rw told (ap (λ (o : Option Entry). option_map {U = Tree × ℕ} (λ (v : Entry). (v.tree.root, v.tag)) o) none ∙ sym (tree-and-tag es doc) ∙ same)
 
-pub returns-clause-version_that_is_held : goal.returns-clause-version_that_is_held
-returns-clause-version_that_is_held c =
+pub returns-clause-stored_version : goal.returns-clause-stored_version
+returns-clause-stored_version c =
     let es = c.self.inside.documents.entries in
     let doc = c.args.doc.now in
-    let there : Some c.in_ok-entry.entry.now ≡ lookup (same_id doc) es = rw c.in_ok-entry.was at c.find.ensures.entry_of_the_document in
-    let same = ap (λ (s : Stored). option_map {U = Tree × ℕ} (λ (h : Held). (h.tree, h.tag)) (document_in held_name s.content.documents doc)) c.self.view_is in
-    ap (λ (t : Tree). let x : Option (Tree × ℕ) = Some (t, c.in_ok-entry.entry.now.tag) in x) c.root.ensures.lends_the_root
+    let there : Some c.in_ok-entry.entry.now ≡ lookup (same_id doc) es = rw c.in_ok-entry.was at c.find.ensures.exact in
+    let same = ap (λ (s : Stored). option_map {U = Tree × ℕ} (λ (h : StoredDocument). (h.tree, h.tag)) (document_in stored_name s.content.documents doc)) c.self.view_is in
+    ap (λ (t : Tree). let x : Option (Tree × ℕ) = Some (t, c.in_ok-entry.entry.now.tag) in x) c.root.ensures.exact
     ∙ ap (λ (o : Option Entry). option_map {U = Tree × ℕ} (λ (v : Entry). (v.tree.root, v.tag)) o) there ∙ sym (tree-and-tag es doc) ∙ same
 
-pub returns-clause-is_low_enough : goal.returns-clause-is_low_enough
-returns-clause-is_low_enough c =
+pub returns-clause-within_levels : goal.returns-clause-within_levels
+returns-clause-within_levels c =
     let es = c.self.inside.documents.entries in
     let doc = c.args.doc.now in
-    let there : Some c.in_ok-entry.entry.now ≡ lookup (same_id doc) es = rw c.in_ok-entry.was at c.find.ensures.entry_of_the_document in
-    subst (λ (t : Tree). height t ≤ 64) (sym c.root.ensures.lends_the_root)
+    let there : Some c.in_ok-entry.entry.now ≡ lookup (same_id doc) es = rw c.in_ok-entry.was at c.find.ensures.exact in
+    subst (λ (t : Tree). height t ≤ 64) (sym c.root.ensures.exact)
     (low-entry es c.self.inside.services.entries c.self.inside.last c.self.inside.total doc c.in_ok-entry.entry.now c.self.invariant (sym there))
 
 pub returns-clause-tree_is_sound : goal.returns-clause-tree_is_sound
 returns-clause-tree_is_sound c =
     let es = c.self.inside.documents.entries in
     let doc = c.args.doc.now in
-    let there : Some c.in_ok-entry.entry.now ≡ lookup (same_id doc) es = rw c.in_ok-entry.was at c.find.ensures.entry_of_the_document in
-    subst (λ (t : Tree). IsSoundFor (usage_of doc.auid) t) (sym c.root.ensures.lends_the_root)
+    let there : Some c.in_ok-entry.entry.now ≡ lookup (same_id doc) es = rw c.in_ok-entry.was at c.find.ensures.exact in
+    subst (λ (t : Tree). IsSoundFor (usage_of doc.auid) t) (sym c.root.ensures.exact)
     (sound-entry es c.self.inside.services.entries c.self.inside.last c.self.inside.total doc c.in_ok-entry.entry.now c.self.invariant (sym there))

@@ -11,24 +11,24 @@ pub unreachable-requires : goal.unreachable-requires
 unreachable-requires c =
     let s = c.self.inside in
     let room : Room = record { documents = spare s.documents; services = spare s.services; trees = trees_in s.documents.entries } in
-    no-entry s.documents.entries s.last room c.args.self.now c.args.doc.now c.self.view_is (rw c.in_default.is at c.find.ensures.entry_of_the_document) c.requires
+    no-entry s.documents.entries s.last room c.args.self.now c.args.doc.now c.self.view_is (rw c.in_default.is at c.find.ensures.exact) c.requires
 
 pub overflow_sub-others : goal.overflow_sub-others
 overflow_sub-others c =
     let s = c.self.inside in
     let room : Room = record { documents = spare s.documents; services = spare s.services; trees = trees_in s.documents.entries } in
-    no-longer s.documents.entries s.services.entries s.last s.total room c.args.self.now c.args.doc.now c.self.view_is c.self.invariant c.in-Some.entry.now c.in-Some.ensures.entry_of_the_document
+    no-longer s.documents.entries s.services.entries s.last s.total room c.args.self.now c.args.doc.now c.self.view_is c.self.invariant c.in-Some.entry.now c.in-Some.ensures.exact
 
 pub refused_for-requires : goal.refused_for-requires
 refused_for-requires c = let s = c.self.inside in omega (arith, total-small s.documents.entries s.services.entries s.last s.total c.self.invariant)
 
 pub returns : goal.returns
 returns c = record {
-  first_reason_against_an_edited_one = λ h t leaves is counted exchanged.
+  first_refusal = λ h t leaves is counted exchanged.
       let s = c.self.inside in
       let room : Room = record { documents = spare s.documents; services = spare s.services; trees = trees_in s.documents.entries } in
-      c.refused_for.ensures.first_reason_against_it
-      ∙ edit-answer s.documents.entries s.services.entries s.last s.total room c.args.self.now c.args.doc.now c.self.view_is c.self.invariant c.in-Some.entry.now c.in-Some.ensures.entry_of_the_document
+      c.refused_for.ensures.exact
+      ∙ edit-answer s.documents.entries s.services.entries s.last s.total room c.args.self.now c.args.doc.now c.self.view_is c.self.invariant c.in-Some.entry.now c.in-Some.ensures.exact
       h t leaves c.args.uris.now c.args.first c.args.len c.number_at.result is exchanged
-      (c.number_at.ensures.number_of_that_service ∙ ap (option_map (λ i. max c.args.first i)) c.first_taken-place.ensures.place_of_the_first_taken) counted;
+      (c.number_at.ensures.exact ∙ ap (option_map (λ i. max c.args.first i)) c.first_conflict-place.ensures.exact) counted;
 }

@@ -11,11 +11,11 @@ refused_for-requires c = let s = c.self.inside in total-small s.documents.entrie
 
 pub returns : goal.returns
 returns c = record {
-  first_reason_against_a_new_one = λ t counted own.
+  first_refusal = λ t counted own.
       let s = c.self.inside in
       let room : Room = record { documents = spare s.documents; services = spare s.services; trees = trees_in s.documents.entries } in
-      c.refused_for.ensures.first_reason_against_it
-      ∙ ap (λ (n : ℕ). refused_for c.first_taken-place.result c.args.len (nat_le 1000 n) s.total) c.len-is_full.ensures.len
+      c.refused_for.ensures.exact
+      ∙ ap (λ (n : ℕ). refused_for c.first_conflict-place.result c.args.len (nat_le 1000 n) s.total) c.len-is_full.ensures.len
       ∙ new-answer s.documents.entries s.services.entries s.last s.total room c.args.self.now c.args.doc.now c.self.view_is c.self.invariant t c.args.uris.now
-      c.first_taken-place.result c.args.len c.requires own c.first_taken-place.ensures.place_of_the_first_taken counted;
+      c.first_conflict-place.result c.args.len c.requires own c.first_conflict-place.ensures.exact counted;
 }

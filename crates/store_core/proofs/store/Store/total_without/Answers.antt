@@ -10,25 +10,25 @@ pub unreachable-requires : goal.unreachable-requires
 unreachable-requires c =
     let s = c.self.inside in
     let room : Room = record { documents = spare s.documents; services = spare s.services; trees = trees_in s.documents.entries } in
-    no-entry s.documents.entries s.last room c.args.self.now c.args.doc.now c.self.view_is (rw c.in_default.is at c.find.ensures.entry_of_the_document) c.requires
+    no-entry s.documents.entries s.last room c.args.self.now c.args.doc.now c.self.view_is (rw c.in_default.is at c.find.ensures.exact) c.requires
 
 pub overflow_sub-result : goal.overflow_sub-result
 overflow_sub-result c =
     let s = c.self.inside in
     let room : Room = record { documents = spare s.documents; services = spare s.services; trees = trees_in s.documents.entries } in
-    no-longer s.documents.entries s.services.entries s.last s.total room c.args.self.now c.args.doc.now c.self.view_is c.self.invariant c.in-Some.entry.now c.in-Some.ensures.entry_of_the_document
+    no-longer s.documents.entries s.services.entries s.last s.total room c.args.self.now c.args.doc.now c.self.view_is c.self.invariant c.in-Some.entry.now c.in-Some.ensures.exact
 
-pub returns-clause-sums_the_others : goal.returns-clause-sums_the_others
-returns-clause-sums_the_others c =
+pub returns-clause-exact : goal.returns-clause-exact
+returns-clause-exact c =
     let s = c.self.inside in
     let room : Room = record { documents = spare s.documents; services = spare s.services; trees = trees_in s.documents.entries } in
-    others-are s.documents.entries s.services.entries s.last s.total room c.args.self.now c.args.doc.now c.self.view_is c.self.invariant c.in-Some.entry.now c.in-Some.ensures.entry_of_the_document
+    others-are s.documents.entries s.services.entries s.last s.total room c.args.self.now c.args.doc.now c.self.view_is c.self.invariant c.in-Some.entry.now c.in-Some.ensures.exact
 
 pub returns-clause-is_small : goal.returns-clause-is_small
 returns-clause-is_small c = let s = c.self.inside in omega (arith, total-small s.documents.entries s.services.entries s.last s.total c.self.invariant)
 
-pub returns-clause-own_length_completes_the_total : goal.returns-clause-own_length_completes_the_total
-returns-clause-own_length_completes_the_total c =
+pub returns-clause-completes_total : goal.returns-clause-completes_total
+returns-clause-completes_total c =
     let s = c.self.inside in
     let room : Room = record { documents = spare s.documents; services = spare s.services; trees = trees_in s.documents.entries } in
-    whole-is s.documents.entries s.services.entries s.last s.total room c.args.self.now c.args.doc.now c.self.view_is c.self.invariant c.in-Some.entry.now c.in-Some.ensures.entry_of_the_document
+    whole-is s.documents.entries s.services.entries s.last s.total room c.args.self.now c.args.doc.now c.self.view_is c.self.invariant c.in-Some.entry.now c.in-Some.ensures.exact

@@ -9,19 +9,19 @@ use Rattle.store_core.specs.inner.Storing.{trees_in}
 use Rattle.store_core.proofs.Listing.{trees-listed, trees-low}
 use Rattle.store_core.proofs.store.Store.user_indexes.Goals as goal
 
-pub returns-clause-trees_of_the_index : goal.returns-clause-trees_of_the_index
-returns-clause-trees_of_the_index c =
+pub returns-clause-index_trees : goal.returns-clause-index_trees
+returns-clause-index_trees c =
     let s = c.self.inside in
     let by_user = c.in_ok-trees.trees.entries in
     let room : Room = record { documents = spare s.documents; services = spare s.services; trees = trees_in s.documents.entries } in
     let shown : IfOk c.collect.result (λ made. made.items ≡ values_of by_user) = search rules in
     IfOk-weaker c.collect.result (λ made. made.items ≡ values_of by_user) (λ made. AreIndexTrees c.args.self.now.content (map (λ e. e.now) made.items))
-    (λ made h. trees-listed s.documents.entries s.services.entries s.last s.total c.self.invariant by_user c.in_ok-trees.ensures.trees_that_are_listed made.items h room c.args.self.now c.self.view_is) shown
+    (λ made h. trees-listed s.documents.entries s.services.entries s.last s.total c.self.invariant by_user c.in_ok-trees.ensures.listed_trees made.items h room c.args.self.now c.self.view_is) shown
 
-pub returns-clause-is_low_enough : goal.returns-clause-is_low_enough
-returns-clause-is_low_enough c =
+pub returns-clause-within_levels : goal.returns-clause-within_levels
+returns-clause-within_levels c =
     let s = c.self.inside in
     let by_user = c.in_ok-trees.trees.entries in
     let shown : IfOk c.collect.result (λ made. made.items ≡ values_of by_user) = search rules in
     IfOk-weaker c.collect.result (λ made. made.items ≡ values_of by_user) (λ made. All (λ e. height e.now ≤ 64) made.items)
-    (λ made h. trees-low s.documents.entries s.services.entries s.last s.total c.self.invariant by_user c.in_ok-trees.ensures.trees_that_are_listed made.items h) shown
+    (λ made h. trees-low s.documents.entries s.services.entries s.last s.total c.self.invariant by_user c.in_ok-trees.ensures.listed_trees made.items h) shown

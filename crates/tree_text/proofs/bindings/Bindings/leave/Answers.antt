@@ -7,12 +7,12 @@ use Rattle.tree_text.specs.readers.Bindings.{AreOf, lists}
 use Rattle.tree_text.proofs.StackLemmas.{joined-more}
 use Rattle.tree_text.proofs.bindings.Bindings.leave.Goals as goal
 
-pub returns-clause-lists_are_kept_in_step : goal.returns-clause-lists_are_kept_in_step
-returns-clause-lists_are_kept_in_step c =
+pub returns-clause-lists_in_step : goal.returns-clause-lists_in_step
+returns-clause-lists_in_step c =
     let left : List (List Decl) = map (λ ds. ds.items) c.pop.new.self.items in
     let decls = c.unwrap-decls.result in
     let popped = c.pop.ensures.items ∙ ap (λ o. c.pop.new.self.items ++ option_to_list o) c.unwrap-decls.ensures in
     let whole : lists c.args.self.now ≡ left ++ decls.items ∷ [] = ap (map (λ ds. ds.items)) popped ∙ map-append _ c.pop.new.self.items (decls ∷ []) in
-    c.forget_all.ensures.made_of_those_before (joined left)
+    c.forget_all.ensures.holds_earlier (joined left)
     (subst (AreOf c.args.self.now.namespaces) (ap joined whole ∙ joined-more left decls.items ∙ ap (λ (ds : List Decl). joined left ++ ds) (sym c.deref.ensures.value))
-    c.requires.kept)
+    c.requires.namespaces_in_step)

@@ -6,7 +6,7 @@ use Rattle.tree_text.proofs.namespaces.Namespaces.declare_all.Goals as goal
 
 pub returns-then-is_empty : goal.returns-then-is_empty
 returns-then-is_empty c = record {
-  made_of_all_of_them = λ ds are.
+  holds_every = λ ds are.
       let decls = c.args.decls.now in
       let none = nil_from_length decls (eqb-true (length decls) 0 (sym c.is_empty.ensures ∙ c.if-is_empty.true)) in
       subst (AreOf c.args.self.now) (sym (ap (λ (z : List Decl). ds ++ z) none ∙ append-nil ds)) are;

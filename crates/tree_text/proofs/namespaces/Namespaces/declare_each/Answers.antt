@@ -11,10 +11,10 @@ loop-decl-preserved c = λ ds are.
     take_more c.args.decls.now c.loop-decl.decl-index c.decl-item.result c.loop-decl-test.true ∙ ap (λ (z : Decl). before ++ z ∷ []) (sym c.decl-item.is)
     in
     subst (λ (xs : List Decl). AreOf c.declare.new.self xs) (append_assoc ds before (c.decl-item.result ∷ []) ∙ ap (λ (xs : List Decl). ds ++ xs) (sym one))
-    (c.in_ok-declare.ensures.made_of_one_more (ds ++ before) (c.loop-decl.invariant ds are))
+    (c.in_ok-declare.ensures.holds_one_more (ds ++ before) (c.loop-decl.invariant ds are))
 
 pub returns : goal.returns
 returns c = record {
-  made_of_each_of_them = λ ds are.
+  holds_every = λ ds are.
       subst (λ (xs : List Decl). AreOf c.loop-decl.self (ds ++ xs)) (take_all c.loop-decl.decl-index c.args.decls.now c.loop-decl-test.false) (c.loop-decl.invariant ds are);
 }

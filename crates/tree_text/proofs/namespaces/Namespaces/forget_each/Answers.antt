@@ -13,8 +13,8 @@ loop-decl-preserved c =
       finite = tt;
       left = λ ds are.
           let parts = ap (λ (l : List Decl). ds ++ l) c.in-Some.ensures.steps ∙ sym (append_assoc ds rest (last ∷ [])) in
-          c.forget.ensures.made_of_one_fewer (ds ++ rest) (subst (AreOf c.loop-decl.self) parts (c.loop-decl.invariant.left ds are));
+          c.forget.ensures.holds_one_fewer (ds ++ rest) (subst (AreOf c.loop-decl.self) parts (c.loop-decl.invariant.left ds are));
     }
 
 pub returns : goal.returns
-returns c = record { takes_each_away = λ ds are. subst (AreOf c.loop-decl.self) (ap (λ (l : List Decl). ds ++ l) (nil_from_length c.loop-decl.decl-iterator.iter.rest.now c.in-None.ensures.steps.0) ∙ append-nil ds) (c.loop-decl.invariant.left ds are) }
+returns c = record { forgets_each = λ ds are. subst (AreOf c.loop-decl.self) (ap (λ (l : List Decl). ds ++ l) (nil_from_length c.loop-decl.decl-iterator.iter.rest.now c.in-None.ensures.steps.0) ∙ append-nil ds) (c.loop-decl.invariant.left ds are) }

@@ -16,10 +16,10 @@ letters = refl
 pub returns : goal.returns
 unfolding xml_uri
 returns c = record {
-  made_of_no_declarations = record {
+  holds_none = record {
     numbers = c.in_ok-xml.ensures.numbers_stay_numbers (c.in_ok-none.ensures.numbers_stay_numbers (AreNumbers-empty c.new-numbers.result c.new-numbers.ensures.empty));
-    none = c.in_ok-xml.ensures.numbers_stay [] c.in_ok-none.none (ap (at_text c.numbered-2.new.numbers) (sym (c.in_ok-from.ensures.copies_the_text ∙ no_letters)) ∙ c.in_ok-none.ensures.number_of_the_text);
-    xml = ap (at_text c.numbered-4.new.numbers) (sym (c.in_ok-from-2.ensures.copies_the_text ∙ letters)) ∙ c.in_ok-xml.ensures.number_of_the_text;
+    none = c.in_ok-xml.ensures.numbers_stay [] c.in_ok-none.none (ap (at_text c.number_for-2.new.numbers) (sym (c.in_ok-from.ensures.same_chars ∙ no_letters)) ∙ c.in_ok-none.ensures.number_of_text);
+    xml = ap (at_text c.number_for-4.new.numbers) (sym (c.in_ok-from-2.ensures.same_chars ∙ letters)) ∙ c.in_ok-xml.ensures.number_of_text;
     declared = λ p. ap (map Some) (sym (numbers_at-empty c.new.result c.new.ensures.empty p));
   };
 }

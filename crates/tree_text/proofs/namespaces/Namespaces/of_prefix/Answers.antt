@@ -12,33 +12,33 @@ tested : (p : List ℕ) (b t : Bool) → b ≡ bytes_eq p (chars xml_prefix) →
 tested p b t is test = ap (bytes_eq p) (sym letters) ∙ sym is ∙ test
 
 pub returns-then-is : goal.returns-then-is
-returns-then-is c = record { number_of_the_bound_prefix = λ here are. bound_xml c.args.self.now here are c.args.prefix.now (tested c.args.prefix.now c.is.result true c.is.ensures.tells_whether_it_has_these c.if-is.true) }
+returns-then-is c = record { numbers_prefix = λ here are. bound_xml c.args.self.now here are c.args.prefix.now (tested c.args.prefix.now c.is.result true c.is.ensures.exact c.if-is.true) }
 
 pub returns-in_err-get : goal.returns-in_err-get
 returns-in_err-get c = record {
-  number_of_the_bound_prefix = λ here are.
+  numbers_prefix = λ here are.
       rw c.from_residual.ensures
-      (bound_nowhere c.args.self.now here are c.args.prefix.now (tested c.args.prefix.now c.is.result false c.is.ensures.tells_whether_it_has_these c.if-is.false) None c.in_err-get.ensures.value refl);
+      (bound_nowhere c.args.self.now here are c.args.prefix.now (tested c.args.prefix.now c.is.result false c.is.ensures.exact c.if-is.false) None c.in_err-get.ensures.value refl);
 }
 
 pub returns-in_err-number : goal.returns-in_err-number
 returns-in_err-number c = record {
-  number_of_the_bound_prefix = λ here are.
+  numbers_prefix = λ here are.
       rw c.from_residual-in_err-number.ensures
-      (bound_nowhere c.args.self.now here are c.args.prefix.now (tested c.args.prefix.now c.is.result false c.is.ensures.tells_whether_it_has_these c.if-is.false) (Some c.in_ok-get.field-0.now) c.in_ok-get.ensures.value
+      (bound_nowhere c.args.self.now here are c.args.prefix.now (tested c.args.prefix.now c.is.result false c.is.ensures.exact c.if-is.false) (Some c.in_ok-get.field-0.now) c.in_ok-get.ensures.value
       (c.in_err-number.ensures.value ∙ ap last_in c.deref.ensures.value));
 }
 
 pub returns-then-number-self : goal.returns-then-number-self
 returns-then-number-self c = record {
-  number_of_the_bound_prefix = λ here are.
-      bound_empty c.args.self.now here are c.args.prefix.now (tested c.args.prefix.now c.is.result false c.is.ensures.tells_whether_it_has_these c.if-is.false) (Some c.in_ok-get.field-0.now) c.in_ok-get.ensures.value
+  numbers_prefix = λ here are.
+      bound_empty c.args.self.now here are c.args.prefix.now (tested c.args.prefix.now c.is.result false c.is.ensures.exact c.if-is.false) (Some c.in_ok-get.field-0.now) c.in_ok-get.ensures.value
       c.in_ok-number.field-0.now (c.in_ok-number.ensures.value ∙ ap last_in c.deref.ensures.value) c.if-number-self.true;
 }
 
 pub returns : goal.returns
 returns c = record {
-  number_of_the_bound_prefix = λ here are.
-      bound_to c.args.self.now here are c.args.prefix.now (tested c.args.prefix.now c.is.result false c.is.ensures.tells_whether_it_has_these c.if-is.false) (Some c.in_ok-get.field-0.now) c.in_ok-get.ensures.value
+  numbers_prefix = λ here are.
+      bound_to c.args.self.now here are c.args.prefix.now (tested c.args.prefix.now c.is.result false c.is.ensures.exact c.if-is.false) (Some c.in_ok-get.field-0.now) c.in_ok-get.ensures.value
       c.in_ok-number.field-0.now (c.in_ok-number.ensures.value ∙ ap last_in c.deref.ensures.value) c.if-number-self.false;
 }

@@ -4,7 +4,7 @@ use Rattle.tree_text.proofs.output.Output.into_bytes.Goals as goal
 
 pub returns : goal.returns
 returns c = record {
-  bytes_of_the_characters =
+  utf8_bytes =
       let text = c.self.inside.text in
-      c.owned_bytes.ensures.holds_the_bytes ∙ sym (encodes-chars (string_bytes text) (IsUtf8-string_bytes text)) ∙ ap encode_utf8_all c.self.view_is;
+      c.owned_bytes.ensures.holds_bytes ∙ sym (encodes-chars (string_bytes text) (IsUtf8-string_bytes text)) ∙ ap encode_utf8_all c.self.view_is;
 }

@@ -5,7 +5,7 @@ use Rattle.tree_text.proofs.output.Output.push_str.Goals as goal
 
 pub returns : goal.returns
 returns c = record {
-  adds_the_characters =
+  appends_chars =
       let p = c.push_bytes in
-      said (string_bytes c.self.inside.text) c.args.text.now (string_bytes p.new.string) (IsUtf8-string_bytes c.self.inside.text) p.result c.args.self.now c.self.view_is p.ensures.adds_the_bytes;
+      said (string_bytes c.self.inside.text) c.args.text.now (string_bytes p.new.string) (IsUtf8-string_bytes c.self.inside.text) p.result c.args.self.now c.self.view_is p.ensures.adds_bytes;
 }

@@ -1,5 +1,5 @@
 use Rattle.std.proofs.Common.{None, ap, ◌∙◌}
-use Rattle.watchers.specs.Mirrors.{held_in}
+use Rattle.watchers.specs.Mirrors.{stored_in}
 use Rattle.watchers.proofs.Holdings.{held_now, others_stay}
 use Rattle.watchers.proofs.mirror.Mirror.forget.Goals as goal
 
@@ -8,4 +8,4 @@ returns-clause-document_is_forgotten c = held_now c.swap_remove.new.self.entries
 
 pub returns-clause-other_documents_stay : goal.returns-clause-other_documents_stay
 returns-clause-other_documents_stay c = λ other differs.
-    others_stay c.self.inside.held.entries c.swap_remove.new.self.entries c.args.doc.now (λ q apart. c.swap_remove.ensures.updates.2 q apart) other differs ∙ ap (λ es. held_in es other) c.self.view_is
+    others_stay c.self.inside.held.entries c.swap_remove.new.self.entries c.args.doc.now (λ q apart. c.swap_remove.ensures.updates.2 q apart) other differs ∙ ap (λ es. stored_in es other) c.self.view_is

@@ -1,9 +1,9 @@
 use Rattle.std.proofs.Common.{◌≡◌, IsSome, Option, Some, None, if◌then◌else◌, refl, ap, sym, subst, ◌∙◌}
 use Rattle.std.specs.Map.{lookup}
 use Rattle.doc_names.specs.contracts.doc_id.DocIdPartialEq.TheImpl.{eq-value}
-use Rattle.watchers.specs.Held.{Held}
-use Rattle.watchers.specs.Mirrors.{HoldsEdited, HoldsSame, held_in, held_of}
-use Rattle.watchers.specs.declared.holding.Holding.{Holding}
+use Rattle.watchers.specs.MirrorContents.{MirroredDocument}
+use Rattle.watchers.specs.Mirrors.{HoldsEdited, HoldsSame, stored_in, stored_of}
+use Rattle.watchers.specs.declared.mirror_entry.MirrorEntry.{MirrorEntry}
 use Rattle.watchers.proofs.Holdings.{all_stay, held_now, on_err, others_stay}
 use Rattle.watchers.proofs.mirror.Mirror.go_on.Goals as goal
 
@@ -13,34 +13,34 @@ returns-in_err-stays-clause-other_documents_stay c = λ other differs.
     let doc = c.args.doc.now in
     let w = c.follow.new.held in
     let e : Some c.in-Some.held.now ≡ lookup (eq-value.it doc) es = c.in-Some.ensures.value in
-    let u = (c.get_mut.follows.holds w).3 (subst (λ (o : Option Holding). IsSome o) e refl) in
-    others_stay es (c.get_mut.follows.lender w).entries doc (λ q apart. u.2 q apart) other differs ∙ ap (λ l. held_in l other) c.self.view_is
+    let u = (c.get_mut.follows.holds w).3 (subst (λ (o : Option MirrorEntry). IsSome o) e refl) in
+    others_stay es (c.get_mut.follows.lender w).entries doc (λ q apart. u.2 q apart) other differs ∙ ap (λ l. stored_in l other) c.self.view_is
 
-pub returns-in_err-stays-clause-failure_changes_nothing : goal.returns-in_err-stays-clause-failure_changes_nothing
-returns-in_err-stays-clause-failure_changes_nothing c =
+pub returns-in_err-stays-clause-err_unchanged : goal.returns-in_err-stays-clause-err_unchanged
+returns-in_err-stays-clause-err_unchanged c =
     let es = c.self.inside.held.entries in
     let doc = c.args.doc.now in
     let w = c.follow.new.held in
     let e : Some c.in-Some.held.now ≡ lookup (eq-value.it doc) es = c.in-Some.ensures.value in
-    let u = (c.get_mut.follows.holds w).3 (subst (λ (o : Option Holding). IsSome o) e refl) in
+    let u = (c.get_mut.follows.holds w).3 (subst (λ (o : Option MirrorEntry). IsSome o) e refl) in
     let now = (c.get_mut.follows.lender w).entries in
-    let same : held_in now doc ≡ held_in es doc = held_now now doc (Some w) u.1 ∙ ap (λ h. Some (held_of h)) c.in_err-stays.ensures.failure_changes_nothing ∙ sym (held_now es doc (Some c.in-Some.held.now) (sym e)) in
+    let same : stored_in now doc ≡ stored_in es doc = held_now now doc (Some w) u.1 ∙ ap (λ h. Some (stored_of h)) c.in_err-stays.ensures.err_unchanged ∙ sym (held_now es doc (Some c.in-Some.held.now) (sym e)) in
     on_err c.from_residual.result _ (subst (λ l. HoldsSame l now) c.self.view_is (all_stay es now doc (λ q apart. u.2 q apart) same))
 
-pub returns-then-stays-clause-holds_the_edited_tree : goal.returns-then-stays-clause-holds_the_edited_tree
-returns-then-stays-clause-holds_the_edited_tree c =
+pub returns-then-stays-clause-holds_edited : goal.returns-then-stays-clause-holds_edited
+returns-then-stays-clause-holds_edited c =
     let es = c.self.inside.held.entries in
     let doc = c.args.doc.now in
     let change = c.args.change.now in
     let number = c.args.number in
     let w = c.follow.new.held in
     let e : Some c.in-Some.held.now ≡ lookup (eq-value.it doc) es = c.in-Some.ensures.value in
-    let u = (c.get_mut.follows.holds w).3 (subst (λ (o : Option Holding). IsSome o) e refl) in
+    let u = (c.get_mut.follows.holds w).3 (subst (λ (o : Option MirrorEntry). IsSome o) e refl) in
     let now = (c.get_mut.follows.lender w).entries in
-    let before : held_in c.args.self.now doc ≡ Some (held_of c.in-Some.held.now) = ap (λ l. held_in l doc) (sym c.self.view_is) ∙ held_now es doc (Some c.in-Some.held.now) (sym e) in
-    let after : (if c.in_ok-stays.stays then Some (held_of w) else None) ≡ held_in now doc = ap (λ t. if t then Some (held_of w) else None) c.if-stays.true ∙ sym (held_now now doc (Some w) u.1) in
-    subst (λ (a : Option Held). HoldsEdited change number a (held_in now doc)) (sym before)
-    (subst (λ (b : Option Held). HoldsEdited change number (Some (held_of c.in-Some.held.now)) b) after c.in_ok-stays.ensures.holds_the_edited_tree)
+    let before : stored_in c.args.self.now doc ≡ Some (stored_of c.in-Some.held.now) = ap (λ l. stored_in l doc) (sym c.self.view_is) ∙ held_now es doc (Some c.in-Some.held.now) (sym e) in
+    let after : (if c.in_ok-stays.stays then Some (stored_of w) else None) ≡ stored_in now doc = ap (λ t. if t then Some (stored_of w) else None) c.if-stays.true ∙ sym (held_now now doc (Some w) u.1) in
+    subst (λ (a : Option MirroredDocument). HoldsEdited change number a (stored_in now doc)) (sym before)
+    (subst (λ (b : Option MirroredDocument). HoldsEdited change number (Some (stored_of c.in-Some.held.now)) b) after c.in_ok-stays.ensures.holds_edited)
 
 pub returns-then-stays-clause-other_documents_stay : goal.returns-then-stays-clause-other_documents_stay
 returns-then-stays-clause-other_documents_stay c = λ other differs.
@@ -48,11 +48,11 @@ returns-then-stays-clause-other_documents_stay c = λ other differs.
     let doc = c.args.doc.now in
     let w = c.follow.new.held in
     let e : Some c.in-Some.held.now ≡ lookup (eq-value.it doc) es = c.in-Some.ensures.value in
-    let u = (c.get_mut.follows.holds w).3 (subst (λ (o : Option Holding). IsSome o) e refl) in
-    others_stay es (c.get_mut.follows.lender w).entries doc (λ q apart. u.2 q apart) other differs ∙ ap (λ l. held_in l other) c.self.view_is
+    let u = (c.get_mut.follows.holds w).3 (subst (λ (o : Option MirrorEntry). IsSome o) e refl) in
+    others_stay es (c.get_mut.follows.lender w).entries doc (λ q apart. u.2 q apart) other differs ∙ ap (λ l. stored_in l other) c.self.view_is
 
-pub returns-clause-holds_the_edited_tree : goal.returns-clause-holds_the_edited_tree
-returns-clause-holds_the_edited_tree c =
+pub returns-clause-holds_edited : goal.returns-clause-holds_edited
+returns-clause-holds_edited c =
     let es = c.self.inside.held.entries in
     let doc = c.args.doc.now in
     let change = c.args.change.now in
@@ -60,10 +60,10 @@ returns-clause-holds_the_edited_tree c =
     let w = c.follow.new.held in
     let e : Some c.in-Some.held.now ≡ lookup (eq-value.it doc) es = c.in-Some.ensures.value in
     let now = c.forget.new.self in
-    let before : held_in c.args.self.now doc ≡ Some (held_of c.in-Some.held.now) = ap (λ l. held_in l doc) (sym c.self.view_is) ∙ held_now es doc (Some c.in-Some.held.now) (sym e) in
-    let after : (if c.in_ok-stays.stays then Some (held_of w) else None) ≡ held_in now doc = ap (λ t. if t then Some (held_of w) else None) c.if-stays.false ∙ sym c.forget.ensures.document_is_forgotten in
-    subst (λ (a : Option Held). HoldsEdited change number a (held_in now doc)) (sym before)
-    (subst (λ (b : Option Held). HoldsEdited change number (Some (held_of c.in-Some.held.now)) b) after c.in_ok-stays.ensures.holds_the_edited_tree)
+    let before : stored_in c.args.self.now doc ≡ Some (stored_of c.in-Some.held.now) = ap (λ l. stored_in l doc) (sym c.self.view_is) ∙ held_now es doc (Some c.in-Some.held.now) (sym e) in
+    let after : (if c.in_ok-stays.stays then Some (stored_of w) else None) ≡ stored_in now doc = ap (λ t. if t then Some (stored_of w) else None) c.if-stays.false ∙ sym c.forget.ensures.document_is_forgotten in
+    subst (λ (a : Option MirroredDocument). HoldsEdited change number a (stored_in now doc)) (sym before)
+    (subst (λ (b : Option MirroredDocument). HoldsEdited change number (Some (stored_of c.in-Some.held.now)) b) after c.in_ok-stays.ensures.holds_edited)
 
 pub returns-clause-other_documents_stay : goal.returns-clause-other_documents_stay
 returns-clause-other_documents_stay c = λ other differs.
@@ -71,5 +71,5 @@ returns-clause-other_documents_stay c = λ other differs.
     let doc = c.args.doc.now in
     let w = c.follow.new.held in
     let e : Some c.in-Some.held.now ≡ lookup (eq-value.it doc) es = c.in-Some.ensures.value in
-    let u = (c.get_mut.follows.holds w).3 (subst (λ (o : Option Holding). IsSome o) e refl) in
-    c.forget.ensures.other_documents_stay other differs ∙ others_stay es (c.get_mut.follows.lender w).entries doc (λ q apart. u.2 q apart) other differs ∙ ap (λ l. held_in l other) c.self.view_is
+    let u = (c.get_mut.follows.holds w).3 (subst (λ (o : Option MirrorEntry). IsSome o) e refl) in
+    c.forget.ensures.other_documents_stay other differs ∙ others_stay es (c.get_mut.follows.lender w).entries doc (λ q apart. u.2 q apart) other differs ∙ ap (λ l. stored_in l other) c.self.view_is

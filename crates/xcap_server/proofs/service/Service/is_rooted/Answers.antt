@@ -7,7 +7,7 @@ pub returns : goal.returns
 returns c =
     let root = c.self.inside.root in
     record {
-      spelled_by_the_grammar =
+      grammar_root =
           subst (λ (s : ServerState). IsRoot s.root (authority_of s.root) (path_of s.root)) c.self.view_is
-          ((c.roots_are_spelled_by_the_grammar.ensures.root_by_its_pieces_alone root (authority_of root) (path_of root)).1 (c.text-text.ensures.text_is_a_root, refl, refl));
+          ((c.roots_are_spelled_by_the_grammar.ensures.root_by_pieces root (authority_of root) (path_of root)).1 (c.text-text.ensures.valid_root_text, refl, refl));
     }

@@ -2,4 +2,4 @@ use Rattle.std.proofs.Common.{IsUtf8, sym, subst}
 use Rattle.xml_tree.proofs.text.Text.copy.Goals as goal
 
 pub invariant_of-result : goal.invariant_of-result
-invariant_of-result c = subst (λ bs. ∥ IsUtf8 bs ∥₁) (sym c.in_ok-bytes.ensures.copies_the_bytes) c.self.invariant
+invariant_of-result c = subst (λ bs. ∥ IsUtf8 bs ∥₁) (sym c.in_ok-bytes.ensures.same_bytes) c.self.invariant

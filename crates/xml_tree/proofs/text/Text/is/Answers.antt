@@ -4,7 +4,7 @@ use Rattle.xml_tree.proofs.text.Text.is.Goals as goal
 
 pub returns : goal.returns
 returns c = record {
-  tells_whether_it_has_these =
+  exact =
       let text = c.args.text.now in
-      c.eq.ensures ∙ bytes_eq-chars c.as_str.result.now text c.as_str.utf8 c.utf8.text ∙ ap (λ cs. bytes_eq cs (chars text)) c.as_str.ensures.characters_of_the_text;
+      c.eq.ensures ∙ bytes_eq-chars c.as_str.result.now text c.as_str.utf8 c.utf8.text ∙ ap (λ cs. bytes_eq cs (chars text)) c.as_str.ensures.same_chars;
 }

@@ -5,10 +5,10 @@ use Rattle.xml_tree.proofs.text.Text.is_empty.Goals as goal
 
 pub returns : goal.returns
 returns c = record {
-  tells_whether_it_has_none =
+  exact =
       let text = c.as_str.result.now in
       let test = c.is_empty.ensures in (
-        λ yes. sym c.as_str.ensures.characters_of_the_text ∙ chars_empty text (eqb-true (length text) 0 (sym test ∙ yes)),
-        λ none. test ∙ eq-eqb (length text) 0 (chars_none text c.as_str.utf8 (c.as_str.ensures.characters_of_the_text ∙ none)),
+        λ yes. sym c.as_str.ensures.same_chars ∙ chars_empty text (eqb-true (length text) 0 (sym test ∙ yes)),
+        λ none. test ∙ eq-eqb (length text) 0 (chars_none text c.as_str.utf8 (c.as_str.ensures.same_chars ∙ none)),
       );
 }

@@ -12,10 +12,10 @@ exchange-requires-clause-within c =
     let same = ap (λ (e : Tree). nodes_of e.content) (sym c.self.view_is) ∙ nodes_of-content_of ns c.self.invariant in
     subst (λ (l : List Node). c.args.to ≤ length l) same c.requires.within
 
-pub returns-clause-exchanges_the_nodes : goal.returns-clause-exchanges_the_nodes
-returns-clause-exchanges_the_nodes c =
+pub returns-clause-replaces_nodes : goal.returns-clause-replaces_nodes
+returns-clause-replaces_nodes c =
     let ns = c.self.inside.nodes.items in let new = c.args.nodes.items in
     let same = nodes_of-content_of ns c.self.invariant in
     on_ok_weaker c.exchange.result (λ made. rw (← c.self.view_is)
     (ap (tree_of c.self.inside.name c.self.inside.decls.items c.self.inside.attrs.items)
-    (made ∙ ap (λ l. content_of (take c.args.from l ++ (new ++ drop c.args.to l))) (sym same)))) c.exchange.ensures.exchanges_the_nodes
+    (made ∙ ap (λ l. content_of (take c.args.from l ++ (new ++ drop c.args.to l))) (sym same)))) c.exchange.ensures.replaces_nodes

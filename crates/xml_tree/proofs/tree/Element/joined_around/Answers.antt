@@ -5,7 +5,7 @@ use Rattle.xml_tree.specs.Nodes.{joined_beside, nodes_of, place}
 use Rattle.xml_tree.proofs.Places.{nodes_of-content_of}
 use Rattle.xml_tree.proofs.tree.Element.joined_around.Goals as goal
 
-pub returns-clause-joins_the_texts_around : goal.returns-clause-joins_the_texts_around
-returns-clause-joins_the_texts_around c =
+pub returns-clause-ok : goal.returns-clause-ok
+returns-clause-ok c =
     let same = c.deref.ensures.value ∙ sym (nodes_of-content_of c.self.inside.nodes.items c.self.invariant) ∙ ap (λ (e : Tree). nodes_of e.content) c.self.view_is in
-    IfOk-weaker c.joined_around.result _ _ (λ text is. is ∙ ap (λ l. joined_beside (place c.args.child l) l) same) c.joined_around.ensures.joins_the_texts_beside
+    IfOk-weaker c.joined_around.result _ _ (λ text is. is ∙ ap (λ l. joined_beside (place c.args.child l) l) same) c.joined_around.ensures.ok

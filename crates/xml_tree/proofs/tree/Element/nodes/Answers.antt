@@ -4,11 +4,11 @@ use Rattle.xml_tree.specs.Nodes.{content_of, AreNormal}
 use Rattle.xml_tree.proofs.Places.{nodes_of-content_of, node_height-le}
 use Rattle.xml_tree.proofs.tree.Element.nodes.Goals as goal
 
-pub returns-clause-nodes_of_the_content : goal.returns-clause-nodes_of_the_content
-returns-clause-nodes_of_the_content c = rw (← c.self.view_is) (c.deref.ensures.value ∙ sym (nodes_of-content_of c.self.inside.nodes.items c.self.invariant))
+pub returns-clause-content_nodes : goal.returns-clause-content_nodes
+returns-clause-content_nodes c = rw (← c.self.view_is) (c.deref.ensures.value ∙ sym (nodes_of-content_of c.self.inside.nodes.items c.self.invariant))
 
-pub returns-clause-content_of_the_nodes : goal.returns-clause-content_of_the_nodes
-returns-clause-content_of_the_nodes c = ap content_of c.deref.ensures.value ∙ ap (λ (e : Tree). e.content) c.self.view_is
+pub returns-clause-nodes_content : goal.returns-clause-nodes_content
+returns-clause-nodes_content c = ap content_of c.deref.ensures.value ∙ ap (λ (e : Tree). e.content) c.self.view_is
 
 pub returns-clause-is_no_higher : goal.returns-clause-is_no_higher
 returns-clause-is_no_higher c = rw (c.deref.ensures.value, ← c.self.view_is) (λ k d h. omega (arith, node_height-le c.self.inside.nodes.items k d h))

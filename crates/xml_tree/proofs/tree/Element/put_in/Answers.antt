@@ -4,12 +4,12 @@ use Rattle.xml_tree.specs.Edits.{put_kid}
 use Rattle.xml_tree.proofs.PathLemmas.{made_at, same_at}
 use Rattle.xml_tree.proofs.tree.Element.put_in.Goals as goal
 
-pub returns-clause-puts_the_element_there : goal.returns-clause-puts_the_element_there
-returns-clause-puts_the_element_there c =
-    let done = c.edit_at.ensures.edits_the_element_there in let f = put_kid c.args.gap c.args.element in
+pub returns-clause-puts_element : goal.returns-clause-puts_element
+returns-clause-puts_element c =
+    let done = c.edit_at.ensures.edits_element in let f = put_kid c.args.gap c.args.element in
     on_ok_weaker c.edit_at.result (λ made. made_at c.args.path.now f done.here done.left c.args.self.now c.edit_at.new.self done.there (sym done.edits.leaves ∙ made ∙ ap f done.edits.shows) done.put) done.edits.met.0
 
-pub returns-clause-failure_changes_nothing : goal.returns-clause-failure_changes_nothing
-returns-clause-failure_changes_nothing c =
-    let done = c.edit_at.ensures.edits_the_element_there in
+pub returns-clause-err_unchanged : goal.returns-clause-err_unchanged
+returns-clause-err_unchanged c =
+    let done = c.edit_at.ensures.edits_element in
     on_err_weaker c.edit_at.result (λ same. same_at c.args.path.now done.here done.left c.args.self.now c.edit_at.new.self done.there (sym done.edits.leaves ∙ same ∙ done.edits.shows) done.put) done.edits.met.1.0

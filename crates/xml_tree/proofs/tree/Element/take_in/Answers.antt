@@ -1,15 +1,15 @@
 use Rattle.std.proofs.Common.{sym, ap, ◌∙◌}
 use Rattle.std.proofs.lemmas.Result.{on_ok_weaker, on_err_weaker}
-use Rattle.xml_tree.specs.Edits.{cut_kid}
+use Rattle.xml_tree.specs.Edits.{cut_child}
 use Rattle.xml_tree.proofs.PathLemmas.{made_at, same_at}
 use Rattle.xml_tree.proofs.tree.Element.take_in.Goals as goal
 
-pub returns-clause-cuts_the_element_out : goal.returns-clause-cuts_the_element_out
-returns-clause-cuts_the_element_out c =
-    let done = c.edit_at.ensures.edits_the_element_there in let f = cut_kid c.args.child in
+pub returns-clause-cuts_element : goal.returns-clause-cuts_element
+returns-clause-cuts_element c =
+    let done = c.edit_at.ensures.edits_element in let f = cut_child c.args.child in
     on_ok_weaker c.edit_at.result (λ made. made_at c.args.path.now f done.here done.left c.args.self.now c.edit_at.new.self done.there (sym done.edits.leaves ∙ made ∙ ap f done.edits.shows) done.put) done.edits.met.1.0
 
-pub returns-clause-failure_changes_nothing : goal.returns-clause-failure_changes_nothing
-returns-clause-failure_changes_nothing c =
-    let done = c.edit_at.ensures.edits_the_element_there in
+pub returns-clause-err_unchanged : goal.returns-clause-err_unchanged
+returns-clause-err_unchanged c =
+    let done = c.edit_at.ensures.edits_element in
     on_err_weaker c.edit_at.result (λ same. same_at c.args.path.now done.here done.left c.args.self.now c.edit_at.new.self done.there (sym done.edits.leaves ∙ same ∙ done.edits.shows) done.put) done.edits.met.1.1.0

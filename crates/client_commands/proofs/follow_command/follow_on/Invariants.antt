@@ -1,0 +1,12 @@
+use Rattle.std.proofs.Common.{◌-◌, ◌≤◌}
+use Rattle.client_commands.specs.Follows.{RoundsMade}
+use Rattle.client_commands.proofs.follow_command.follow_on.Given as goal
+
+abbrev pub invariant-rounds : goal.invariant-rounds
+invariant-rounds g l = record {
+  within : l.made ≤ l.rounds;
+  rounds_made : RoundsMade l.made l.fn.follower l.follower (g.C.Line.state l.fn.peer) (g.C.Line.state l.peer) (g.O.Line.state l.fn.output) (g.O.Line.state l.output);
+}
+
+abbrev pub decreases-rounds : goal.decreases-rounds
+decreases-rounds g l = l.rounds - l.made

@@ -1,0 +1,39 @@
+// The lines that commands write about responses.
+ghost use Rattle.std.specs.Prelude.{◌≡◌, IfOk, string_bytes};
+ghost use Rattle.client_commands.specs.Lines.{line_of_status, put_line, round_line};
+ghost use Rattle.patch_apply.specs.Views.{stored_in};
+
+use patch_apply::Replica;
+use std::alloc::Global;
+use xcap_client::Response;
+use xcap_io::NoMemory;
+
+// The status alone.
+pub(crate) fn status_line(alloc: Global, status: u16) -> Result<String, NoMemory>
+    ensures ok { IfOk result (λ line. string_bytes line ≡ line_of_status status) }
+{
+    format!(in alloc; "{status}\n")
+}
+
+// The status, and the etag in quotes where there is one.
+pub(crate) fn put_line(alloc: Global, response: &Response) -> Result<String, NoMemory>
+    ensures ok { IfOk result
+        (λ line. string_bytes line ≡ put_line response.now.status response.now.tag) }
+{
+    let status = response.status;
+    match &response.tag {
+        Some(tag) => format!(in alloc; "{status} \"{}\"\n", tag.as_str()),
+        None => status_line(alloc, status),
+    }
+}
+
+// The replica's etag, or a dash.
+pub(crate) fn tag_line(alloc: Global, replica: &Replica) -> Result<String, NoMemory>
+    ensures exact { IfOk result
+        (λ line. string_bytes line ≡ round_line (stored_in replica.now.held)) }
+{
+    match &replica.held {
+        Some(held) => format!(in alloc; "{}\n", held.tag.as_str()),
+        None => String::from_str(alloc, "-\n"),
+    }
+}

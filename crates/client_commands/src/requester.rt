@@ -1,0 +1,22 @@
+// The user who asks, and the root.
+ghost use Rattle.std.specs.Prelude.{◌≡◌, chars, option_map};
+
+use client_follower::borrowed_user;
+use xcap_uri::Root;
+use xml_tree::Text;
+
+/// The user who asks a server, if one is named, and the root of the server.
+#[derive(Drop)]
+pub struct Requester {
+    pub user: Option<Text>,
+    pub root: Root,
+}
+
+impl Requester {
+    // The user, as the client's calls take it.
+    pub(crate) fn user(&self) -> Option<&str>
+        ensures exact { option_map (λ name. chars name.now) result ≡ self.now.user }
+    {
+        borrowed_user(&self.user)
+    }
+}

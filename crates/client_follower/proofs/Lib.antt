@@ -1,0 +1,4 @@
+pub mod Asking
+mod Counting
+pub mod Taking
+pub mod Words

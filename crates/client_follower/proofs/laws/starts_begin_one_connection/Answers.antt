@@ -1,0 +1,5 @@
+use Rattle.client_follower.proofs.Counting.{start_begins}
+use Rattle.client_follower.proofs.laws.starts_begin_one_connection.Goals as goal
+
+pub returns : goal.returns
+returns c = record { one_connection = start_begins }

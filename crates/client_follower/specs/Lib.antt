@@ -1,0 +1,9 @@
+pub mod Counts
+pub mod Documents
+pub mod Faults
+pub mod Feeds
+pub mod Paths
+pub mod Rounds
+pub mod Starts
+pub mod States
+pub mod inner

@@ -1,0 +1,11 @@
+-- When a round leaves a follower as it was.
+use Rattle.std.specs.Prelude.{◌≡◌, Option, None, Some, Result, Ok, Err}
+use Rattle.client_follower.specs.States.{Following}
+use Rattle.client_follower.specs.declared.fault.FollowerFault.{FollowerFault}
+use Rattle.client_follower.specs.declared.feed_rounds.Round.{Round}
+
+-- the follower may change only where a diff document decided what became of the document
+abbrev pub KeepsState : Following → Following → Result (Option Round) FollowerFault → Type 0
+KeepsState f f' (Ok (Some round)) = Unit {0}
+KeepsState f f' (Ok None) = f' ≡ f
+KeepsState f f' (Err fault) = f' ≡ f

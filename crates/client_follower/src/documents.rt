@@ -1,0 +1,62 @@
+// The document that a follower copies, as its server has it.
+ghost use Rattle.std.specs.Prelude.{IfOk, chars, option_map};
+ghost use Rattle.patch_apply.specs.Views.{stored_in};
+ghost use Rattle.patch_rules.specs.Premises.{IsSound};
+ghost use Rattle.patch_rules.specs.Replayed.{HoldsSound};
+ghost use Rattle.client_follower.specs.Documents.{BringsVersion, Fetches, TakesDocument};
+
+use crate::fault::FollowerFault;
+use doc_names::{DocId, print_doc_id};
+use patch_apply::ReplicaVersion;
+use std::alloc::Global;
+use tree_text::read_document;
+use xcap_client::{ClientFault, Response, fetch};
+use xcap_io::{Line, Peer};
+use xcap_uri::Root;
+use xml_tree::MAX_LEVELS;
+
+// The version of the document in a response.
+fn version_in(alloc: Global, response: Response) -> Result<ReplicaVersion, FollowerFault>
+    ensures brings_version { BringsVersion response result }
+    ensures stays_sound { IfOk result (λ held. IsSound held.root) }
+{
+    let Response { tag, body, .. } = response;
+    let Some(tag) = tag else {
+        return Err(FollowerFault::BadTag);
+    };
+    let root = read_document(alloc, body.as_slice(), MAX_LEVELS)?;
+    Ok(ReplicaVersion { tag, root })
+}
+
+// The version of the document by the result of a GET, or none where there is no document.
+fn fetched_version(
+    alloc: Global,
+    given: Result<Response, ClientFault>,
+) -> Result<Option<ReplicaVersion>, FollowerFault>
+    ensures takes_document { TakesDocument given result }
+    ensures stays_sound { IfOk result (λ held. HoldsSound (stored_in held)) }
+{
+    match given {
+        Ok(response) => Ok(Some(version_in(alloc, response)?)),
+        Err(ClientFault::Refused(404, _)) => Ok(None),
+        Err(fault) => Err(FollowerFault::from(fault)),
+    }
+}
+
+// Fetches the document: its version, or none where there is no document.
+pub(crate) fn document<C: Peer>(
+    alloc: Global,
+    peer: &mut C,
+    root: &Root,
+    user: Option<&str>,
+    doc: &DocId,
+) -> Result<Option<ReplicaVersion>, FollowerFault>
+    ensures fetches_document { Fetches root.now
+        (option_map (λ name. chars name.now) user.entry) doc.now (C.state peer.old)
+        (C.state peer.new) result }
+    ensures stays_sound { IfOk result (λ held. HoldsSound (stored_in held)) }
+{
+    let path = print_doc_id(alloc, doc)?;
+    let given = fetch(alloc, peer, root, user, path.as_str());
+    fetched_version(alloc, given)
+}

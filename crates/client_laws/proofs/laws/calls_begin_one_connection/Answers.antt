@@ -1,5 +1,0 @@
-use Rattle.client_laws.proofs.Counting.{call_begins}
-use Rattle.client_laws.proofs.laws.calls_begin_one_connection.Goals as goal
-
-pub returns : goal.returns
-returns c = record { one_connection = call_begins }

@@ -1,0 +1,5 @@
+pub mod Faults
+pub mod FeedRequests
+pub mod FollowResults
+pub mod SubscriberVersions
+pub mod inner

@@ -1,0 +1,2 @@
+-- What private functions and proofs use; no public contract cites it.
+pub mod FeedRequests

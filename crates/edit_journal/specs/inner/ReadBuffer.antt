@@ -1,0 +1,44 @@
+-- The bytes of an old journal that were read and not used yet.
+use Rattle.std.specs.Prelude.{◌≡◌, ℕ, ◌+◌, Bool, true, false, ◌<◌, List, [], ◌∷◌, ◌++◌, length, Option, None, Some, Result, Ok, Err}
+use Rattle.http_wire.specs.declared.request.Request.{Request}
+use Rattle.xcap_io.specs.Causes.{InputState}
+use Rattle.xcap_io.specs.StreamTraffic.{Gave, IsEnded}
+use Rattle.edit_journal.specs.declared.read_buffer.FillResult.{FillResult}
+use Rattle.edit_journal.specs.declared.read_buffer.FillResult.TheVariants.{Some as Came, End, Beyond}
+use Rattle.edit_journal.specs.declared.journal_restart.RestartFault.{RestartFault}
+use Rattle.edit_journal.specs.declared.journal_restart.RestartFault.TheVariants.{Damaged, NoMemory}
+use Rattle.edit_journal.specs.Limits.{max_journal_bytes}
+use Rattle.edit_journal.specs.Texts.{BeginsWith, HasNoRecord, IsTorn, IsDamaged}
+
+-- the bytes, and how many were read so far, with those that were used
+pub record InflowState : Type 0 where
+  pub held : List ℕ
+  pub taken : ℕ
+
+-- with these bytes appended
+abbrev pub with_bytes : InflowState → List ℕ → InflowState
+with_bytes read_buffer bytes = record { held = read_buffer.held ++ bytes; taken = read_buffer.taken + length bytes }
+
+-- The result of reading more: bytes; the end; or, at the limit of an old journal, one byte more;
+-- or the read failed.
+abbrev pub Fills : {E : Type 0} → InflowState → InflowState → InputState → InputState → Result FillResult E → Type 0
+Fills old new source source' (Ok Came) =
+    (bytes : List ℕ) × (0 < length bytes) × Gave source source' bytes × (new ≡ with_bytes old bytes)
+Fills old new source source' (Ok End) = Gave source source' [] × IsEnded source' × (new ≡ old)
+Fills old new source source' (Ok Beyond) = ((byte : ℕ) × Gave source source' (byte ∷ [])) × (old.taken ≡ max_journal_bytes) × (new ≡ old)
+Fills old new source source' (Err e) = (source' ≡ source) × (new ≡ old)
+
+-- the record at the front was taken out, or none is complete, or the bytes from this offset on
+-- begin none
+abbrev pub TakesRecord : InflowState → InflowState → ℕ → Result (Option Request) RestartFault → Type 0
+TakesRecord old new place (Ok (Some request)) = BeginsWith old.held request new.held × (new.taken ≡ old.taken)
+TakesRecord old new place (Ok None) = HasNoRecord old.held × IsTorn old.held × (new ≡ old)
+TakesRecord old new place (Err (Damaged at)) = IsDamaged old.held × (at ≡ place) × (new ≡ old)
+TakesRecord old new place (Err NoMemory) = new ≡ old
+TakesRecord old new place (Err other) = ⊥
+
+-- the source has ended, or gave one byte more
+abbrev pub Ends : {E : Type 0} → InputState → InputState → Result Bool E → Type 0
+Ends source source' (Ok true) = Gave source source' [] × IsEnded source'
+Ends source source' (Ok false) = (byte : ℕ) × Gave source source' (byte ∷ [])
+Ends source source' (Err e) = source' ≡ source

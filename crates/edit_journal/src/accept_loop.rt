@@ -1,0 +1,43 @@
+//! The accept loop with a log: the connections of a port, served one after the other.
+ghost use Rattle.std.specs.Prelude.{◌*◌, List};
+ghost use Rattle.http_wire.specs.declared.request.Request.{Request as TheRequest};
+ghost use Rattle.edit_journal.specs.Journals.{IsJournalProgress};
+ghost use Rattle.edit_journal.specs.Logs.{Fits};
+ghost use Rattle.edit_journal.specs.LoggedRequests.{Accepts};
+ghost use Rattle.edit_journal.specs.LoggedMachines.{HoldsLog};
+ghost use Rattle.edit_journal.specs.Ports.{HasRoom, ServesLogged};
+
+use crate::journaled_machine::MachineWithJournal;
+use crate::{Journal, JournalLog, LoggedMachine};
+use http_serve::{ConnectionBuffers, ServeSummary, serve_streams};
+use watchers::Watchers;
+use xcap_io::{Line, Port};
+
+/// Serves at most `count` connections of a port, one after the other, with a machine whose
+/// accepted requests are recorded in the log.
+pub fn serve_streams_logged<M: LoggedMachine, J: Journal, P: Port, W: Watchers<M::Edit>>(
+    machine: &mut M,
+    log: &mut JournalLog,
+    journal: &mut J,
+    buffers: &mut ConnectionBuffers,
+    port: &mut P,
+    count: u64,
+    watchers: &mut W,
+) -> ServeSummary
+    requires fits { Fits log.old (J.state journal.old) }
+    requires room_left { HasRoom log.old (count * 1000) }
+    ensures serves_port { (requests : List TheRequest)
+        → HoldsLog (Accepts M.steps machine.old) log.old requests (J.state journal.old).held
+        → ServesLogged M.steps W.keeps count result requests machine.old machine.new log.new
+        (J.state journal.old) (J.state journal.new)
+        (P.state port.old) (P.state port.new) watchers.old watchers.new }
+    ensures still_fits { Fits log.new (J.state journal.new) }
+    ensures goes_on { IsJournalProgress (J.state journal.old) (J.state journal.new) }
+{
+    let mut logged = MachineWithJournal {
+        machine,
+        log,
+        journal,
+    };
+    serve_streams(&mut logged, buffers, port, count, watchers)
+}

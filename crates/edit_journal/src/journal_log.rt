@@ -1,0 +1,161 @@
+// Adds records to a journal.
+ghost use Rattle.std.specs.Prelude.{◌≡◌, ◌≤◌, ◌<◌, ◌+◌, ◌-◌, ◌^◌, List, [], length, false, Err, OnOk, OnErr};
+ghost use Rattle.http_wire.specs.declared.request.Request.{Request as TheRequest};
+ghost use Rattle.edit_journal.specs.declared.journal_log.AppendFault.{AppendFault};
+ghost use Rattle.xml_tree.specs.Limits.{u64_max};
+ghost use Rattle.edit_journal.specs.Journals.{IsJournalProgress};
+ghost use Rattle.edit_journal.specs.Limits.{max_record_bytes};
+ghost use Rattle.edit_journal.specs.Records.{IsRecordable, record_of};
+ghost use Rattle.edit_journal.specs.Logs.{Fits, HoldsRecords, AddsRecord, with_request};
+ghost use Rattle.edit_journal.specs.inner.Adding.{Mended, Added, NotAdded};
+
+use crate::records::record_of;
+use crate::{Journal, NoMemory};
+use http_wire::Request;
+use std::alloc::Global;
+use std::marker::Model;
+use xcap_io::Failed;
+
+/// The length of the complete records in a journal, and whether a part of a record may come after
+/// them.
+#[derive(Drop)]
+pub struct JournalLog {
+    len: u64,
+    is_torn: bool,
+}
+
+impl Model for JournalLog {
+    ghost use Rattle.edit_journal.specs.Logs.{LogState};
+
+    ghost Value = { LogState };
+
+    ghost view = { λ log. record { len = log.len; is_torn = log.is_torn } };
+}
+
+/// Why a record wasn't added.
+#[derive(Clone, Copy, PartialEq, Eq)]
+pub enum AppendFault {
+    /// The journal failed, and its fault counter rose. A part of the record may come after the
+    /// complete ones.
+    Failed,
+    /// Memory ran out before anything was added.
+    NoMemory,
+}
+
+impl From<Failed> for AppendFault {
+    ghost use Rattle.edit_journal.specs.declared.journal_log.AppendFault.{AppendFault};
+
+    ghost from_gives = { λ _ fault. fault ≡ AppendFault.Failed };
+
+    fn from(_failed: Failed) -> AppendFault {
+        AppendFault::Failed
+    }
+}
+
+impl From<NoMemory> for AppendFault {
+    ghost use Rattle.edit_journal.specs.declared.journal_log.AppendFault.{AppendFault};
+
+    ghost from_gives = { λ _ fault. fault ≡ AppendFault.NoMemory };
+
+    fn from(_none: NoMemory) -> AppendFault {
+        AppendFault::NoMemory
+    }
+}
+
+impl JournalLog {
+    /// The log of an empty journal. Does not allocate.
+    pub fn new() -> JournalLog
+        ensures holds_nothing { result ≡ record { len = 0; is_torn = false } }
+    {
+        JournalLog {
+            len: 0,
+            is_torn: false,
+        }
+    }
+
+    /// The length of the complete records in bytes.
+    pub fn len(&self) -> u64
+        ensures exact { result ≡ self.now.len }
+    {
+        self.len
+    }
+
+    /// Whether a part of a record may come after the complete ones.
+    pub fn is_torn(&self) -> bool
+        ensures exact { result ≡ self.now.is_torn }
+    {
+        self.is_torn
+    }
+
+    // Cuts off what may come after the complete records.
+    #[tactic(auto, using(crate::proofs::Going::going))]
+    fn mend<J: Journal>(&mut self, journal: &mut J) -> Result<(), Failed>
+        requires { Fits self.old (J.state journal.old) }
+        ensures mends_tail { OnOk result
+            (Mended self.old (J.state journal.old) self.new (J.state journal.new)) }
+        ensures err_keeps_whole { OnErr result
+            (NotAdded self.old (J.state journal.old) [] self.new (J.state journal.new)) }
+        ensures still_fits { Fits self.new (J.state journal.new) }
+        ensures goes_on { IsJournalProgress (J.state journal.old) (J.state journal.new) }
+    {
+        if !self.is_torn {
+            return Ok(());
+        }
+        journal.cut(self.len)?;
+        self.is_torn = false;
+        Ok(())
+    }
+
+    // Appends bytes to the complete records, after which nothing comes.
+    fn add<J: Journal>(&mut self, journal: &mut J, bytes: &[u8]) -> Result<(), Failed>
+        requires not_torn { self.old.is_torn ≡ false }
+        requires room_left { self.old.len + length bytes.now < 2 ^ 64 }
+        requires fits { Fits self.old (J.state journal.old) }
+        ensures adds_bytes { OnOk result
+            (Added self.old (J.state journal.old) bytes.now self.new (J.state journal.new)) }
+        ensures err_keeps_whole { OnErr result
+            (NotAdded self.old (J.state journal.old) bytes.now self.new (J.state journal.new)) }
+        ensures still_fits { Fits self.new (J.state journal.new) }
+        ensures goes_on { IsJournalProgress (J.state journal.old) (J.state journal.new) }
+    {
+        self.is_torn = true;
+        journal.append(bytes)?;
+        self.is_torn = false;
+        self.len += bytes.len() as u64;
+        Ok(())
+    }
+
+    /// Adds the record of a request to the complete ones, after cutting off what may come after
+    /// them.
+    ///
+    /// # Errors
+    /// `Failed` where the journal failed and its fault counter rose; the complete records are
+    /// unchanged, and the log is torn. `NoMemory` when out of memory; then nothing has changed.
+    #[tactic(auto, using(crate::proofs::Going::going))]
+    pub fn append<J: Journal>(
+        &mut self,
+        alloc: Global,
+        journal: &mut J,
+        request: &Request,
+    ) -> Result<(), AppendFault>
+        requires recordable { IsRecordable request.now }
+        requires fits { Fits self.old (J.state journal.old) }
+        requires room_left { self.old.len ≤ u64_max - max_record_bytes }
+        ensures adds_record { AddsRecord self.old (J.state journal.old)
+            (record_of request.now) result
+            self.new (J.state journal.new) }
+        ensures keeps_records { (requests : List TheRequest)
+            → HoldsRecords self.old requests (J.state journal.old).held
+            → HoldsRecords self.new (with_request result requests request.now)
+            (J.state journal.new).held }
+        ensures no_memory_unchanged { result ≡ Err AppendFault.NoMemory
+            → journal.new ≡ journal.old }
+        ensures still_fits { Fits self.new (J.state journal.new) }
+        ensures goes_on { IsJournalProgress (J.state journal.old) (J.state journal.new) }
+    {
+        let record = record_of(alloc, request)?;
+        self.mend(journal)?;
+        self.add(journal, record.as_slice())?;
+        Ok(())
+    }
+}

@@ -1,0 +1,156 @@
+// The read buffer for an old journal.
+ghost use Rattle.std.specs.Prelude.{◌≡◌, ◌-◌, ◌<◌, ◌≤◌, [], length, drop, slice_range, IfOk};
+ghost use Rattle.xcap_io.specs.Causes.{OnlyReads};
+ghost use Rattle.edit_journal.specs.inner.ReadBuffer.{Fills, Ends, TakesRecord};
+
+use crate::journal_restart::RestartFault;
+use crate::limits::{MAX_JOURNAL, MAX_RECORD};
+use crate::record_scan::{RecordScan, front_of};
+use http_wire::Request;
+use std::alloc::Global;
+use std::marker::Model;
+use xcap_io::{Failed, Line, NoMemory, Source};
+
+/// The result of reading more bytes.
+#[derive(Clone, Copy, PartialEq, Eq)]
+pub(crate) enum FillResult {
+    /// More bytes were read.
+    Some,
+    /// The end of the input.
+    End,
+    /// A byte beyond the limit of an old journal.
+    Beyond,
+}
+
+/// The bytes read and not used yet, with capacity for the longest record, and the number of bytes
+/// read so far.
+#[derive(Drop)]
+pub(crate) struct ReadBuffer {
+    buffer: Vec<u8>,
+    start: usize,
+    end: usize,
+    taken: u64,
+}
+
+impl Model for ReadBuffer {
+    ghost use Rattle.std.specs.Prelude.{◌≡◌, ◌≤◌, length, slice_range};
+    ghost use Rattle.edit_journal.specs.inner.ReadBuffer.{InflowState};
+    ghost use Rattle.edit_journal.specs.declared.limits.TheConstants.{MAX_JOURNAL, MAX_RECORD};
+
+    ghost Value = { InflowState };
+
+    ghost view = { λ i. record { held = slice_range i.buffer.items i.start i.end; taken = i.taken } };
+
+    ghost invariant = { λ i. (i.start ≤ i.end) × (i.end ≤ MAX_RECORD) × (length i.buffer.items ≡ MAX_RECORD)
+        × (i.taken ≤ MAX_JOURNAL) };
+}
+
+// Moves a range of the buffer to its front.
+fn move_to_front(buffer: &mut [u8], start: usize, end: usize)
+    requires ordered { start ≤ end }
+    requires inside { end ≤ length buffer.old }
+    ensures moved_to_front { slice_range buffer.new 0 (end - start)
+        ≡ slice_range buffer.old start end }
+{
+    if start > 0 {
+        buffer.copy_within(start..end, 0);
+    }
+}
+
+// Whether a source has ended, by reading one more byte.
+fn has_ended<S: Source>(source: &mut S) -> Result<bool, Failed>
+    ensures byte_or_end { Ends (S.state source.old).inward (S.state source.new).inward result }
+    ensures only_reads { OnlyReads (S.state source.old) (S.state source.new) result }
+{
+    let mut byte = [0];
+    Ok(source.read(&mut byte)? == 0)
+}
+
+impl ReadBuffer {
+    /// An empty buffer.
+    pub(crate) fn new(alloc: Global) -> Result<ReadBuffer, NoMemory>
+        ensures holds_no_bytes { IfOk result
+            (λ read_buffer. read_buffer ≡ record { held = []; taken = 0 }) }
+    {
+        Ok(ReadBuffer {
+            buffer: vec![in alloc; 0; MAX_RECORD]?,
+            start: 0,
+            end: 0,
+            taken: 0,
+        })
+    }
+
+    fn bytes(&self) -> &[u8]
+        ensures exact { result.now ≡ self.now.held }
+    {
+        &self.buffer[self.start..self.end]
+    }
+
+    // Removes the first `count` bytes.
+    fn consume(&mut self, count: usize)
+        requires { count ≤ length self.old.held }
+        ensures exact { self.new ≡ record self.old { held = drop count self.old.held } }
+    {
+        self.start += count;
+    }
+
+    // Reads once, into all the space that is left, up to the limit of an old journal.
+    fn read_more<S: Source>(&mut self, source: &mut S) -> Result<FillResult, Failed>
+        requires room_left { length self.old.held < MAX_RECORD }
+        requires below_limit { self.old.taken < MAX_JOURNAL }
+        ensures reads_more { Fills self.old self.new (S.state source.old).inward
+            (S.state source.new).inward result }
+        ensures at_most_limit { self.new.taken ≤ MAX_JOURNAL }
+        ensures only_reads { OnlyReads (S.state source.old) (S.state source.new) result }
+    {
+        let held = self.end - self.start;
+        move_to_front(&mut self.buffer, self.start, self.end);
+        self.start = 0;
+        self.end = held;
+        let end = MAX_RECORD.min(held + (MAX_JOURNAL - self.taken).min(MAX_RECORD as u64) as usize);
+        let count = source.read(&mut self.buffer[held..end])?;
+        if count == 0 {
+            return Ok(FillResult::End);
+        }
+        self.end += count;
+        self.taken += count as u64;
+        Ok(FillResult::Some)
+    }
+
+    /// Reads once, if the buffer has space for more.
+    pub(crate) fn fill<S: Source>(&mut self, source: &mut S) -> Result<FillResult, Failed>
+        requires { length self.old.held < MAX_RECORD }
+        ensures reads_more { Fills self.old self.new (S.state source.old).inward
+            (S.state source.new).inward result }
+        ensures at_most_limit { self.new.taken ≤ MAX_JOURNAL }
+        ensures only_reads { OnlyReads (S.state source.old) (S.state source.new) result }
+    {
+        if self.taken < MAX_JOURNAL {
+            return self.read_more(source);
+        }
+        Ok(if has_ended(source)? {
+            FillResult::End
+        } else {
+            FillResult::Beyond
+        })
+    }
+
+    /// Takes out the record at the front, if it is complete. `place` is the offset of the buffered
+    /// bytes in the journal.
+    pub(crate) fn next_record(
+        &mut self,
+        alloc: Global,
+        place: u64,
+    ) -> Result<Option<Request>, RestartFault>
+        ensures takes_record { TakesRecord self.old self.new place result }
+    {
+        match front_of(alloc, self.bytes())? {
+            RecordScan::Whole(request, len) => {
+                self.consume(len);
+                Ok(Some(request))
+            }
+            RecordScan::Torn => Ok(None),
+            RecordScan::Damaged => Err(RestartFault::Damaged(place)),
+        }
+    }
+}

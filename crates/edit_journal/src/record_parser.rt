@@ -1,0 +1,70 @@
+// Parses a record, in bytes that may break off.
+ghost use Rattle.std.specs.Prelude.{◌≡◌, ◌≤◌, ◌+◌, ◌-◌, nat_lt, if◌then◌else◌};
+ghost use Rattle.http_wire.specs.Limits.{max_body_bytes};
+ghost use Rattle.edit_journal.specs.inner.Reading.{Reads, Method, Rest, Content, Record};
+
+use crate::field_parsers::{FieldError, after, block, number, short};
+use crate::limits::MAX_CONTENT;
+use crate::record_fields::fields_and_body;
+use http_wire::{Field, MAX_BODY, MAX_FIELDS, Request};
+use std::alloc::Global;
+use xcap_io::Bytes;
+use xml_tree::{List, Text};
+
+// The least number of fields: one, where the rest is longer than a body may be.
+fn least_count(left: usize) -> usize
+    ensures exact { result ≡ (if nat_lt (max_body_bytes + 6) left then 1 else 0) }
+{
+    if left > MAX_BODY + 6 { 1 } else { 0 }
+}
+
+// The number of fields, the fields and the body, which fill `left` bytes.
+fn rest(alloc: Global, bytes: &[u8], left: usize) -> Result<(List<Field>, Bytes), FieldError>
+    requires lower_bound { 6 ≤ left }
+    requires upper_bound { left ≤ MAX_CONTENT }
+    ensures reads_rule { Reads (λ value. (value.0, value.1)) (Rest left) bytes.now result }
+{
+    let count = short(bytes, least_count(left), ((left - 6) / 9).min(MAX_FIELDS))?;
+    let mut fields = List::empty(alloc);
+    let body = fields_and_body(alloc, after(bytes, 2), count, left - 2, &mut fields)?;
+    Ok((fields, body))
+}
+
+// The method, in one byte.
+fn method(alloc: Global, bytes: &[u8]) -> Result<Text, FieldError>
+    ensures reads_rule { Reads (λ text. text) Method bytes.now result }
+{
+    match bytes.first() {
+        None => Err(FieldError::Open),
+        Some(1) => Ok(Text::from(alloc, "PUT")?),
+        Some(2) => Ok(Text::from(alloc, "DELETE")?),
+        Some(_) => Err(FieldError::Wrong),
+    }
+}
+
+// What a record has after its length.
+fn content(alloc: Global, bytes: &[u8], len: usize) -> Result<Request, FieldError>
+    requires lower_bound { 11 ≤ len }
+    requires upper_bound { len ≤ MAX_CONTENT }
+    ensures reads_rule { Reads (λ request. request) (Content len) bytes.now result }
+{
+    let method = method(alloc, bytes)?;
+    let target = block(after(bytes, 1), 0, len - 11)?;
+    let used = 5 + target.len();
+    let (fields, body) = rest(alloc, after(bytes, used), len - used)?;
+    Ok(Request {
+        method,
+        target: Bytes::from(alloc, target)?,
+        closes: false,
+        fields,
+        body,
+    })
+}
+
+/// The record at the front of the bytes.
+pub(crate) fn read_record(alloc: Global, bytes: &[u8]) -> Result<Request, FieldError>
+    ensures reads_rule { Reads (λ request. request) Record bytes.now result }
+{
+    let len = number(bytes, 11, MAX_CONTENT)?;
+    content(alloc, after(bytes, 4), len)
+}

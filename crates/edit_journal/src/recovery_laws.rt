@@ -1,0 +1,62 @@
+//! Laws about journals that break off, each the contract of a function that does nothing.
+ghost use Rattle.std.specs.Prelude.{◌≡◌, ℕ, ◌≤◌, ◌++◌, List, [], Result, false, length, take, All};
+ghost use Rattle.http_wire.specs.declared.request.Request.{Request};
+ghost use Rattle.xcap_io.specs.Causes.{StreamState};
+ghost use Rattle.edit_journal.specs.Journals.{IsFirstOf, JournalState};
+ghost use Rattle.edit_journal.specs.Logs.{HoldsRecords, LogState};
+ghost use Rattle.edit_journal.specs.Limits.{max_journal_bytes};
+ghost use Rattle.edit_journal.specs.Restarts.{Restarts};
+ghost use Rattle.edit_journal.specs.Texts.{IsRecordedRequest, Whole, text};
+ghost use Rattle.edit_journal.specs.declared.journal_restart.RestartFault.{RestartFault};
+ghost use Rattle.edit_journal.specs.JournalPrefixes.{BreaksOff};
+ghost use Rattle.edit_journal.specs.PrefixRestarts.{EndsBehind};
+
+use crate::Replayer;
+
+/// A law: a prefix of the text of a list of requests has, complete, the records of the first of
+/// these, as many as fit it; and after them nothing, or a proper prefix of the next record.
+pub fn first_bytes_hold_the_first_requests()
+    ensures some_are_whole { (all : List Request) (bytes : List ℕ) → All IsRecordedRequest all
+        → IsFirstOf bytes (text all)
+        → (first : List Request) × (rest : List ℕ) × Whole bytes first rest }
+    ensures first_requests_whole { (all first : List Request) (bytes rest : List ℕ)
+        → All IsRecordedRequest all → IsFirstOf bytes (text all) → Whole bytes first rest
+        → (left : List Request) × BreaksOff all bytes first left rest }
+{}
+
+/// A law: a prefix of a journal is a prefix of a text: of the requests whose records are in the
+/// journal and, only where its log is torn, of at most one more.
+pub fn journals_begin_a_text()
+    ensures begins_text { (log : LogState) (requests : List Request) (held bytes : List ℕ)
+        → HoldsRecords log requests held → IsFirstOf bytes held
+        → (torn : List Request) × (length torn ≤ 1) × (log.is_torn ≡ false → torn ≡ [])
+        × All IsRecordedRequest (requests ++ torn) × IsFirstOf bytes (text (requests ++ torn)) }
+{}
+
+/// A law: a restart from a prefix of the text of a list of requests replayed the first of these.
+/// Where it read all that it reads, these are exactly those whose records are complete in the
+/// bytes; it finds no damage; and it stops at a request only where that is refused after the ones
+/// before it.
+pub fn restarts_do_the_first_requests<R: Replayer>()
+    ensures does_first { (all : List Request) (source source' : StreamState)
+        (journal journal' : JournalState) (old new : R) (result : Result LogState RestartFault)
+        → All IsRecordedRequest all
+        → (restarts : Restarts R.stands R.refuses source source' journal journal' old new result)
+        → IsFirstOf (take max_journal_bytes restarts.bytes) (text all)
+        → (left : List Request) × EndsBehind R.refuses all (take max_journal_bytes restarts.bytes)
+        restarts.requests left restarts.rest new result }
+{}
+
+/// A law: a new journal can be told from the old one that it was written from. However a restart
+/// ends, the new journal has a prefix of the old one, or all of it; and where it continues with
+/// one more record, it is no such prefix. So a new journal that is no prefix of the old one has
+/// all of the old one's records and more, and one that is has no record that the old one lacks.
+pub fn new_journals_are_told_from_old_ones<R: Replayer>()
+    ensures copies_prefix { (source source' : StreamState)
+        (journal journal' : JournalState) (old new : R) (result : Result LogState RestartFault)
+        → (restarts : Restarts R.stands R.refuses source source' journal journal' old new result)
+        → IsFirstOf journal'.held restarts.bytes }
+    ensures next_record_shown { (bytes rest torn : List ℕ) (requests more : List Request)
+        → Whole bytes requests rest → All IsRecordedRequest more
+        → IsFirstOf (text (requests ++ more) ++ torn) bytes → more ≡ [] }
+{}

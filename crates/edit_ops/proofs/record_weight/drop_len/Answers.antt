@@ -1,0 +1,15 @@
+use Rattle.std.proofs.Common.{◌+◌, false, codes, flat_map}
+use Rattle.xml_tree.specs.Print.{byte_len, print, print_decl}
+use Rattle.edit_ops.specs.declared.change.Change.TheVariants.{DropAttr}
+use Rattle.edit_ops.specs.Operations.{attr_path_text, change_operation as told}
+use Rattle.edit_ops.specs.inner.RecordLengths.{written_len}
+use Rattle.edit_ops.proofs.Operations.{bare_stops, dropped}
+use Rattle.edit_ops.proofs.record_weight.drop_len.Goals as goal
+
+pub returns : goal.returns
+returns c = record {
+  exact =
+      let ds = c.args.bindings.now in let p = c.args.at.now in let n = c.args.name.now in
+      bare_stops 18446744073709551615 6 (byte_len (flat_map print_decl ds)) c.attr_len.result (written_len (attr_path_text p n) + 7)
+      c.bare_len.result (byte_len (print (told (codes "d") ds false (DropAttr p n)))) c.bare_len.ensures.exact c.attr_len.ensures.exact (dropped ds false p n);
+}

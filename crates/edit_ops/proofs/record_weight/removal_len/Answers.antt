@@ -1,0 +1,17 @@
+use Rattle.std.proofs.Common.{◌≡◌, ◌+◌, min, false, codes, flat_map, arith}
+use Rattle.xml_tree.specs.Print.{byte_len, print, print_decl}
+use Rattle.xml_tree.specs.PathTexts.{path_text}
+use Rattle.edit_ops.specs.declared.change.Change.TheVariants.{Remove}
+use Rattle.edit_ops.specs.inner.RecordLengths.{written_len}
+use Rattle.edit_ops.proofs.Operations.{bare_stops, removal}
+use Rattle.edit_ops.specs.Operations.{change_operation as told}
+use Rattle.edit_ops.proofs.record_weight.removal_len.Goals as goal
+
+pub returns : goal.returns
+returns c = record {
+  exact =
+      let ds = c.args.bindings.now in let p = c.args.at.now in
+      let attrs : c.saturating_add-attrs.result ≡ min (written_len (path_text p) + 7) 18446744073709551615 = omega arith in
+      bare_stops 18446744073709551615 6 (byte_len (flat_map print_decl ds)) c.saturating_add-attrs.result (written_len (path_text p) + 7)
+      c.bare_len.result (byte_len (print (told (codes "d") ds false (Remove p)))) c.bare_len.ensures.exact attrs (removal ds false p);
+}

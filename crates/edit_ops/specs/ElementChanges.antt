@@ -1,0 +1,15 @@
+-- A change as a change of a single element: where the element is that it is made in.
+use Rattle.std.specs.Prelude.{ℕ, List, []}
+use Rattle.xml_tree.specs.Edits.{parent_path}
+use Rattle.edit_ops.specs.declared.change.Change.{Change}
+use Rattle.edit_ops.specs.declared.change.Change.TheVariants.{CreateDocument, Insert, Replace, Remove, SetAttr, DropAttr, RemoveDocument}
+
+-- where the element is that gets or loses a child or an attribute, or is replaced
+abbrev pub site : Change → List ℕ
+site (CreateDocument root) = []
+site (Insert parent gap element) = parent
+site (Replace p element) = p
+site (Remove p) = parent_path p
+site (SetAttr p name value) = p
+site (DropAttr p name) = p
+site RemoveDocument = []

@@ -1,0 +1,53 @@
+-- Where an element is after a change, by its path before.
+use Rattle.std.specs.Prelude.{◌≡◌, ℕ, suc, ◌-◌, ◌==◌, nat_le, List, [], ◌∷◌, ◌++◌, Option, Some, None, if◌then◌else◌}
+use Rattle.xml_tree.specs.Tree.{Tree, at}
+use Rattle.xml_tree.specs.Edits.{parent_path, own_number}
+use Rattle.edit_ops.specs.Changes.{place}
+use Rattle.edit_ops.specs.declared.change.Change.{Change}
+use Rattle.edit_ops.specs.declared.change.Change.TheVariants.{CreateDocument, Insert, Replace, Remove, SetAttr, DropAttr, RemoveDocument}
+
+-- the rest of p after q, where p begins with q: the path from the element at q to the one at p
+abbrev pub behind : List ℕ → List ℕ → Option (List ℕ)
+behind [] p = Some p
+behind (m ∷ q) [] = None
+behind (m ∷ q) (n ∷ p) = if m == n then behind q p else None
+
+-- the path below an element, once an element was inserted into its gap j
+abbrev pub made_room : ℕ → List ℕ → List ℕ
+made_room j [] = []
+made_room j (n ∷ p) = (if nat_le j n then suc n else n) ∷ p
+
+-- the path below an element, once its i-th child was removed
+abbrev pub closed_up : ℕ → List ℕ → List ℕ
+closed_up i [] = []
+closed_up i (n ∷ p) = (if nat_le (suc i) n then n - 1 else n) ∷ p
+
+-- a path whose rest after q is changed by f; one that doesn't lead through the element at q stays
+abbrev pub re_routed : (List ℕ → List ℕ) → List ℕ → List ℕ → Option (List ℕ) → List ℕ
+re_routed f q p None = p
+re_routed f q p (Some r) = q ++ f r
+
+abbrev pub under : (List ℕ → List ℕ) → List ℕ → List ℕ → List ℕ
+under f q p = re_routed f q p (behind q p)
+
+-- the second value, where the first is absent
+abbrev pub unless : {A B : Type 0} → Option A → B → Option B
+unless None b = Some b
+unless (Some a) b = None
+
+-- where the element at p is after the change: one number up after an insertion before it, one
+-- down after a removal before it; nowhere where it, or an ancestor of it, was replaced or
+-- removed, or the whole document was created or removed
+abbrev pub moved : List ℕ → Change → Option (List ℕ)
+moved p (CreateDocument root) = None
+moved p (Insert parent gap element) = Some (under (made_room gap) parent p)
+moved p (Replace q element) = unless (behind q p) p
+moved p (Remove q) = unless (behind q p) (under (closed_up (own_number q)) (parent_path q) p)
+moved p (SetAttr q name value) = Some p
+moved p (DropAttr q name) = Some p
+moved p RemoveDocument = None
+
+-- each element that the change isn't at or inside, and that still exists, is found unchanged
+-- where `moved` says
+abbrev pub KeepsTheOthers : Tree → Change → Tree → Type 0
+KeepsTheOthers t change new = (p q : List ℕ) → behind p (place change) ≡ None → moved p change ≡ Some q → at q new ≡ at p t

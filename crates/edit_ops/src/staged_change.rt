@@ -1,0 +1,195 @@
+//! A change in two steps: the first makes all allocations, and only reads the tree; the second
+//! can't fail.
+ghost use Rattle.std.specs.Prelude.{◌≡◌, ◌<◌, IfErr, IfOk, Vec, length};
+ghost use Rattle.std.specs.declared.alloc.Global.{Global as AnyMemory};
+ghost use Rattle.xml_tree.specs.Tree.{child_elements_of};
+ghost use Rattle.xml_tree.specs.Edits.{TextsMeet, cut_child, own_number};
+ghost use Rattle.xml_tree.specs.Reservations.{HasAttrRoom, HasNodeRoom, joined_around};
+ghost use Rattle.xml_tree.specs.declared.names.Attr.{Attr as AnAttr};
+ghost use Rattle.xml_tree.specs.declared.tree.Node.{Node as ANode};
+ghost use Rattle.edit_ops.specs.Changes.{Fits, WantsMemory, edited};
+ghost use Rattle.edit_ops.specs.MovedPaths.{KeepsTheOthers};
+ghost use Rattle.edit_ops.specs.inner.LocalChanges.{FitsHere, made_here};
+ghost use Rattle.edit_ops.specs.StagedChanges.{IsStaged, IsStagedHere};
+ghost use Rattle.edit_ops.specs.inner.LocalChanges.{WantsHere};
+ghost use Rattle.edit_ops.specs.declared.staged_change.Staged.TheVariants as staging;
+
+use crate::change::{Change, site_of};
+use std::alloc::{AllocError, Global};
+use xml_tree::{Attr, Element, Name, Node, Path, Text, copy_tree, element_at};
+
+/// What a change inserts into a tree, with all memory reserved that it needs there.
+#[derive(Drop)]
+pub enum Staged {
+    /// An element to insert, and capacity for its parent's nodes and one more.
+    Child {
+        element: Element,
+        room: Vec<Node>,
+    },
+    /// The replacement of an element.
+    Other(Element),
+    /// The texts on both sides of an element to be removed, joined, where they meet.
+    Joint(Option<Text>),
+    /// An attribute to write, and capacity for its element's attributes and one more, if it is
+    /// new.
+    Attribute {
+        name: Name,
+        value: Text,
+        room: Vec<Attr>,
+    },
+    /// No memory is needed.
+    Nothing,
+}
+
+// ---- memory
+
+// A copy of a child, and capacity for its parent's nodes and one more.
+fn child(alloc: Global, parent: &Element, element: &Element) -> Result<Staged, AllocError>
+    ensures child_with_room { IfOk result
+        (λ made. (room : Vec ANode AnyMemory) × (made ≡ staging.Child element.now room)
+        × HasNodeRoom parent.now room) }
+{
+    let room = Vec::with_capacity(alloc, parent.nodes().len() + 1)?;
+    let element = copy_tree(alloc, element)?;
+    Ok(Staged::Child { element, room })
+}
+
+// Capacity for the attributes of an element and one more, where none of them has this name.
+fn room_for_attr(alloc: Global, element: &Element, name: &Name) -> Result<Vec<Attr>, AllocError>
+    ensures attr_room { IfOk result (λ room. HasAttrRoom name.now element.now room) }
+{
+    match element.attr(name) {
+        Some(_) => Ok(Vec::new(alloc)),
+        None => Vec::with_capacity(alloc, element.attrs().len() + 1),
+    }
+}
+
+// Copies of an attribute's name and value, and the capacity that it needs.
+fn attribute(
+    alloc: Global,
+    element: &Element,
+    name: &Name,
+    value: &Text,
+) -> Result<Staged, AllocError>
+    ensures attr_with_room { IfOk result
+        (λ made. (room : Vec AnAttr AnyMemory) × (made ≡ staging.Attribute name.now value.now room)
+        × HasAttrRoom name.now element.now room) }
+{
+    let room = room_for_attr(alloc, element, name)?;
+    let name = name.copy(alloc)?;
+    let value = value.copy(alloc)?;
+    Ok(Staged::Attribute { name, value, room })
+}
+
+// The texts that meet where the element at a path is removed from its parent, joined.
+#[tactic(auto, using(crate::proofs::WayLemmas::parents))]
+fn joint(alloc: Global, parent: &Element, place: &Path) -> Result<Staged, AllocError>
+    requires below { 0 < length place.now }
+    requires place_exists { own_number place.now < length (child_elements_of parent.now) }
+    ensures ok { IfOk result
+        (λ made. made ≡ staging.Joint (joined_around (own_number place.now) parent.now.content)) }
+    ensures err_texts_meet { IfErr result
+        (λ _. TextsMeet (own_number place.now) parent.now.content) }
+{
+    match place.split_last() {
+        None => unreachable!(),
+        Some((_, number)) => Ok(Staged::Joint(parent.joined_around(alloc, number)?)),
+    }
+}
+
+// What a change inserts into the element that it is made in.
+fn staged_here(alloc: Global, here: &Element, change: &Change) -> Result<Staged, AllocError>
+    requires { FitsHere change.now here.now }
+    ensures stages_change { IfOk result (λ made. IsStagedHere change.now here.now made) }
+    ensures err_wants_memory { IfErr result (λ _. WantsHere change.now here.now) }
+{
+    match change {
+        Change::CreateDocument { root: _ } => unreachable!(),
+        Change::Insert { element, .. } => child(alloc, here, element),
+        Change::Replace { element, .. } => {
+            let other = copy_tree(alloc, element)?;
+            Ok(Staged::Other(other))
+        }
+        Change::Remove { at } => joint(alloc, here, at),
+        Change::SetAttr { name, value, .. } => attribute(alloc, here, name, value),
+        Change::DropAttr { .. } => Ok(Staged::Nothing),
+        Change::RemoveDocument => unreachable!(),
+    }
+}
+
+/// Makes all allocations for a change of a tree, which stays as it is: copies of what the change
+/// inserts, and where that is an element or a new attribute, capacity for the existing ones and
+/// one more. It costs that and the descent to the place of the change.
+///
+/// # Errors
+/// `NoMemory` when out of memory. It never comes where an attribute is dropped, and where an
+/// element is removed only if texts are directly on both sides of it.
+pub fn stage(alloc: Global, root: &Element, change: &Change) -> Result<Staged, AllocError>
+    requires { Fits root.now change.now }
+    ensures stages_change { IfOk result (λ made. IsStaged root.now change.now made) }
+    ensures err_wants_memory { IfErr result (λ _. WantsMemory root.now change.now) }
+{
+    let Some(here) = element_at(root, &site_of(change)) else {
+        unreachable!()
+    };
+    staged_here(alloc, here, change)
+}
+
+// ---- the change
+
+// Removes the element at a path from its parent.
+#[tactic(auto, using(crate::proofs::WayLemmas::parents))]
+fn take_out(parent: &mut Element, place: &Path, joined: Option<Text>)
+    requires below { 0 < length place.now }
+    requires place_exists { own_number place.now < length (child_elements_of parent.old) }
+    requires joined_texts { joined ≡ joined_around (own_number place.now) parent.old.content }
+    ensures exact { parent.new ≡ cut_child (own_number place.now) parent.old }
+{
+    match place.split_last() {
+        None => unreachable!(),
+        Some((_, number)) => {
+            let _gone = parent.take_child_joining(number, joined);
+        }
+    }
+}
+
+// Makes a change in the element that it is made in.
+fn make_here(here: &mut Element, change: &Change, staged: Staged)
+    requires fits { FitsHere change.now here.old }
+    requires change_staged { IsStagedHere change.now here.old staged }
+    ensures changed_here { here.new ≡ made_here change.now here.old }
+{
+    match (change, staged) {
+        (Change::Insert { gap, .. }, Staged::Child { element, room }) => {
+            here.put_child_in_room(*gap, element, room)
+        }
+        (Change::Replace { .. }, Staged::Other(element)) => *here = element,
+        (Change::Remove { at }, Staged::Joint(joined)) => take_out(here, at, joined),
+        (Change::SetAttr { .. }, Staged::Attribute { name, value, room }) => {
+            here.set_attr_in_room(name, value, room)
+        }
+        (Change::DropAttr { name, .. }, Staged::Nothing) => {
+            here.drop_attr(name);
+        }
+        _ => unreachable!(),
+    }
+}
+
+/// Makes a change of a tree, where `stage` has made the allocations for it on this very tree.
+/// Each element that the change isn't at or inside is then found unchanged where `moved` says.
+/// Does not allocate, and moves at most the nodes or attributes of one element.
+pub fn apply_staged(root: &mut Element, change: &Change, staged: Staged)
+    requires fits { Fits root.old change.now }
+    requires change_staged { IsStaged root.old change.now staged }
+    ensures changed_tree { root.new ≡ edited root.old change.now }
+    ensures others_unchanged { KeepsTheOthers root.old change.now root.new }
+{
+    root.edit_at(
+        &site_of(change),
+        |here: &mut Element|
+            requires fits { FitsHere change.now here.old }
+            requires change_staged { IsStagedHere change.now here.old staged }
+            ensures changed_here { here.new ≡ made_here change.entry.now here.old }
+        { make_here(here, change, staged) },
+    )
+}

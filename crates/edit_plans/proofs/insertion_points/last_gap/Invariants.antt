@@ -1,0 +1,21 @@
+use Rattle.std.proofs.Common.{◌≡◌, ◌≤◌, length, drop, take, count_by}
+use Rattle.std.specs.Option.{ForSome}
+use Rattle.node_select.specs.InsertionPoints.{IsLawfulInsertion, PlanIs}
+use Rattle.xml_tree.specs.Tree.{child_elements, child_elements_of}
+use Rattle.xml_tree.specs.Nodes.{content_of}
+use Rattle.node_select.specs.Selection.{is_named, is_tested}
+use Rattle.usage_docs.specs.readers.Gaps.{part_before}
+use Rattle.edit_plans.specs.inner.Neighbours.{FitsIn}
+use Rattle.edit_plans.specs.declared.insertion_points.NoInsertionPoint.TheVariants.{Unlawful, Invalid}
+use Rattle.edit_plans.proofs.insertion_points.last_gap.Given as goal
+
+abbrev pub invariant-loop-node : goal.invariant-loop-node
+invariant-loop-node l = record {
+  left : drop l.i (child_elements_of l.parent) ≡ child_elements (content_of (drop l.node-index l.node-items));
+  within : l.i ≤ length (child_elements_of l.parent);
+  small : l.i ≤ l.node-index;
+  counted : l.before ≡ count_by (is_named l.scope l.step) (take l.i (child_elements_of l.parent));
+  few : l.before ≤ l.i;
+  prev : ForSome l.row (λ kind. l.prev ≡ part_before kind l.scope 0 l.i l.parent.content);
+  plan : PlanIs Unlawful Invalid (IsLawfulInsertion (is_named l.scope l.step) (is_tested l.scope l.step) l.step.position (child_elements_of l.parent) l.new) (FitsIn l.row l.scope l.parent.content l.new) l.i l.answer;
+}

@@ -1,6 +1,0 @@
-use Rattle.std.proofs.Common.{◌≡◌, drop, find}
-use Rattle.plan_words.specs.Attributes.{is_binding}
-use Rattle.edit_plans.proofs.writing.bound_prefix.Given as goal
-
-abbrev pub invariant-loop-decl : goal.invariant-loop-decl
-invariant-loop-decl l = find (is_binding l.uri) (drop l.decl-index l.bindings) ≡ find (is_binding l.uri) l.bindings

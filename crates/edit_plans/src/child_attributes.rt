@@ -1,0 +1,188 @@
+//! Whether a child may have its attributes changed, decided from the parent alone: the conditions
+//! on its new start tag (RFC 4825, sections 8.2.4 and 8.4).
+ghost use Rattle.std.specs.Prelude.{◌≡◌, ◌↔◌, Some, IsTrue, option_map};
+ghost use Rattle.xml_tree.specs.Scopes.{inside};
+ghost use Rattle.std.specs.List.{find};
+ghost use Rattle.std.specs.Option.{option_copied};
+ghost use Rattle.node_select.specs.Selection.{is_attr};
+ghost use Rattle.edit_rules.specs.Tags.{AttrsFormed, AttrsPass, attrs_formed};
+ghost use Rattle.edit_plans.specs.inner.ChildChanges.{HasRoom, IsFoundIn, IsRetaggedIn, IsSelected, not_found_refusal};
+
+use crate::insert_child::check_insertion;
+use crate::siblings::Siblings;
+use edit_rules::EditRefusal;
+use node_select::{Step, attr_in};
+use std::alloc::Global;
+use usage_docs::{ElementKind, Fault, attrs_pass, is_formed, kind_of};
+use xml_tree::{Element, LinkedScope, Path, Text, declared_in};
+
+/// An attribute that a selector names, and how it is to be found afterwards: with this value, or
+/// not at all.
+#[derive(Drop)]
+pub(crate) struct AttributeEdit<'a> {
+    pub(crate) uri: &'a Text,
+    pub(crate) local: &'a Text,
+    pub(crate) value: Option<&'a Text>,
+}
+
+impl<'a> AttributeEdit<'a> {
+    /// An attribute to be found with this value.
+    pub(crate) fn with_value(uri: &'a Text, local: &'a Text, value: &'a Text) -> AttributeEdit<'a>
+        ensures given_uri { result.uri.now ≡ uri.now }
+        ensures given_local { result.local.now ≡ local.now }
+        ensures given_value { option_copied result.value ≡ Some value.now }
+    {
+        AttributeEdit {
+            uri,
+            local,
+            value: Some(value),
+        }
+    }
+}
+
+// The value of an attribute of an element, in the scope around it.
+fn value_of<'a>(
+    alloc: Global,
+    scope: &LinkedScope<'_>,
+    tag: &'a Element,
+    sought: &AttributeEdit<'_>,
+) -> Option<&'a Text>
+    ensures exact { option_copied result
+        ≡ option_map (λ a. a.value)
+        (find (is_attr (inside scope.now tag.now) sought.now.uri.now sought.now.local.now)
+        tag.now.attrs) }
+{
+    let declared = declared_in(alloc, tag.decls());
+    let inside = (&*scope).inside(&declared);
+    match attr_in(
+        &inside,
+        tag.attrs(),
+        sought.uri.as_str(),
+        sought.local.as_str(),
+    ) {
+        Some(attr) => Some(&attr.value),
+        None => None,
+    }
+}
+
+// Whether the value is the expected one, or absent where none is expected.
+fn is_wanted(value: Option<&Text>, wanted: Option<&Text>) -> bool
+    ensures exact { IsTrue result ↔ (option_copied value.entry ≡ option_copied wanted.entry) }
+{
+    match value {
+        None => wanted.is_none(),
+        Some(value) => match wanted {
+            None => false,
+            Some(wanted) => value.same(wanted),
+        },
+    }
+}
+
+/// Whether the attribute is found in a child with this start tag, which the step tests, with the
+/// expected value, or not at all where none is expected.
+pub(crate) fn is_found_in(
+    alloc: Global,
+    scope: &LinkedScope<'_>,
+    step: &Step,
+    tag: &Element,
+    sought: &AttributeEdit<'_>,
+) -> bool
+    ensures exact { IsTrue result ↔ IsFoundIn scope.now step.now tag.now sought.now }
+{
+    if !step.tests(alloc, scope, tag) {
+        return is_wanted(None, sought.value);
+    }
+    let value = value_of(alloc, scope, tag, sought);
+    is_wanted(value, sought.value)
+}
+
+/// The refusal where the attribute isn't found as it should be.
+pub(crate) fn not_found_refusal(wanted: Option<&Text>) -> EditRefusal
+    ensures exact { result ≡ not_found_refusal (option_copied wanted.entry) }
+{
+    match wanted {
+        None => EditRefusal::CannotDelete,
+        Some(_) => EditRefusal::CannotInsert,
+    }
+}
+
+// Whether the attributes are valid for the child's element kind, if its parent has a kind and it
+// has one.
+fn attrs_pass_in(
+    alloc: Global,
+    row: Option<ElementKind>,
+    scope: &LinkedScope<'_>,
+    tag: &Element,
+) -> bool
+    ensures exact { IsTrue result ↔ AttrsPass row scope.now tag.now }
+{
+    let Some(row) = row else {
+        return true;
+    };
+    let declared = declared_in(alloc, tag.decls());
+    let inside = (&*scope).inside(&declared);
+    match kind_of(row, &inside, tag.name()) {
+        None => true,
+        Some(kind) => attrs_pass(kind, &inside, tag.attrs()),
+    }
+}
+
+// Whether the reference among the attributes of an element of this kind has its form.
+fn attrs_formed(kind: ElementKind, tag: &Element) -> bool
+    ensures exact { result ≡ attrs_formed kind tag.now.attrs }
+{
+    match kind {
+        ElementKind::ResourceList => true,
+        _ => is_formed(kind, tag),
+    }
+}
+
+// Whether the child's reference has its form, if its parent has an element kind and it has one.
+fn attrs_formed_in(
+    alloc: Global,
+    row: Option<ElementKind>,
+    scope: &LinkedScope<'_>,
+    tag: &Element,
+) -> bool
+    ensures exact { IsTrue result ↔ AttrsFormed row scope.now tag.now }
+{
+    let Some(row) = row else {
+        return true;
+    };
+    let declared = declared_in(alloc, tag.decls());
+    let inside = (&*scope).inside(&declared);
+    match kind_of(row, &inside, tag.name()) {
+        None => true,
+        Some(kind) => attrs_formed(kind, tag),
+    }
+}
+
+/// The result for a child with this start tag, which the step selects; the parent is at this path.
+/// `CannotInsert` or `CannotDelete` where the attribute wouldn't be found as it should be,
+/// `Faulty` where it isn't allowed or is required; then as `check_insertion`.
+pub(crate) fn attribute_change_in_parent(
+    alloc: Global,
+    row: Option<ElementKind>,
+    scope: &LinkedScope<'_>,
+    step: &Step,
+    parent: &Element,
+    child: usize,
+    place: &Path,
+    tag: &Element,
+    sought: &AttributeEdit<'_>,
+) -> Result<usize, EditRefusal>
+    requires selected { IsSelected row scope.now step.now parent.now child }
+    requires room_left { HasRoom place.now tag.now }
+    ensures new_tag_plan { IsRetaggedIn row scope.now step.now parent.now child tag.now sought.now
+        place.now result }
+{
+    if !is_found_in(alloc, scope, step, tag, sought) {
+        return Err(not_found_refusal(sought.value));
+    }
+    if !attrs_pass_in(alloc, row, scope, tag) {
+        return Err(EditRefusal::Faulty(Fault::Invalid));
+    }
+    let formed = attrs_formed_in(alloc, row, scope, tag);
+    let siblings = Siblings::without(parent, child);
+    check_insertion(alloc, row, scope, &siblings, place, tag, child, formed)
+}

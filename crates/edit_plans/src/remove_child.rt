@@ -1,0 +1,166 @@
+//! Whether a selected child may be removed, decided from its parent alone (RFC 4825, section 8.4).
+ghost use Rattle.std.specs.Prelude.{◌≡◌, ◌↔◌, ◌<◌, ◌≤◌, ℕ, IsTrue, Some, length, remove, suc};
+ghost use Rattle.std.specs.Option.{ForSome};
+ghost use Rattle.node_select.specs.Edits.{IsNextMatch};
+ghost use Rattle.xml_tree.specs.Tree.{child_elements_of};
+ghost use Rattle.node_select.specs.Selection.{SelectsChild, is_named, is_tested};
+ghost use Rattle.usage_docs.specs.readers.Gaps.{part_before, part_after};
+ghost use Rattle.edit_rules.specs.Removals.{ClosesUp, StillSelects};
+ghost use Rattle.edit_plans.specs.inner.ChildChanges.{IsRemovedIn, IsSelected};
+
+use crate::insertion_points::part_in;
+use edit_rules::EditRefusal;
+use node_select::Step;
+use std::alloc::Global;
+use usage_docs::{END, ElementKind, Fault, follows};
+use xml_tree::{Element, LinkedScope, Node};
+
+// Whether the i-th child comes after another one and has the step's name.
+fn is_next(
+    alloc: Global,
+    scope: &LinkedScope<'_>,
+    step: &Step,
+    child: usize,
+    i: usize,
+    child_element: &Element,
+) -> bool
+    ensures exact { IsTrue result
+        ↔ ((child < i) × IsTrue (is_named scope.now step.now child_element.now)) }
+{
+    if i <= child {
+        return false;
+    }
+    step.names(alloc, scope, child_element)
+}
+
+// Whether the next child of the step's name after this one passes the attribute test too.
+fn next_passes(
+    alloc: Global,
+    scope: &LinkedScope<'_>,
+    step: &Step,
+    parent: &Element,
+    child: usize,
+) -> bool
+    requires { child < length (child_elements_of parent.now) }
+    ensures exact { IsTrue result
+        ↔ ((i : ℕ) × IsNextMatch (is_named scope.now step.now) (is_tested scope.now step.now)
+        (remove (child_elements_of parent.now) child) child i) }
+{
+    let mut i: usize = 0;
+    for node in parent.nodes() {
+        if let Node::Elem(child_element) = node {
+            if is_next(alloc, scope, step, child, i, child_element) {
+                return step.tests(alloc, scope, child_element);
+            }
+            i += 1;
+        }
+    }
+    false
+}
+
+// Whether the step still selects a child once the selected one is removed.
+fn still_selects(
+    alloc: Global,
+    scope: &LinkedScope<'_>,
+    step: &Step,
+    parent: &Element,
+    child: usize,
+) -> bool
+    requires { SelectsChild scope.now step.now (child_elements_of parent.now) child }
+    ensures exact { IsTrue result
+        ↔ StillSelects scope.now step.now (child_elements_of parent.now) child }
+{
+    match step.position {
+        None => false,
+        Some(_) => next_passes(alloc, scope, step, parent, child),
+    }
+}
+
+/// The part of the child before this one, or the beginning. The number may be one past the last
+/// child.
+pub(crate) fn part_left(
+    alloc: Global,
+    row: Option<ElementKind>,
+    scope: &LinkedScope<'_>,
+    parent: &Element,
+    child: usize,
+) -> u8
+    requires { child ≤ length (child_elements_of parent.now) }
+    ensures exact { ForSome row
+        (λ kind. result ≡ part_before kind scope.now 0 child parent.now.content) }
+{
+    if child == 0 {
+        return 0;
+    }
+    match parent.child_element(child - 1) {
+        Some(child_element) => part_in(alloc, row, scope, child_element),
+        None => unreachable!(),
+    }
+}
+
+/// The part of the child after this one, or the end.
+pub(crate) fn part_right(
+    alloc: Global,
+    row: Option<ElementKind>,
+    scope: &LinkedScope<'_>,
+    parent: &Element,
+    child: usize,
+) -> u8
+    ensures exact { ForSome row
+        (λ kind. result ≡ part_after kind scope.now (suc child) parent.now.content) }
+{
+    let mut i: usize = 0;
+    for node in parent.nodes() {
+        if let Node::Elem(child_element) = node {
+            if child < i {
+                return part_in(alloc, row, scope, child_element);
+            }
+            i += 1;
+        }
+    }
+    END
+}
+
+// Whether the next child may follow the one before this one.
+fn closes_up(
+    alloc: Global,
+    row: Option<ElementKind>,
+    scope: &LinkedScope<'_>,
+    parent: &Element,
+    child: usize,
+) -> bool
+    requires { child < length (child_elements_of parent.now) }
+    ensures exact { IsTrue result ↔ ClosesUp row scope.now parent.now.content child }
+{
+    let left = part_left(alloc, row, scope, parent, child);
+    let right = part_right(alloc, row, scope, parent, child);
+    match row {
+        None => true,
+        Some(kind) => follows(kind, left, right),
+    }
+}
+
+/// The result for the parent without a child, which the step selects.
+///
+/// # Errors
+/// `CannotDelete` where the step would still select a child, else `Faulty` where the parent
+/// wouldn't be valid.
+pub(crate) fn removal_in_parent(
+    alloc: Global,
+    row: Option<ElementKind>,
+    scope: &LinkedScope<'_>,
+    step: &Step,
+    parent: &Element,
+    child: usize,
+) -> Result<usize, EditRefusal>
+    requires selected { IsSelected row scope.now step.now parent.now child }
+    ensures removal_plan { IsRemovedIn row scope.now step.now parent.now child result }
+{
+    if still_selects(alloc, scope, step, parent, child) {
+        return Err(EditRefusal::CannotDelete);
+    }
+    if !closes_up(alloc, row, scope, parent, child) {
+        return Err(EditRefusal::Faulty(Fault::Invalid));
+    }
+    Ok(child)
+}

@@ -1,0 +1,74 @@
+//! Whether the root may be replaced, or have its attributes changed (RFC 4825, sections 8.2.4 and
+//! 8.4).
+ghost use Rattle.std.specs.Prelude.{◌≡◌, ◌≤◌, [], ◌∷◌, ℕ, List};
+ghost use Rattle.xml_tree.specs.Limits.{max_levels};
+ghost use Rattle.xml_tree.specs.Tree.{height};
+ghost use Rattle.node_select.specs.Selection.{SelectsPath};
+ghost use Rattle.usage_docs.specs.Keys.{attrs_pass};
+ghost use Rattle.usage_docs.specs.SchemaTable.{root_kind};
+ghost use Rattle.edit_rules.specs.declared.refusal.EditRefusal.TheVariants.{CannotInsert};
+ghost use Rattle.edit_plans.specs.inner.ChildChanges.{IsRootRetagged};
+ghost use Rattle.edit_plans.specs.inner.CheckedChanges.{IsTestedAs};
+
+use crate::child_attributes::{AttributeEdit, is_found_in, not_found_refusal};
+use doc_names::Usage;
+use edit_rules::EditRefusal;
+use node_select::{Step, select_steps};
+use std::alloc::Global;
+use usage_docs::{Fault, attrs_pass, first_fault, root_kind};
+use xml_tree::{Element, LinkedScope, declared_in};
+
+/// The result for another root, where the steps select the root and nothing below it:
+/// `CannotInsert` where they wouldn't select the new one; then `Faulty` by what is in it.
+pub(crate) fn root_replacement(
+    alloc: Global,
+    usage: Usage,
+    steps: &[Step],
+    new: &Element,
+) -> Result<usize, EditRefusal>
+    requires root_alone { (p : List ℕ) → SelectsPath steps.now new.now p → p ≡ [] }
+    requires height_bounded { height new.now ≤ max_levels }
+    ensures new_root_plan { IsTestedAs CannotInsert
+        (SelectsPath steps.now new.now []) usage new.now result }
+{
+    if select_steps(alloc, new, steps).is_none() {
+        return Err(EditRefusal::CannotInsert);
+    }
+    match first_fault(alloc, usage, new) {
+        Some(fault) => Err(EditRefusal::Faulty(fault)),
+        None => Ok(0),
+    }
+}
+
+// Whether the attributes are valid for the root.
+fn attrs_pass_in_root(alloc: Global, usage: Usage, tag: &Element) -> bool
+    ensures exact { result ≡ attrs_pass (root_kind usage) (tag.now.decls ∷ []) tag.now.attrs }
+{
+    let declared = declared_in(alloc, tag.decls());
+    attrs_pass(
+        root_kind(usage),
+        &LinkedScope::empty().inside(&declared),
+        tag.attrs(),
+    )
+}
+
+/// The result for the root with this start tag. The step selects the root, which is valid, meets
+/// the constraints and has unique keys: `CannotInsert` or `CannotDelete` where the attribute
+/// wouldn't be found as it should be, `Faulty` where it isn't allowed.
+pub(crate) fn root_attribute_change(
+    alloc: Global,
+    usage: Usage,
+    step: &Step,
+    tag: &Element,
+    sought: &AttributeEdit<'_>,
+) -> Result<usize, EditRefusal>
+    ensures new_tag_plan { IsRootRetagged usage step.now tag.now sought.now result }
+{
+    if !is_found_in(alloc, &LinkedScope::empty(), step, tag, sought) {
+        return Err(not_found_refusal(sought.value));
+    }
+    if !attrs_pass_in_root(alloc, usage, tag) {
+        return Err(EditRefusal::Faulty(Fault::Invalid));
+    }
+    Ok(0)
+}

@@ -1,0 +1,12 @@
+pub mod Attributes
+pub mod Deletions
+pub mod KeyAddresses
+pub mod KeyWrites
+pub mod LawfulPlaces
+pub mod NewElements
+pub mod Plans
+pub mod Puts
+pub mod Removals
+pub mod Spots
+pub mod Tags
+pub mod inner

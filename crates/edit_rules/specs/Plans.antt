@@ -1,0 +1,33 @@
+-- What is checked of a change of a document before it is made, in this order. RFC 4825, sections
+-- 8.2.3 and 8.4: the address then selects what was put, or nothing; section 8.2.5: the document
+-- is valid, and then within the constraints and uniqueness of its usage (RFC 4826).
+use Rattle.std.specs.Prelude.{◌≡◌, ◌⊎◌, ◌≤◌, [], Option, None, Some, Result, Ok, Err}
+use Rattle.doc_names.specs.declared.usages.Usage.{Usage}
+use Rattle.xml_tree.specs.Tree.{Tree, height}
+use Rattle.xml_tree.specs.Proper.{ProperIn}
+use Rattle.xml_tree.specs.Limits.{max_levels}
+use Rattle.usage_docs.specs.Validation.{HasFirstFault}
+use Rattle.usage_docs.specs.declared.validation.Fault.{Fault}
+use Rattle.edit_ops.specs.Changes.{Fits, edited}
+use Rattle.edit_ops.specs.declared.change.Change.{Change}
+use Rattle.edit_rules.specs.declared.refusal.EditRefusal.{EditRefusal}
+use Rattle.edit_rules.specs.declared.refusal.EditRefusal.TheVariants.{Faulty}
+
+-- the change, where the resulting document has no fault
+abbrev pub by_fault : Change → Option Fault → Result Change EditRefusal
+by_fault change None = Ok change
+by_fault change (Some fault) = Err (Faulty fault)
+
+-- the result for a change, by the first fault of the resulting document
+abbrev pub IsJudged : Usage → Tree → Change → Result Change EditRefusal → Type 0
+IsJudged u t change result = (fault : Option Fault) × (HasFirstFault u (edited t change) fault × (result ≡ by_fault change fault))
+
+-- the result for a change that is lawful, or the given refusal where it isn't
+abbrev pub IsTested : EditRefusal → Type 0 → Usage → Tree → Change → Result Change EditRefusal → Type 0
+IsTested unlawful lawful u t change result = ((result ≡ Err unlawful) × (lawful → ⊥)) ⊎ (lawful × IsJudged u t change result)
+
+-- the change fits the document, and makes a proper one of at most `max_levels` levels
+pub record LeavesProper (t : Tree) (change : Change) : Type 0 where
+  pub fits : Fits t change
+  pub proper : ProperIn [] (edited t change)
+  pub low : height (edited t change) ≤ max_levels

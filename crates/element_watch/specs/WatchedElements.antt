@@ -1,0 +1,81 @@
+-- The state of a watched element since a known version. RFC 5874, section 3, names the element by
+-- a selector and says whether it exists; RFC 4826, sections 3.4.5 and 4.4.5, name the attributes
+-- that distinguish an element from its siblings.
+use Rattle.std.specs.Prelude.{◌≡◌, ℕ, List, [], ◌⊎◌, Option, None, Some, Result, Err, MatchResult, encode_utf8_all}
+use Rattle.xml_tree.specs.Tree.{Tree}
+use Rattle.xml_tree.specs.Print.{document_print}
+use Rattle.doc_names.specs.Ids.{id_text}
+use Rattle.doc_names.specs.Usages.{usage_of}
+use Rattle.doc_names.specs.declared.doc_id.DocId.{DocId}
+use Rattle.doc_names.specs.declared.usages.Usage.{Usage}
+use Rattle.node_select.specs.Selection.{SelectsPath}
+use Rattle.node_select.specs.declared.selector.Selector.{Selector}
+use Rattle.edit_ops.specs.Notes.{Note}
+use Rattle.patch_rules.specs.Notices.{candidate, diff}
+use Rattle.patch_write.specs.Elements.{element_notice}
+use Rattle.patch_write.specs.declared.element_states.ElementState.{ElementState}
+use Rattle.patch_write.specs.declared.element_states.ElementState.TheVariants.{Unchanged, Exists, Missing}
+use Rattle.edit_rules.specs.KeyAddresses.{IsKeyAddressOf}
+use Rattle.store_core.specs.DocumentChanges.{document_in, stored_name}
+use Rattle.store_core.specs.Contents.{StoredDocument, StoreContents}
+use Rattle.store_core.specs.Since.{ChangesSince, Gone, Unknown, ReportedChanges}
+use Rattle.element_watch.specs.TouchedElements.{PassesThrough}
+use Rattle.element_watch.specs.declared.fault.ElementFault.{ElementFault}
+use Rattle.element_watch.specs.declared.fault.ElementFault.TheVariants as faults
+
+-- ---- the element in the present tree
+
+-- the selector's steps select something
+abbrev pub SelectsSome : Selector → Tree → Type 0
+SelectsSome selector t = (p : List ℕ) × SelectsPath selector.steps t p
+
+-- the selector is a key address that selects the element at the path, to which the change records
+-- move a former path that none touches on the way
+pub record IsUntouchedAt (u : Usage) (t : Tree) (selector : Selector) (ns : List Note) (p : List ℕ) : Type 0 where
+  pub selects : SelectsPath selector.steps t p
+  pub by_keys : IsKeyAddressOf u t selector p
+  pub former : List ℕ
+  pub passes : PassesThrough former ns p
+
+-- an application usage that stores no documents has no elements with keys
+abbrev pub IsUntouched : Option Usage → Tree → Selector → List Note → Type 0
+IsUntouched None t selector ns = ⊥
+IsUntouched (Some u) t selector ns = (p : List ℕ) × IsUntouchedAt u t selector ns p
+
+-- nothing is to be reported: no change was made since, or none that touches the element
+abbrev pub IsQuiet : Option Usage → Tree → Selector → List Note → Type 0
+IsQuiet u t selector ns = (ns ≡ []) ⊎ IsUntouched u t selector ns
+
+-- the state of the element: unchanged; or that it may have changed, and whether the selector
+-- selects something now
+abbrev pub IsStateOf : Option Usage → Tree → Selector → List Note → ElementState → Type 0
+IsStateOf u t selector ns Unchanged = IsQuiet u t selector ns
+IsStateOf u t selector ns Exists = (IsQuiet u t selector ns → ⊥) × SelectsSome selector t
+IsStateOf u t selector ns Missing = (IsQuiet u t selector ns → ⊥) × (SelectsSome selector t → ⊥)
+
+-- ---- the diff document
+
+-- the xcap-diff document about an element of a stored document, by its selector as it was written,
+-- with the change records since the known version
+pub record IsElementNotice (root : List ℕ) (c : StoreContents) (id : DocId) (selector : Selector) (raw : List ℕ) (ns : List Note) (notice : Tree) : Type 0 where
+  pub held : StoredDocument
+  pub there : document_in stored_name c.documents id ≡ Some held
+  pub state : ElementState
+  pub is_state : IsStateOf (usage_of id.auid) held.tree selector ns state
+  pub told : notice ≡ element_notice root (id_text id) raw state
+
+-- the diff document that reports nothing
+abbrev pub silent_notice : List ℕ → Tree
+silent_notice root = diff (candidate 0) root []
+
+-- the text of a diff document
+abbrev pub IsNoticeText : List ℕ → StoreContents → DocId → Selector → List ℕ → List Note → List ℕ → Type 0
+IsNoticeText root c id selector raw ns text =
+    (notice : Tree) × (IsElementNotice root c id selector raw ns notice × (text ≡ encode_utf8_all (document_print notice)))
+
+-- by what became of the document since the known version: it is gone, or the version isn't known
+-- any more; or the text of the diff document, unless out of memory
+abbrev pub IsNoticeAnswer : List ℕ → StoreContents → DocId → Selector → List ℕ → ChangesSince → Result (List ℕ) ElementFault → Type 0
+IsNoticeAnswer root c id selector raw Gone r = r ≡ Err faults.Gone
+IsNoticeAnswer root c id selector raw Unknown r = r ≡ Err faults.Unknown
+IsNoticeAnswer root c id selector raw (ReportedChanges ns) r = MatchResult r (IsNoticeText root c id selector raw ns) (λ e. e ≡ faults.NoMemory)

@@ -1,5 +1,0 @@
-mod Addresses
-mod Allowed
-pub mod Numerals
-mod Printed
-pub mod Words

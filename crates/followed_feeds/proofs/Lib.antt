@@ -1,4 +1,0 @@
-mod Asked
-mod Holds
-mod Replies
-mod Taking

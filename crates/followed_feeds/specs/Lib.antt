@@ -1,4 +1,0 @@
-pub mod Faults
-pub mod Following
-pub mod Holding
-pub mod inner

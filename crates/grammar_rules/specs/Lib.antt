@@ -1,5 +1,0 @@
-pub mod Rules
-pub mod Digits
-pub mod Reading
-pub mod Answers
-pub mod readers

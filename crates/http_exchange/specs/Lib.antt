@@ -1,9 +1,0 @@
-pub mod Limits
-pub mod Stops
-pub mod Heads
-pub mod Tags
-pub mod Extents
-pub mod Responses
-pub mod Requests
-pub mod Understood
-pub mod inner

@@ -1,5 +1,0 @@
--- What private functions and proofs speak of. No clause of a public call needs it.
-pub mod Inflow
-pub mod Responses
-pub mod Stops
-pub mod Tags

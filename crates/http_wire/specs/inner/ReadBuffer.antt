@@ -1,0 +1,119 @@
+-- What reads add to the read buffer of a connection, and what is searched for in it.
+use Rattle.std.specs.Prelude.{ℕ, List, ◌++◌, ◌≡◌, ◌+◌, ◌<◌, ◌≤◌, ◌⊎◌, map, length, drop, take, Option, None, Some, Bool, true, false, Result, Ok, Err}
+use Rattle.http_wire.specs.Heads.{HasNoHead, BeginsWithHead}
+use Rattle.xcap_io.specs.Causes.{InputState}
+use Rattle.xcap_io.specs.StreamTraffic.{Gave, IsEnded}
+use Rattle.httparse.specs.Grammar.{RequestHead}
+use Rattle.httparse.specs.Spans.{IsRequestAt, IsRequestWithin, name_and_value}
+use Rattle.httparse.specs.declared.spans.HeaderSpan.{HeaderSpan}
+use Rattle.httparse.specs.declared.spans.RequestSpans.{RequestSpans}
+use Rattle.http_wire.specs.declared.head_scan.HeadScan.{HeadScan}
+use Rattle.http_wire.specs.declared.head_scan.HeadScan.TheVariants.{Head, Open, Hopeless}
+use Rattle.http_wire.specs.declared.framing.Framing.{Framing}
+use Rattle.http_wire.specs.declared.framing.Framing.TheVariants.{Bad as BadFields, Coded, TooLong as LongBody, Length, Chunked}
+use Rattle.http_wire.specs.declared.body_decoder.DecodeResult.{DecodeResult}
+use Rattle.http_wire.specs.declared.body_decoder.DecodeResult.TheVariants.{Whole, TooLong, Bad, Cut}
+use Rattle.http_wire.specs.Limits.{max_body_bytes, max_head_bytes}
+use Rattle.http_wire.specs.Framing.{framing}
+use Rattle.http_wire.specs.inner.Decoding.{Decoding, start, is_settled, ReadsOn}
+use Rattle.http_wire.specs.Chunked.{ChunkedBody, ReadsBody, HasNoBody, MayBecomeBody, PassesLimit, chunk_data}
+use Rattle.http_wire.specs.declared.limits.TheConstants.{MAX_HELD}
+
+-- the capacity of the read buffer
+abbrev pub max_held_bytes : ℕ
+max_held_bytes = MAX_HELD
+
+-- no prefix of the bytes is a head, whatever follows them
+abbrev pub NeverHasHead : List ℕ → Type 0
+NeverHasHead bytes = (more : List ℕ) → HasNoHead (bytes ++ more)
+
+-- the next bytes of the source were appended to the buffered ones
+pub record Gains (held held' : List ℕ) (source source' : InputState) : Type 0 where
+  pub read : List ℕ
+  pub added : held' ≡ held ++ read
+  pub given : Gave source source' read
+
+-- at least one byte was added, or none because the source has ended
+abbrev pub GainedOrEnded : Bool → List ℕ → List ℕ → InputState → Type 0
+GainedOrEnded true held held' source' = length held < length held'
+GainedOrEnded false held held' source' = (held' ≡ held) × IsEnded source'
+
+-- n bytes are buffered, or fewer because the source has ended
+abbrev pub HoldsOrEnded : Bool → ℕ → List ℕ → InputState → Type 0
+HoldsOrEnded true count held source = count ≤ length held
+HoldsOrEnded false count held source = (length held < count) × IsEnded source
+
+-- the spans cover the parts of the head at the front
+pub record IsHeadAt (bytes : List ℕ) (headers : List HeaderSpan) (spans : RequestSpans) (head : RequestHead) : Type 0 where
+  pub begins : BeginsWithHead bytes head (drop spans.len bytes)
+  pub within : IsRequestWithin bytes headers spans
+  pub parts : IsRequestAt bytes headers spans head
+
+-- the result of a head scan is right
+abbrev pub IsFront : List ℕ → List HeaderSpan → HeadScan → Type 0
+IsFront bytes headers (Head spans) = (head : RequestHead) × IsHeadAt bytes headers spans head
+IsFront bytes headers Open = HasNoHead bytes × (length bytes < max_head_bytes)
+IsFront bytes headers Hopeless = NeverHasHead bytes × (0 < length bytes)
+
+-- a head is at the front, or none is possible however the bytes go on, or none because they have
+-- ended
+abbrev pub HeadOrNone : List ℕ → InputState → List HeaderSpan → Option RequestSpans → Type 0
+HeadOrNone held source headers (Some spans) = (head : RequestHead) × IsHeadAt held headers spans head
+HeadOrNone held source headers None = (NeverHasHead held × (0 < length held)) ⊎ (HasNoHead held × IsEnded source)
+
+-- a head was found at the front, and its fields give this framing
+pub record IsOpenAt (bytes : List ℕ) (headers : List HeaderSpan) (spans : RequestSpans) (what : Framing) : Type 0 where
+  pub head : RequestHead
+  pub at : IsHeadAt bytes headers spans head
+  pub framed : framing head.minor (map name_and_value head.fields) ≡ what
+
+-- a length is within the limit
+abbrev pub IsWithinLimit : Framing → Type 0
+IsWithinLimit BadFields = Unit {0}
+IsWithinLimit Coded = Unit {0}
+IsWithinLimit LongBody = Unit {0}
+IsWithinLimit (Length len) = len ≤ max_body_bytes
+IsWithinLimit Chunked = Unit {0}
+
+-- the bytes begin with a complete body within the limit, and then the rest
+pub record HasBody (raw body rest : List ℕ) : Type 0 where
+  pub whole : ChunkedBody
+  pub reads : ReadsBody raw whole rest
+  pub gives : chunk_data whole.chunks ≡ body
+  pub short : length body ≤ max_body_bytes
+
+-- no body is at the front of the bytes, and the limit isn't passed
+abbrev pub HasNoBodyYet : List ℕ → Type 0
+HasNoBodyYet raw = HasNoBody raw × ¬ (PassesLimit raw)
+
+-- the result of decoding the bytes after a head is right
+abbrev pub IsDecoded : List ℕ → InputState → DecodeResult → List ℕ → List ℕ → ℕ → Type 0
+IsDecoded raw source (Whole end) body held head = (head ≤ end) × (end ≤ length held) × HasBody raw body (drop end held)
+IsDecoded raw source TooLong body held head = PassesLimit raw
+IsDecoded raw source Bad body held head = (more : List ℕ) → HasNoBodyYet (raw ++ more)
+IsDecoded raw source Cut body held head = HasNoBodyYet raw × IsEnded source
+
+abbrev pub DecodedOrNot : {E : Type 0} → List ℕ → InputState → Result DecodeResult E → List ℕ → List ℕ → ℕ → Type 0
+DecodedOrNot raw source (Ok decoded) body held head = IsDecoded raw source decoded body held head
+DecodedOrNot raw source (Err e) body held head = MayBecomeBody raw × HasNoBodyYet raw
+
+-- the bytes after the head were decoded as they arrived; the head itself stays buffered
+pub record Decodes {E : Type 0} (head : ℕ) (held : List ℕ) (source : InputState) (result : Result DecodeResult E) (body held' : List ℕ) (source' : InputState) : Type 0 where
+  pub read : List ℕ
+  pub given : Gave source source' read
+  pub same_head : take head held' ≡ take head held
+  pub inside : head ≤ length held'
+  pub outcome : DecodedOrNot (drop head held ++ read) source' result body held' head
+
+-- the loop invariant: these bytes after the head were decoded, and the bytes from an offset on are
+-- still buffered
+pub record DecodesSoFar (head : ℕ) (held : List ℕ) (source : InputState) (decoder : Decoding) (held' : List ℕ) (source' : InputState) (used : ℕ) : Type 0 where
+  pub raw : List ℕ
+  pub read : List ℕ
+  pub given : Gave source source' read
+  pub same_head : take head held' ≡ take head held
+  pub inside : head + used ≤ length held'
+  pub reads : ReadsOn start raw decoder
+  pub split : drop head held ++ read ≡ raw ++ drop (head + used) held'
+  pub all : is_settled decoder.stage ≡ false → head + used ≡ length held'
+  pub room : length held' ≤ max_held_bytes

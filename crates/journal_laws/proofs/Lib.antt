@@ -1,4 +1,0 @@
-pub mod Beginnings
-pub mod Broken
-pub mod Copied
-pub mod Restored

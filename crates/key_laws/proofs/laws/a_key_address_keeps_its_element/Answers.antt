@@ -1,5 +1,0 @@
-use Rattle.key_laws.proofs.Stable.{after_change}
-use Rattle.key_laws.proofs.laws.a_key_address_keeps_its_element.Goals as goal
-
-pub returns : goal.returns
-returns c = record { keeps_key_addresses = λ u t change sound fits sound' selector p q. after_change u t change selector p q sound fits sound' }

@@ -1,2 +1,0 @@
-pub mod KeyAddresses
-pub mod KeyWrites

@@ -1,4 +1,0 @@
-pub mod Logging
-pub mod Books
-pub mod Ports
-pub mod inner

@@ -1,5 +1,0 @@
-use Rattle.machine_words.proofs.Effects.{second_put_leaves}
-use Rattle.machine_words.proofs.laws.a_second_put_leaves_every_tree.Goals as goal
-
-pub returns : goal.returns
-returns c = record { leaves_trees = second_put_leaves }

@@ -1,5 +1,0 @@
-use Rattle.machine_words.proofs.Steps.{answer_closes}
-use Rattle.machine_words.proofs.laws.each_reply_closes_as_its_request.Goals as goal
-
-pub returns : goal.returns
-returns c = record { closes_alike = answer_closes }

@@ -1,4 +1,0 @@
-pub mod Addressed
-pub mod Octets
-pub mod Parts
-pub mod Printed

@@ -1,6 +1,0 @@
-use Rattle.std.proofs.Common.{chars}
-use Rattle.node_select.proofs.ExactSelectors.{patch_selector_answered}
-use Rattle.node_select.proofs.reading.read_patch_selector.Goals as goal
-
-pub returns : goal.returns
-returns c = record { answer_by_the_grammar = patch_selector_answered c.args.bindings.now (chars c.args.default_uri.now) c.args.text.now c.patch_selector_of_text.result c.patch_selector_of_text.ensures.patch_selector_as_it_is_read }

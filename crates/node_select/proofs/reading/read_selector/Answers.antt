@@ -1,6 +1,0 @@
-use Rattle.std.proofs.Common.{chars}
-use Rattle.node_select.proofs.ExactSelectors.{selector_answered}
-use Rattle.node_select.proofs.reading.read_selector.Goals as goal
-
-pub returns : goal.returns
-returns c = record { answer_by_the_grammar = selector_answered c.args.bindings.now (chars c.args.default_uri.now) c.args.text.now c.selector_of_text.result c.selector_of_text.ensures.selector_as_it_is_read }

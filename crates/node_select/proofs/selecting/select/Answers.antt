@@ -1,9 +1,0 @@
-use Rattle.std.proofs.Common.{◌≡◌, ◌↔◌, List, ℕ, Option, Some, sym, ◌∙◌, ap, subst}
-use Rattle.node_select.specs.Selection.{SelectsPath, selected_in}
-use Rattle.node_select.proofs.Reaching.{path_is}
-use Rattle.node_select.proofs.selecting.select.Goals as goal
-
-pub returns-clause-path_that_is_selected : goal.returns-clause-path_that_is_selected
-returns-clause-path_that_is_selected c =
-    let root = c.args.root.now in let steps = c.args.selector.now.steps in
-    subst (λ (o : Option (List ℕ)). (p : List ℕ) → (o ≡ Some p) ↔ SelectsPath steps root p) (sym (c.select_steps.ensures.selects_in_the_document ∙ ap (λ ss. selected_in ss root) c.as_slice.ensures.lends_the_items)) (path_is steps root)

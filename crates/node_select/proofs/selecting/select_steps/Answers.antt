@@ -1,9 +1,0 @@
-use Rattle.std.proofs.Common.{◌≡◌, ◌↔◌, List, ℕ, Option, Some, sym, subst}
-use Rattle.node_select.specs.Selection.{SelectsPath}
-use Rattle.node_select.proofs.Reaching.{path_is}
-use Rattle.node_select.proofs.selecting.select_steps.Goals as goal
-
-pub returns-clause-path_that_is_selected : goal.returns-clause-path_that_is_selected
-returns-clause-path_that_is_selected c =
-    let root = c.args.root.now in let steps = c.args.steps.now in
-    subst (λ (o : Option (List ℕ)). (p : List ℕ) → (o ≡ Some p) ↔ SelectsPath steps root p) (sym c.select_outside.ensures.selects_in_the_document) (path_is steps root)

@@ -1,0 +1,241 @@
+//! What the names of a selector mean, by the bindings of their prefixes.
+ghost use Rattle.std.specs.Prelude.{◌≡◌, ◌+◌, ◌<◌, ◌^◌, IfOk, chars, map, Option, option_map};
+ghost use Rattle.tree_text.specs.readers.Views.{name_in};
+ghost use Rattle.node_select.specs.declared.name_resolution.Unresolved.TheVariants as troubles;
+ghost use Rattle.node_select.specs.readers.Resolving.{Means};
+ghost use Rattle.node_select.specs.Names.{prefix_uri, attr_uri, name_uri};
+ghost use Rattle.node_select.specs.readers.Raw.{HasRoom, attr_test, end_of, name_test, patch_end_of, step_of, steps_of, unbound_at, unbound_end, unbound_from, unbound_in, unbound_name, unbound_patch_end, unbound_test, no_end, steps_size};
+ghost use Rattle.node_select.specs.readers.Views.{end_in, patch_end_in, step_in, test_in};
+
+use crate::raw_selectors::{RawEnd, RawPatchEnd, RawStep, RawTest};
+use crate::selector::{AttrTest, End, NameTest, PatchEnd, Step};
+use crate::step_match::no_uri;
+use std::alloc::{AllocError, AllocFailed, Global};
+use tree_text::{RawName, split_first};
+use xml_tree::{IndexedDecls, LinkedScope, List, Prefix, Text, is_xmlns};
+
+/// Why names can't be resolved.
+#[derive(Drop)]
+pub enum Unresolved {
+    /// This many characters come before the first name whose prefix isn't bound.
+    Prefix(usize),
+    /// Out of memory.
+    Memory,
+}
+
+impl From<AllocError> for Unresolved {
+    ghost from_gives = { λ _ e. e ≡ troubles.Memory };
+
+    fn from(_error: AllocError) -> Self {
+        Unresolved::Memory
+    }
+}
+
+impl<T: Drop> From<AllocFailed<T>> for Unresolved {
+    ghost from_gives = { λ _ e. e ≡ troubles.Memory };
+
+    fn from(_error: AllocFailed<T>) -> Self {
+        Unresolved::Memory
+    }
+}
+
+// The URI of a prefix, if it is bound.
+fn uri_of(
+    alloc: Global,
+    bindings: &IndexedDecls<'_>,
+    prefix: &str,
+) -> Result<Option<Text>, AllocError>
+    ensures ok { IfOk result (λ uri. uri ≡ prefix_uri bindings.now (chars prefix.now)) }
+{
+    let prefix = Prefix::from(alloc, prefix)?;
+    if is_xmlns(prefix.as_str()) {
+        return Ok(None);
+    }
+    match LinkedScope::empty().inside(bindings).resolve(&prefix) {
+        None => Ok(None),
+        Some(uri) => {
+            let uri = Text::from(alloc, uri)?;
+            Ok(Some(uri))
+        }
+    }
+}
+
+// The URI of the name at `at`; a name without prefix has `none`.
+fn name_uri(
+    alloc: Global,
+    bindings: &IndexedDecls<'_>,
+    none: &str,
+    name: &RawName<'_>,
+    at: usize,
+) -> Result<Text, Unresolved>
+    ensures means_name { Means (unbound_at bindings.now at (name_in name.now))
+        (name_uri bindings.now (chars none.now) (name_in name.now)) result }
+{
+    match split_first(name.prefix) {
+        None => {
+            let uri = Text::from(alloc, none)?;
+            Ok(uri)
+        }
+        Some(_) => match uri_of(alloc, bindings, name.prefix)? {
+            None => Err(Unresolved::Prefix(at)),
+            Some(uri) => Ok(uri),
+        },
+    }
+}
+
+// The URI of an attribute's name at `at`.
+fn attr_uri(
+    alloc: Global,
+    bindings: &IndexedDecls<'_>,
+    name: &RawName<'_>,
+    at: usize,
+) -> Result<Text, Unresolved>
+    ensures means_attr_name { Means (unbound_at bindings.now at (name_in name.now))
+        (attr_uri bindings.now (name_in name.now)) result }
+{
+    name_uri(alloc, bindings, no_uri(), name, at)
+}
+
+// The name test of a step at `at`.
+fn name_test(
+    alloc: Global,
+    bindings: &IndexedDecls<'_>,
+    default: &str,
+    name: &Option<RawName<'_>>,
+    at: usize,
+) -> Result<NameTest, Unresolved>
+    ensures means_name_test { Means (unbound_name bindings.now at (option_map name_in name.now))
+        (name_test bindings.now (chars default.now) (option_map name_in name.now)) result }
+{
+    match name {
+        None => Ok(NameTest::Any),
+        Some(name) => {
+            let uri = name_uri(alloc, bindings, default, name, at)?;
+            let local = Text::from(alloc, name.local)?;
+            Ok(NameTest::Named { uri, local })
+        }
+    }
+}
+
+// The attribute test of a step, where the name of the attribute is at `at`.
+fn attr_test(
+    alloc: Global,
+    bindings: &IndexedDecls<'_>,
+    test: &RawTest<'_>,
+    at: usize,
+) -> Result<AttrTest, Unresolved>
+    ensures means_attr_test { Means (unbound_at bindings.now at (test_in test.now).0)
+        (attr_test bindings.now (test_in test.now)) result }
+{
+    let uri = attr_uri(alloc, bindings, &test.name, at)?;
+    let local = Text::from(alloc, test.name.local)?;
+    let value = test.value.copy(alloc)?;
+    Ok(AttrTest { uri, local, value })
+}
+
+// The attribute test of a step, if it has one.
+fn optional_test(
+    alloc: Global,
+    bindings: &IndexedDecls<'_>,
+    test: &Option<RawTest<'_>>,
+    at: usize,
+) -> Result<Option<AttrTest>, Unresolved>
+    ensures means_optional_test { Means (unbound_test bindings.now at (option_map test_in test.now))
+        (option_map (attr_test bindings.now) (option_map test_in test.now)) result }
+{
+    match test {
+        None => Ok(None),
+        Some(test) => {
+            let test = attr_test(alloc, bindings, test, at)?;
+            Ok(Some(test))
+        }
+    }
+}
+
+// The step at `at`.
+fn step(
+    alloc: Global,
+    bindings: &IndexedDecls<'_>,
+    default: &str,
+    step: &RawStep<'_>,
+    at: usize,
+) -> Result<Step, Unresolved>
+    requires { at + step.now.front + 2 < 2 ^ 64 }
+    ensures means_step { Means (unbound_in bindings.now at (step_in step.now))
+        (step_of bindings.now (chars default.now) (step_in step.now)) result }
+{
+    let name = name_test(alloc, bindings, default, &step.name, at)?;
+    let test = optional_test(alloc, bindings, &step.test, at + step.front + 2)?;
+    Ok(Step {
+        name,
+        position: step.position,
+        test,
+    })
+}
+
+/// The steps, the first at `at`, and the place after them and a slash.
+pub fn steps(
+    alloc: Global,
+    bindings: &IndexedDecls<'_>,
+    default: &str,
+    steps: &[RawStep<'_>],
+    at: usize,
+) -> Result<(List<Step>, usize), Unresolved>
+    requires { HasRoom at (map step_in steps.now) }
+    ensures means_steps { Means (unbound_from bindings.now at (map step_in steps.now) no_end)
+        (steps_of bindings.now (chars default.now) (map step_in steps.now), at + steps_size (map step_in steps.now))
+        result }
+{
+    let mut made = List::empty(alloc);
+    let mut here = at;
+    for raw in steps {
+        let step = step(alloc, bindings, default, raw, here)?;
+        made.push(step)?;
+        here += raw.size + 1;
+    }
+    Ok((made, here))
+}
+
+/// The end at `at`; its name comes after the `@`.
+pub fn end(
+    alloc: Global,
+    bindings: &IndexedDecls<'_>,
+    end: &RawEnd<'_>,
+    at: usize,
+) -> Result<End, Unresolved>
+    requires { at + 1 < 2 ^ 64 }
+    ensures means_end { Means (unbound_end bindings.now (end_in end.now) at)
+        (end_of bindings.now (end_in end.now)) result }
+{
+    match end {
+        RawEnd::Element => Ok(End::Element),
+        RawEnd::Attribute(name) => {
+            let uri = attr_uri(alloc, bindings, name, at + 1)?;
+            let local = Text::from(alloc, name.local)?;
+            Ok(End::Attribute { uri, local })
+        }
+        RawEnd::Namespaces => Ok(End::Namespaces),
+    }
+}
+
+/// The end of a patch's selector at `at`.
+pub fn patch_end(
+    alloc: Global,
+    bindings: &IndexedDecls<'_>,
+    end: &RawPatchEnd<'_>,
+    at: usize,
+) -> Result<PatchEnd, Unresolved>
+    requires { at + 1 < 2 ^ 64 }
+    ensures means_patch_end { Means (unbound_patch_end bindings.now (patch_end_in end.now) at)
+        (patch_end_of bindings.now (patch_end_in end.now)) result }
+{
+    match end {
+        RawPatchEnd::Element => Ok(PatchEnd::Element),
+        RawPatchEnd::Attribute(name) => {
+            let uri = attr_uri(alloc, bindings, name, at + 1)?;
+            let local = Text::from(alloc, name.local)?;
+            Ok(PatchEnd::Attribute { uri, local })
+        }
+        RawPatchEnd::Chars(position) => Ok(PatchEnd::Chars(*position)),
+    }
+}

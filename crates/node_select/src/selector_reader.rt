@@ -1,0 +1,201 @@
+//! Reading selectors.
+ghost use Rattle.std.specs.Prelude.{◌≡◌, ◌-◌, length, map, IfOk, chars};
+ghost use Rattle.xml_tree.specs.Memory.{Answered};
+ghost use Rattle.node_select.specs.Faults.{IsPatchFormAnswer, IsPatchSelectorAnswer, IsSelectorAnswer, byte_of};
+ghost use Rattle.node_select.specs.readers.Raw.{HasRoom, first_unbound, first_unbound_in_patch, patch_selector_of, selector_of};
+ghost use Rattle.node_select.specs.readers.Views.{patch_end_in, patch_selector_in, selector_in, step_in};
+ghost use Rattle.node_select.specs.readers.Resolving.{Means};
+ghost use Rattle.node_select.specs.readers.ParseErrors.{Tells, TellsUnresolved};
+ghost use Rattle.node_select.specs.readers.Whole.{patch_form_read, patch_selector_read, raw_form_of, selector_read};
+
+use crate::bindings::Bindings;
+use crate::fault::SelectorFault;
+use crate::name_resolution::{Unresolved, end, patch_end, steps};
+use crate::raw_selectors::{RawPatchEnd, RawPatchSelector, RawSelector};
+use crate::selector::{PatchForm, PatchSelector, Selector};
+use crate::selector_grammar::{raw_patch_selector, raw_selector};
+use std::alloc::{AllocError, Global};
+use tree_text::{ParseError, count, skip};
+use xml_tree::ReadError;
+
+// The byte after the first `n` characters of a text.
+fn byte_of(text: &str, n: usize) -> usize
+    ensures exact { result ≡ byte_of text.now n }
+{
+    text.len().saturating_sub(skip(text, n).len())
+}
+
+// The byte of a text at which this rest of it begins.
+fn place(text: &str, rest: &str) -> usize
+    ensures exact { result ≡ byte_of text.now (length (chars text.now) - length (chars rest.now)) }
+{
+    byte_of(text, count(text).saturating_sub(count(rest)))
+}
+
+// Why a text hasn't the form of a selector.
+fn parse_fault(text: &str, stop: &ParseError<'_>) -> ReadError<SelectorFault>
+    ensures reports_stop { Tells text.now stop.now result }
+{
+    match stop {
+        ParseError::Syntax(rest) => ReadError::Fault(SelectorFault::BadSelector(place(text, rest))),
+        ParseError::Faulty(_, rest) => ReadError::Fault(SelectorFault::BadSelector(place(
+            text, rest,
+        ))),
+        ParseError::Memory => ReadError::NoMemory,
+    }
+}
+
+// Why the names of a selector can't be resolved.
+fn resolution_fault(text: &str, why: &Unresolved) -> ReadError<SelectorFault>
+    ensures reports_unbound { TellsUnresolved text.now why.now result }
+{
+    match why {
+        Unresolved::Prefix(n) => ReadError::Fault(SelectorFault::UnboundPrefix(byte_of(text, *n))),
+        Unresolved::Memory => ReadError::NoMemory,
+    }
+}
+
+// The selector that a raw selector means.
+fn resolve_selector(
+    alloc: Global,
+    raw: &RawSelector<'_>,
+    bindings: &Bindings,
+    default_uri: &str,
+) -> Result<Selector, Unresolved>
+    requires { HasRoom 0 (map step_in raw.now.steps.items) }
+    ensures means_selector { Means (first_unbound bindings.now (selector_in raw.now))
+        (selector_of bindings.now (chars default_uri.now) (selector_in raw.now)) result }
+{
+    let declared = bindings.declared();
+    let (steps, at) = steps(alloc, &declared, default_uri, &raw.steps, 0)?;
+    let end = end(alloc, &declared, &raw.end, at)?;
+    Ok(Selector { steps, end })
+}
+
+// The selector of a patch that a raw selector means.
+fn patch_resolved(
+    alloc: Global,
+    raw: &RawPatchSelector<'_>,
+    bindings: &Bindings,
+    default_uri: &str,
+) -> Result<PatchSelector, Unresolved>
+    requires { HasRoom raw.now.slash (map step_in raw.now.steps.items) }
+    ensures means_patch_selector { Means
+        (first_unbound_in_patch bindings.now (patch_selector_in raw.now))
+        (patch_selector_of bindings.now (chars default_uri.now) (patch_selector_in raw.now))
+        result }
+{
+    let declared = bindings.declared();
+    let (steps, at) = steps(alloc, &declared, default_uri, &raw.steps, raw.slash)?;
+    let end = patch_end(alloc, &declared, &raw.end, at)?;
+    Ok(PatchSelector { steps, end })
+}
+
+// The selector that a text spells.
+fn selector_of_text(
+    alloc: Global,
+    text: &str,
+    bindings: &Bindings,
+    default_uri: &str,
+) -> Result<Selector, ReadError<SelectorFault>>
+    ensures grammar_answer { Answered
+        (λ answer. answer ≡ selector_read bindings.now (chars default_uri.now) text.now) result }
+{
+    match raw_selector(alloc, text) {
+        Err(stop) => Err(parse_fault(text, &stop)),
+        Ok(raw) => match resolve_selector(alloc, &raw, bindings, default_uri) {
+            Err(why) => Err(resolution_fault(text, &why)),
+            Ok(selector) => Ok(selector),
+        },
+    }
+}
+
+// The selector of a patch that a text spells.
+fn patch_selector_of_text(
+    alloc: Global,
+    text: &str,
+    bindings: &Bindings,
+    default_uri: &str,
+) -> Result<PatchSelector, ReadError<SelectorFault>>
+    ensures grammar_answer { Answered
+        (λ answer. answer ≡ patch_selector_read bindings.now (chars default_uri.now) text.now)
+        result }
+{
+    match raw_patch_selector(alloc, text) {
+        Err(stop) => Err(parse_fault(text, &stop)),
+        Ok(raw) => match patch_resolved(alloc, &raw, bindings, default_uri) {
+            Err(why) => Err(resolution_fault(text, &why)),
+            Ok(selector) => Ok(selector),
+        },
+    }
+}
+
+// The form of the end of a selector.
+fn form_of(end: &RawPatchEnd<'_>) -> PatchForm
+    ensures exact { result ≡ raw_form_of (patch_end_in end.now) }
+{
+    match end {
+        RawPatchEnd::Element => PatchForm::Element,
+        RawPatchEnd::Attribute(_) => PatchForm::Attribute,
+        RawPatchEnd::Chars(_) => PatchForm::Chars,
+    }
+}
+
+// The form of the end of a text, as the selector of a patch.
+fn form_of_text(alloc: Global, text: &str) -> Result<Option<PatchForm>, AllocError>
+    ensures ok { IfOk result (λ form. form ≡ patch_form_read text.now) }
+{
+    match raw_patch_selector(alloc, text) {
+        Ok(raw) => Ok(Some(form_of(&raw.end))),
+        Err(ParseError::Syntax(_)) => Ok(None),
+        Err(ParseError::Faulty(_, _)) => Ok(None),
+        Err(ParseError::Memory) => Err(AllocError),
+    }
+}
+
+/// The selector that a text spells (RFC 4825, section 6.3). An element's name without prefix is
+/// in the namespace `default_uri`, an attribute's name without prefix is in none.
+///
+/// # Errors
+/// `BadSelector` exactly when the text isn't a selector, `UnboundPrefix` exactly when it is one
+/// and has an unbound prefix, `NoMemory` when out of memory.
+pub fn read_selector(
+    alloc: Global,
+    text: &str,
+    bindings: &Bindings,
+    default_uri: &str,
+) -> Result<Selector, ReadError<SelectorFault>>
+    ensures grammar_answer { Answered
+        (IsSelectorAnswer bindings.now (chars default_uri.now) text.now) result }
+{
+    selector_of_text(alloc, text, bindings, default_uri)
+}
+
+/// The selector of a patch operation that a text spells (RFC 5261, section 4.1): an optional `/`,
+/// steps, and optionally an attribute or a text. Names are resolved as in `read_selector`.
+///
+/// # Errors
+/// As for `read_selector`.
+pub fn read_patch_selector(
+    alloc: Global,
+    text: &str,
+    bindings: &Bindings,
+    default_uri: &str,
+) -> Result<PatchSelector, ReadError<SelectorFault>>
+    ensures grammar_answer { Answered
+        (IsPatchSelectorAnswer bindings.now (chars default_uri.now) text.now) result }
+{
+    patch_selector_of_text(alloc, text, bindings, default_uri)
+}
+
+/// The form of the last part of a patch operation's selector that a text spells, by the text
+/// alone: an element, an attribute or a text (RFC 5261, section 4.1), whether its prefixes are
+/// bound or not. None if it spells no selector.
+///
+/// # Errors
+/// `NoMemory` when out of memory.
+pub fn read_patch_form(alloc: Global, text: &str) -> Result<Option<PatchForm>, AllocError>
+    ensures grammar_answer { IfOk result (IsPatchFormAnswer text.now) }
+{
+    form_of_text(alloc, text)
+}

@@ -1,0 +1,109 @@
+//! Laws of selection among the children of an element, for children of any type: which child a
+//! step selects, and which gaps are lawful for a new child (RFC 4825, sections 6.3, 8.2 and 8.4).
+//! Each is the contract of a function that does nothing.
+ghost use Rattle.std.specs.Prelude.{◌≡◌, ◌↔◌, ℕ, ◌≤◌, Bool, IsTrue, List, length, take, insert, remove, slice_set, slice_get, count_by, Option, None, Some, Result};
+ghost use Rattle.node_select.specs.StepSelection.{AreAlike, IsAtPosition, Matches, Selects, selected};
+ghost use Rattle.node_select.specs.InsertionPoints.{IsFree, IsLawfulInsertion, PlanIs, plan_of};
+ghost use Rattle.node_select.specs.Edits.{IsNextMatch, IsPassedOver, shifted};
+
+/// A step selects at most one child, and the computed selection is the relation.
+pub fn selection<A>()
+    ensures answer_is_one { (named tested : A → Bool) (position : Option ℕ)
+        (child_elements : List A) (i k : ℕ)
+        → Selects named tested position child_elements i
+        → Selects named tested position child_elements k → i ≡ k }
+    ensures computed_path { (named tested : A → Bool) (position : Option ℕ)
+        (child_elements : List A) (i : ℕ)
+        → (selected named tested position child_elements ≡ Some i)
+        ↔ Selects named tested position child_elements i }
+    ensures position_from_one { (named tested : A → Bool) (child_elements : List A) (i : ℕ)
+        → Selects named tested (Some 0) child_elements i → ⊥ }
+{}
+
+/// Children that the tests can't distinguish, one by one, match and are selected alike. So an
+/// edit inside a child that leaves its name and attributes changes no selection among its
+/// siblings.
+pub fn alike<A, B>()
+    ensures match_alike { (named tested : A → Bool) (named' tested' : B → Bool)
+        (position : Option ℕ) (child_elements : List A) (child_elements' : List B) (i : ℕ)
+        → AreAlike named tested named' tested' child_elements child_elements'
+        → Matches named tested position child_elements i
+        ↔ Matches named' tested' position child_elements' i }
+    ensures selected_alike { (named tested : A → Bool) (named' tested' : B → Bool)
+        (position : Option ℕ) (child_elements : List A) (child_elements' : List B) (i : ℕ)
+        → AreAlike named tested named' tested' child_elements child_elements'
+        → Selects named tested position child_elements i
+        ↔ Selects named' tested' position child_elements' i }
+{}
+
+/// Which gaps are lawful for a new child, by the child, the matching names before the gap, and
+/// the existing children. With a position the lawful gaps are an interval; without one they are
+/// all gaps or none.
+pub fn gaps<A>()
+    ensures lawful_iff { (named tested : A → Bool) (position : Option ℕ) (child_elements : List A)
+        (new : A) (gap : ℕ)
+        → gap ≤ length child_elements
+        → IsLawfulInsertion named tested position child_elements new gap
+        ↔ (IsTrue (named new) × IsTrue (tested new)
+        × IsAtPosition position (count_by named (take gap child_elements))
+        × IsFree named tested position child_elements) }
+    ensures gaps_are_interval { (named tested : A → Bool) (position : Option ℕ)
+        (child_elements : List A) (new : A) (i j k : ℕ)
+        → k ≤ length child_elements → i ≤ j → j ≤ k
+        → IsLawfulInsertion named tested position child_elements new i
+        → IsLawfulInsertion named tested position child_elements new k
+        → IsLawfulInsertion named tested position child_elements new j }
+    ensures gaps_are_alike { (named tested : A → Bool) (child_elements : List A) (new : A) (i j : ℕ)
+        → i ≤ length child_elements → j ≤ length child_elements
+        → IsLawfulInsertion named tested None child_elements new i
+        → IsLawfulInsertion named tested None child_elements new j }
+    ensures put_again { (named tested : A → Bool) (position : Option ℕ) (child_elements : List A)
+        (new : A) (gap : ℕ)
+        → gap ≤ length child_elements
+        → IsLawfulInsertion named tested position child_elements new gap
+        → Selects named tested position (insert child_elements gap new) gap
+        × (slice_set (insert child_elements gap new) gap new ≡ insert child_elements gap new) }
+{}
+
+/// There is one plan over a number of gaps, and where both properties are tests it is the
+/// computed one.
+pub fn plans<E>()
+    ensures answer_is_one { (unlawful invalid : E) (lawful valid : ℕ → Bool) (gaps : ℕ)
+        (plan plan' : Result ℕ E)
+        → PlanIs unlawful invalid (λ j. IsTrue (lawful j)) (λ j. IsTrue (valid j)) gaps plan
+        → PlanIs unlawful invalid (λ j. IsTrue (lawful j)) (λ j. IsTrue (valid j)) gaps plan'
+        → plan ≡ plan' }
+    ensures computed_path { (unlawful invalid : E) (lawful valid : ℕ → Bool) (gaps : ℕ)
+        → PlanIs unlawful invalid (λ j. IsTrue (lawful j)) (λ j. IsTrue (valid j)) gaps
+        (plan_of unlawful invalid lawful valid gaps) }
+{}
+
+/// What a step selects after an edit among the children: a child that it passes over only shifts
+/// the numbers; a replacement of the selected child is selected where it passes both tests; and
+/// once the selected child is removed, without a position nothing matches, and with one the next
+/// child of that name is at the position.
+pub fn edits<A>()
+    ensures put_in { (named tested : A → Bool) (position : Option ℕ) (child_elements : List A)
+        (gap : ℕ) (new : A) (i : ℕ)
+        → gap ≤ length child_elements → IsPassedOver named tested position new
+        → Selects named tested position (insert child_elements gap new) (shifted gap i)
+        ↔ Selects named tested position child_elements i }
+    ensures taken_out { (named tested : A → Bool) (position : Option ℕ) (child_elements : List A)
+        (j : ℕ) (child_element : A) (i : ℕ)
+        → slice_get child_elements j ≡ Some child_element
+        → IsPassedOver named tested position child_element
+        → Selects named tested position child_elements (shifted j i)
+        ↔ Selects named tested position (remove child_elements j) i }
+    ensures replaced_stays_selected { (named tested : A → Bool) (position : Option ℕ)
+        (child_elements : List A) (j : ℕ) (new : A)
+        → Selects named tested position child_elements j
+        → Selects named tested position (slice_set child_elements j new) j
+        ↔ (IsTrue (named new) × IsTrue (tested new)) }
+    ensures selected_out { (named tested : A → Bool) (child_elements : List A) (j i : ℕ)
+        → Selects named tested None child_elements j
+        → Matches named tested None (remove child_elements j) i → ⊥ }
+    ensures next_moves_up { (named tested : A → Bool) (n : ℕ) (child_elements : List A) (j i : ℕ)
+        → Selects named tested (Some n) child_elements j
+        → Matches named tested (Some n) (remove child_elements j) i
+        ↔ IsNextMatch named tested (remove child_elements j) j i }
+{}

@@ -1,4 +1,0 @@
-mod Attributes
-mod FoundNodes
-mod Fronts
-mod Parents

@@ -1,3 +1,0 @@
-pub mod Around
-pub mod Operations
-pub mod Values

@@ -1,0 +1,23 @@
+use Rattle.std.proofs.Common.{ℕ, List, [], ◌∷◌, ◌++◌, ap, ◌∙◌}
+use Rattle.std.proofs.lemmas.Result.{err_from_is_err_and}
+use Rattle.xml_tree.specs.declared.names.Decl.{Decl}
+use Rattle.patch_rules.specs.readers.Replay.{by_tags}
+use Rattle.patch_apply.specs.inner.Stages.{ours_in}
+use Rattle.patch_apply.specs.Views.{stored_in}
+use Rattle.patch_apply.specs.inner.PrivateTypes.{turn_in}
+use Rattle.patch_apply.specs.declared.document_outcomes.DocumentOutcome.{DocumentOutcome}
+use Rattle.patch_apply.proofs.Turning.{error_alike}
+use Rattle.patch_apply.proofs.apply_diffs.turn_of.Goals as goal
+
+pub returns-in_err-turn-clause-as_specified : goal.returns-in_err-turn-clause-as_specified
+returns-in_err-turn-clause-as_specified c =
+    let p = err_from_is_err_and c.from_residual-in_err-turn.result c.from_residual-in_err-turn.ensures.1 in
+    let d = c.args.document.now in
+    let here = c.with-here.ensures.exact ∙ ap (λ (ds : List Decl). c.args.scope.now ++ ds ∷ []) c.decls.ensures.exact in
+    let told = c.in_ok-told.ensures in
+    λ n e.
+    rw (p.1, p.2) (
+    error_alike turn_in (λ (x : DocumentOutcome × ℕ). turn_in x.0) _ _ c.in_err-turn.field-0.0
+    (λ i. by_tags n (here i) ((told.same_operations ∙ (λ j. ours_in (here j) d)) i) (told.tag_before_diff i) (told.tag_after_diff i) (stored_in c.args.held))
+    (c.in_err-turn.ensures.as_specified n e)
+    )

@@ -1,0 +1,35 @@
+-- Locations as the code has them.
+use Rattle.std.specs.Prelude.{◌≡◌, ◌<◌, ℕ, List, length, position, Option, None, Some, IsSome, IsSomeAnd}
+use Rattle.xml_tree.specs.Nodes.{nodes_of}
+use Rattle.xml_tree.specs.Tree.{Tree, at}
+use Rattle.patch_rules.specs.PatchOperations as words
+use Rattle.patch_apply.specs.declared.locations.Location.{Location}
+use Rattle.patch_apply.specs.declared.locations.Location.TheVariants.{AtElement, AtAttr, AtText}
+
+abbrev pub path_in : Location → List ℕ
+path_in (AtElement p) = p
+path_in (AtAttr p i) = p
+path_in (AtText p i) = p
+
+-- the location is in the tree: the element, the attribute of the number, or the node of the number
+abbrev pub IsThere : Tree → Location → Type 0
+IsThere t (AtElement p) = IsSome (at p t)
+IsThere t (AtAttr p i) = IsSomeAnd (at p t) (λ e. i < length e.attrs)
+IsThere t (AtText p i) = IsSomeAnd (at p t) (λ e. i < length (nodes_of e.content))
+
+-- the same location: the attribute of the number is the first that passes the test
+abbrev pub IsSpot : Tree → Location → words.Location → Type 0
+IsSpot t (AtElement p) (words.AtElement q) = p ≡ q
+IsSpot t (AtElement p) (words.AtAttr q f) = ⊥
+IsSpot t (AtElement p) (words.AtText q j) = ⊥
+IsSpot t (AtAttr p i) (words.AtElement q) = ⊥
+IsSpot t (AtAttr p i) (words.AtAttr q f) = (p ≡ q) × IsSomeAnd (at p t) (λ e. position f e.attrs ≡ Some i)
+IsSpot t (AtAttr p i) (words.AtText q j) = ⊥
+IsSpot t (AtText p i) (words.AtElement q) = ⊥
+IsSpot t (AtText p i) (words.AtAttr q f) = ⊥
+IsSpot t (AtText p i) (words.AtText q j) = (p ≡ q) × (i ≡ j)
+
+-- the stated location, or none
+abbrev pub Spots : Tree → Option words.Location → Option Location → Type 0
+Spots t stated None = stated ≡ None
+Spots t stated (Some s) = IsThere t s × ((w : words.Location) × (stated ≡ Some w) × IsSpot t s w)

@@ -1,0 +1,243 @@
+//! Applying a whole diff document.
+ghost use Rattle.std.specs.Prelude.{◌≡◌, ◌<◌, ℕ, [], codes, IfOk, length, map, min, unwrap_or, is_some, if◌then◌else◌};
+ghost use Rattle.std.specs.Option.{option_copied};
+ghost use Rattle.xml_tree.specs.Memory.{Answered};
+ghost use Rattle.xml_tree.specs.declared.scope.TheConstants.{SCOPE_LIMIT};
+ghost use Rattle.xml_tree.specs.Limits.{u64_max};
+ghost use Rattle.patch_rules.specs.PatchOperations.{plain_value};
+ghost use Rattle.patch_rules.specs.Replay.{Patched, Removed, is_all_mine, last_new, operation_count};
+ghost use Rattle.patch_rules.specs.readers.Replay.{all_taken, replayed, document_taken};
+ghost use Rattle.patch_rules.specs.Replay as words;
+ghost use Rattle.patch_rules.specs.Replayed.{HoldsSound};
+ghost use Rattle.patch_apply.specs.ApplyAnswers.{Applies};
+ghost use Rattle.patch_apply.specs.inner.Results.{AppliesAs, AreGiven};
+ghost use Rattle.patch_apply.specs.declared.document_outcomes.DocumentOutcome.{DocumentOutcome as TheTurn};
+ghost use Rattle.xcap_uri.specs.Naming.{is_name_of};
+ghost use Rattle.patch_apply.specs.inner.Stages.{ours_in};
+ghost use Rattle.patch_apply.specs.Views.{IsWithinLevels, answer_in, stored_in};
+ghost use Rattle.patch_apply.specs.inner.PrivateTypes.{IsLowOutcome, IsLowTurn, outcome_in, turn_in};
+
+use crate::diff_reader::Notice;
+use crate::document_ids::is_name_of;
+use crate::document_outcomes::{DocumentDiff, DocumentOutcome, document_outcome, operation_count};
+use crate::documents::{documents, new_tag, operations_in, previous_tag};
+use crate::fault::ApplyFault;
+use crate::names::plain_value;
+use crate::replica::{Applied, Replica, ReplicaVersion, copy_replica_version};
+use doc_names::DocId;
+use std::alloc::{AllocError, Global};
+use tree_text::no_text;
+use xml_tree::{Element, ReadError, Scope, Text};
+
+// Whether a `document` of a diff document has this name.
+#[tactic(auto, using(crate::proofs::Words::words))]
+fn is_mine(alloc: Global, doc: &DocId, document: &Element) -> Result<bool, AllocError>
+    ensures ok { IfOk result
+        (λ is. is ≡ is_name_of doc.now
+        (unwrap_or (plain_value (codes "sel") document.now.attrs) [])) }
+{
+    match plain_value(document.attrs(), "sel") {
+        Some(sel) => is_name_of(alloc, doc, sel),
+        None => is_name_of(alloc, doc, &no_text(alloc)),
+    }
+}
+
+// Whether each `document` has this name.
+fn are_mine(alloc: Global, doc: &DocId, documents: &[&Element]) -> Result<bool, AllocError>
+    ensures ok { IfOk result
+        (λ are. are ≡ is_all_mine (is_name_of doc.now) (map (λ x. x.now) documents.now)) }
+{
+    for document in documents {
+        if !is_mine(alloc, doc, document)? {
+            return Ok(false);
+        }
+    }
+    Ok(true)
+}
+
+// The new etag of a `document`, or the one given where it has none.
+fn newer<'a>(last: Option<&'a Text>, document: &'a Element) -> Option<&'a Text>
+    ensures newer_tag { unwrap_or (option_copied result) []
+        ≡ unwrap_or (plain_value (codes "new-etag") document.now.attrs)
+        (unwrap_or (option_copied last.entry) []) }
+{
+    match new_tag(document) {
+        None => last,
+        Some(tag) => Some(tag),
+    }
+}
+
+// The last new etag among `document`s.
+fn last_new(alloc: Global, documents: &[&Element]) -> Result<Text, AllocError>
+    ensures ok { IfOk result (λ tag. tag ≡ last_new [] (map (λ x. x.now) documents.now)) }
+{
+    let mut last = None;
+    for document in documents {
+        last = newer(last, document);
+    }
+    match last {
+        None => Ok(no_text(alloc)),
+        Some(tag) => tag.copy(alloc),
+    }
+}
+
+// The tags and operations of a `document`, with the scope at it.
+fn document_diff_of<'a>(
+    alloc: Global,
+    scope: &Scope<'_>,
+    document: &'a Element,
+) -> Result<DocumentDiff<'a>, AllocError>
+    requires { length scope.now < SCOPE_LIMIT }
+    ensures tag_before_diff { IfOk result
+        (λ told. option_copied told.previous
+        ≡ plain_value (codes "previous-etag") document.now.attrs) }
+    ensures tag_after_diff { IfOk result
+        (λ told. option_copied told.new ≡ plain_value (codes "new-etag") document.now.attrs) }
+    ensures same_operations { IfOk result
+        (λ told. map (λ x. x.now) told.operations.items ≡ ours_in scope.now document.now) }
+{
+    let operations = operations_in(alloc, scope, document)?;
+    Ok(DocumentDiff {
+        previous: previous_tag(document),
+        new: new_tag(document),
+        operations,
+    })
+}
+
+// The outcome of a `document` for a replica, and the number of its operations.
+fn turn_of(
+    alloc: Global,
+    before: usize,
+    scope: &Scope<'_>,
+    document: &Element,
+    held: Option<ReplicaVersion>,
+) -> Result<(DocumentOutcome, usize), ReadError<ApplyFault>>
+    requires room_left { length scope.now < 66 }
+    requires height_bounded { IsWithinLevels (stored_in held) }
+    ensures as_specified { (n : ℕ) → before ≡ min n u64_max
+        → Answered (AreGiven {X = TheTurn × ℕ} (λ x. turn_in x.0)
+        (document_taken n scope.now document.now (stored_in held))) result }
+    ensures counts_operations { IfOk result (λ x. x.1 ≡ operation_count scope.now document.now) }
+    ensures within_levels { IfOk result (λ x. IsLowTurn x.0) }
+{
+    let here = scope.with(document.decls());
+    let told = document_diff_of(alloc, &here, document)?;
+    let count = operation_count(&here, &told.operations);
+    let turn = document_outcome(alloc, before, &here, &told, held)?;
+    Ok((turn, count))
+}
+
+// Applies `document`s one after another: none where one has no operations for its change.
+fn all_taken(
+    alloc: Global,
+    scope: &Scope<'_>,
+    documents: &[&Element],
+    held: Option<ReplicaVersion>,
+) -> Result<Option<Option<ReplicaVersion>>, ReadError<ApplyFault>>
+    requires room_left { length scope.now < 66 }
+    requires height_bounded { IsWithinLevels (stored_in held) }
+    ensures as_specified { Answered
+        (AreGiven outcome_in
+        (all_taken 0 scope.now (map (λ x. x.now) documents.now) (stored_in held))) result }
+    ensures within_levels { IfOk result IsLowOutcome }
+{
+    let mut held = held;
+    let mut before = 0usize;
+    for document in documents {
+        let (made, count) = turn_of(alloc, before, scope, document, held)?;
+        match made {
+            DocumentOutcome::Missing => return Ok(None),
+            DocumentOutcome::Now(now) => held = now,
+        }
+        before = before.saturating_add(count);
+    }
+    Ok(Some(held))
+}
+
+// The answer where this is the replica afterwards.
+fn outcome_with(held: &Option<ReplicaVersion>) -> Applied
+    ensures patched_or_removed { answer_in result
+        ≡ (if is_some (stored_in held.now) then Patched else Removed) }
+{
+    match held {
+        None => Applied::Removed,
+        Some(_) => Applied::Patched,
+    }
+}
+
+// Applies the `document`s of a diff document. The replica's tree is copied once, the copy is
+// edited in place, operation by operation, and takes the tree's place when all operations
+// succeeded.
+fn replay_documents(
+    alloc: Global,
+    replica: &mut Replica,
+    notice: &Element,
+    documents: &[&Element],
+) -> Result<Applied, ReadError<ApplyFault>>
+    requires diff_documents { map (λ x. x.now) documents.now ≡ words.documents notice.now }
+    requires height_bounded { IsWithinLevels (stored_in replica.old.held) }
+    ensures same_document { replica.new.doc ≡ replica.old.doc }
+    ensures as_specified { AppliesAs
+        (replayed (is_name_of replica.old.doc) notice.now (stored_in replica.old.held))
+        (stored_in replica.old.held) result (stored_in replica.new.held) }
+    ensures within_levels { IsWithinLevels (stored_in replica.new.held) }
+{
+    let mine = are_mine(alloc, &replica.doc, documents)?;
+    if !mine {
+        return Err(ReadError::Fault(ApplyFault::WrongDocument));
+    }
+    if documents.is_empty() {
+        return Ok(Applied::Same);
+    }
+    let held = copy_replica_version(alloc, &replica.held)?;
+    let scope = Scope::empty().with(notice.decls());
+    let outcome = all_taken(alloc, &scope, documents, held)?;
+    let Some(held) = outcome else {
+        let tag = last_new(alloc, documents)?;
+        return Ok(Applied::Fetch(tag));
+    };
+    let answer = outcome_with(&held);
+    replica.held = held;
+    Ok(answer)
+}
+
+// Applies the diff document that a tree is.
+fn replay(
+    alloc: Global,
+    replica: &mut Replica,
+    notice: &Element,
+) -> Result<Applied, ReadError<ApplyFault>>
+    requires height_bounded { IsWithinLevels (stored_in replica.old.held) }
+    ensures same_document { replica.new.doc ≡ replica.old.doc }
+    ensures as_specified { AppliesAs
+        (replayed (is_name_of replica.old.doc) notice.now (stored_in replica.old.held))
+        (stored_in replica.old.held) result (stored_in replica.new.held) }
+    ensures within_levels { IsWithinLevels (stored_in replica.new.held) }
+{
+    let documents = documents(alloc, notice)?;
+    replay_documents(alloc, replica, notice, &documents)
+}
+
+/// Applies a diff document to a replica. A proper tree in the replica stays proper, whoever wrote
+/// the diff document.
+///
+/// # Errors
+/// The first fault in the order of the diff document: `WrongDocument` where one of its `document`s
+/// isn't the replica's, `WrongTag` where one starts from another tag than the replica has then,
+/// and what is wrong with an operation, with its number. `NoMemory` when out of memory. The
+/// replica is then as it was.
+pub fn apply_notice(
+    alloc: Global,
+    replica: &mut Replica,
+    notice: &Notice,
+) -> Result<Applied, ReadError<ApplyFault>>
+    requires height_bounded { IsWithinLevels (stored_in replica.old.held) }
+    ensures same_document { replica.new.doc ≡ replica.old.doc }
+    ensures as_specified { Applies (is_name_of replica.old.doc) notice.now
+        (stored_in replica.old.held) result (stored_in replica.new.held) }
+    ensures within_levels { IsWithinLevels (stored_in replica.new.held) }
+    ensures stays_sound { HoldsSound (stored_in replica.old.held)
+        → HoldsSound (stored_in replica.new.held) }
+{
+    replay(alloc, replica, notice.root())
+}

@@ -1,0 +1,208 @@
+//! The outcome of one `document` of a diff document.
+ghost use Rattle.std.specs.Prelude.{◌≡◌, ◌≤◌, ◌<◌, ℕ, suc, min, map, length, Some, Result, Err, IfOk, false, bytes_eq};
+ghost use Rattle.std.specs.Option.{option_copied, option_map_or};
+ghost use Rattle.xml_tree.specs.Memory.{Answered};
+ghost use Rattle.xml_tree.specs.declared.scope.TheConstants.{SCOPE_LIMIT};
+ghost use Rattle.xml_tree.specs.Limits.{u64_max, max_levels};
+ghost use Rattle.xml_tree.specs.Tree.{Tree, height};
+ghost use Rattle.patch_rules.specs.PatchOperations as words;
+ghost use Rattle.patch_rules.specs.Replay.{WrongTag, held_tag, numbered};
+ghost use Rattle.patch_rules.specs.readers.Replay.{all_applied, by_tags, change_outcome, renewed_copy};
+ghost use Rattle.patch_apply.specs.inner.Results.{AreGiven, IsGiven};
+ghost use Rattle.patch_apply.specs.Views.{IsWithinLevels, stored_in, version_in};
+ghost use Rattle.patch_apply.specs.inner.PrivateTypes.{IsLowTurn, counted_in, turn_in};
+
+use crate::documents::is_body_unchanged;
+use crate::fault::{ApplyFault, OperationError};
+use crate::operations::apply_operation;
+use crate::replica::ReplicaVersion;
+use std::alloc::Global;
+use xml_tree::{Element, ReadError, Scope, Text};
+
+/// What a `document` makes of a replica.
+#[derive(Drop)]
+pub enum DocumentOutcome {
+    /// The contents of the replica afterwards.
+    Now(Option<ReplicaVersion>),
+    /// The document changed, and the operations aren't there.
+    Missing,
+}
+
+/// A `document` of a diff document: its tags, and its operations in the scope at it.
+#[derive(Drop)]
+pub struct DocumentDiff<'a> {
+    pub previous: Option<&'a Text>,
+    pub new: Option<&'a Text>,
+    pub operations: Vec<&'a Element>,
+}
+
+// ---- operations
+
+// The fault of the operation of a number.
+fn error_at(error: ReadError<OperationError>, number: usize) -> ReadError<ApplyFault>
+    ensures numbered_fault { (n : ℕ) (stated : Result Tree words.OperationError)
+        → number ≡ min (suc n) u64_max → Answered (IsGiven {X = Tree} stated) (Err error)
+        → Answered (AreGiven {X = Tree} (λ t. t) (numbered n stated)) (Err result) }
+{
+    match error {
+        ReadError::Fault(wrong) => ReadError::Fault(wrong.at(number)),
+        ReadError::NoMemory => ReadError::NoMemory,
+    }
+}
+
+// Applies operations, one after another, to a tree; `before` operations of the diff document come
+// before them.
+fn all_applied(
+    alloc: Global,
+    before: usize,
+    scope: &Scope<'_>,
+    operations: &[&Element],
+    tree: Element,
+) -> Result<Element, ReadError<ApplyFault>>
+    requires room_left { length scope.now < SCOPE_LIMIT }
+    requires height_bounded { height tree ≤ max_levels }
+    ensures as_specified { (n : ℕ) → before ≡ min n u64_max
+        → Answered (AreGiven (λ t. t)
+        (all_applied n scope.now (map (λ x. x.now) operations.now) tree)) result }
+    ensures within_levels { IfOk result (λ made. height made ≤ max_levels) }
+{
+    let mut tree = tree;
+    let mut number = before;
+    for operation in operations {
+        number = number.saturating_add(1);
+        match apply_operation(alloc, scope, operation, tree) {
+            Ok(made) => tree = made,
+            Err(error) => return Err(error_at(error, number)),
+        }
+    }
+    Ok(tree)
+}
+
+// ---- tags
+
+// Whether a tag is the replica's.
+fn is_tag(wanted: &Text, held: &Option<ReplicaVersion>) -> bool
+    ensures exact { result
+        ≡ option_map_or (bytes_eq wanted.now) (held_tag (stored_in held.now)) false }
+{
+    match held {
+        None => false,
+        Some(held) => *wanted == held.tag,
+    }
+}
+
+// The fault that the replica has another tag, or none.
+fn wrong_tag(alloc: Global, held: &Option<ReplicaVersion>, wanted: &Text) -> ReadError<ApplyFault>
+    ensures both_tags { Answered
+        (AreGiven {X = ℕ} {Y = ℕ} (λ x. x)
+        (Err (WrongTag (held_tag (stored_in held.now)) wanted.now))) (Err result) }
+{
+    let wanted = match wanted.copy(alloc) {
+        Ok(wanted) => wanted,
+        Err(_) => return ReadError::NoMemory,
+    };
+    match held {
+        None => ReadError::Fault(ApplyFault::WrongTag { held: None, wanted }),
+        Some(held) => match held.tag.copy(alloc) {
+            Ok(tag) => ReadError::Fault(ApplyFault::WrongTag {
+                held: Some(tag),
+                wanted,
+            }),
+            Err(_) => ReadError::NoMemory,
+        },
+    }
+}
+
+// ---- the document
+
+// The outcome for a version, with a new tag.
+fn change_outcome(
+    alloc: Global,
+    before: usize,
+    scope: &Scope<'_>,
+    operations: &[&Element],
+    tag: &Text,
+    held: ReplicaVersion,
+) -> Result<DocumentOutcome, ReadError<ApplyFault>>
+    requires room_left { length scope.now < SCOPE_LIMIT }
+    requires height_bounded { height held.root ≤ max_levels }
+    ensures as_specified { (n : ℕ) → before ≡ min n u64_max
+        → Answered (AreGiven turn_in
+        (change_outcome n scope.now (map (λ x. x.now) operations.now) tag.now (Some (version_in held))))
+        result }
+    ensures within_levels { IfOk result IsLowTurn }
+{
+    if operations.is_empty() {
+        return Ok(DocumentOutcome::Missing);
+    }
+    let ReplicaVersion { tag: _, root } = held;
+    let tag = tag.copy(alloc)?;
+    if is_body_unchanged(scope, operations) {
+        return Ok(DocumentOutcome::Now(Some(ReplicaVersion { tag, root })));
+    }
+    let root = all_applied(alloc, before, scope, operations, root)?;
+    Ok(DocumentOutcome::Now(Some(ReplicaVersion { tag, root })))
+}
+
+// The outcome of a `document` whose previous tag is the replica's.
+fn update_outcome(
+    alloc: Global,
+    before: usize,
+    scope: &Scope<'_>,
+    operations: &[&Element],
+    tag: Option<&Text>,
+    held: Option<ReplicaVersion>,
+) -> Result<DocumentOutcome, ReadError<ApplyFault>>
+    requires room_left { length scope.now < SCOPE_LIMIT }
+    requires height_bounded { IsWithinLevels (stored_in held) }
+    ensures as_specified { (n : ℕ) → before ≡ min n u64_max
+        → Answered (AreGiven turn_in
+        (renewed_copy n scope.now (map (λ x. x.now) operations.now) (option_copied tag.entry)
+        (stored_in held))) result }
+    ensures within_levels { IfOk result IsLowTurn }
+{
+    let Some(tag) = tag else {
+        return Ok(DocumentOutcome::Now(None));
+    };
+    match held {
+        None => Ok(DocumentOutcome::Missing),
+        Some(held) => change_outcome(alloc, before, scope, operations, tag, held),
+    }
+}
+
+/// The outcome of a `document` for a replica, where `before` operations of the diff document come
+/// before its own.
+pub(crate) fn document_outcome(
+    alloc: Global,
+    before: usize,
+    scope: &Scope<'_>,
+    told: &DocumentDiff<'_>,
+    held: Option<ReplicaVersion>,
+) -> Result<DocumentOutcome, ReadError<ApplyFault>>
+    requires room_left { length scope.now < SCOPE_LIMIT }
+    requires height_bounded { IsWithinLevels (stored_in held) }
+    ensures as_specified { (n : ℕ) → before ≡ min n u64_max
+        → Answered (AreGiven turn_in
+        (by_tags n scope.now (map (λ x. x.now) told.now.operations.items)
+        (option_copied told.now.previous) (option_copied told.now.new) (stored_in held))) result }
+    ensures within_levels { IfOk result IsLowTurn }
+{
+    let Some(previous) = told.previous else {
+        return Ok(DocumentOutcome::Missing);
+    };
+    if !is_tag(previous, &held) {
+        return Err(wrong_tag(alloc, &held, previous));
+    }
+    update_outcome(alloc, before, scope, &told.operations, told.new, held)
+}
+
+/// The number of operations, where `body-not-changed` is none.
+pub(crate) fn operation_count(scope: &Scope<'_>, operations: &[&Element]) -> usize
+    requires { length scope.now < SCOPE_LIMIT }
+    ensures exact { result ≡ counted_in scope.now (map (λ x. x.now) operations.now) }
+{
+    if is_body_unchanged(scope, operations) {
+        return 0;
+    }
+    operations.len()
+}

@@ -1,5 +1,0 @@
-use Rattle.patch_laws.proofs.ScopedNames.{ProperIn-Meets}
-use Rattle.patch_laws.proofs.laws.proper_where_names_are_bound_alike.Goals as goal
-
-pub returns : goal.returns
-returns c = record { proper_in_the_other_scope = ProperIn-Meets }

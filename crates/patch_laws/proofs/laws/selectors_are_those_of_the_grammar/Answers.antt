@@ -1,6 +1,0 @@
-use Rattle.patch_laws.proofs.Outcomes.{alike}
-use Rattle.patch_laws.proofs.SelectorAnswers.{are_readings, taken_as_answered}
-use Rattle.patch_laws.proofs.laws.selectors_are_those_of_the_grammar.Goals as goal
-
-pub returns : goal.returns
-returns c = record { what_is_read_is_said = are_readings; nothing_else_is_said = alike; taken_as_the_answer = λ c sel chars. taken_as_answered sel chars c }

@@ -1,0 +1,9 @@
+pub mod Notices
+pub mod PatchOperations
+pub mod Premises
+pub mod Replay
+pub mod Replayed
+pub mod SelectedNodes
+pub mod Selectors
+pub mod inner
+pub mod readers

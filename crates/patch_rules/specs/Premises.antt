@@ -1,0 +1,55 @@
+-- The trees, change records and scopes that the laws of diff documents are about.
+use Rattle.std.specs.Prelude.{◌≡◌, ◌≢◌, ℕ, IsSome, ◌<◌, ◌≤◌, List, [], ◌∷◌, length}
+use Rattle.std.specs.List.{AllByRecursion}
+use Rattle.xml_tree.specs.Limits.{max_levels}
+use Rattle.xml_tree.specs.Print.{byte_len, print}
+use Rattle.xml_tree.specs.Proper.{ProperIn}
+use Rattle.xml_tree.specs.Scopes.{bound}
+use Rattle.xml_tree.specs.Tree.{Tree, height}
+use Rattle.xml_tree.specs.declared.names.Decl.{Decl}
+use Rattle.node_select.specs.Grammar.{greatest_position}
+use Rattle.edit_ops.specs.Changes.{edited}
+use Rattle.edit_ops.specs.Notes.{Note}
+
+-- ---- paths
+
+-- the number of a child whose position, counted from 1, can be read: a position above the greatest
+-- is read as 0, which no child has
+abbrev pub IsPosition : ℕ → Type 0
+IsPosition n = n < greatest_position
+
+abbrev pub ArePositions : List ℕ → Type 0
+ArePositions p = AllByRecursion IsPosition p
+
+-- ---- scopes
+
+-- the scope around the operations of a diff document, where the root alone declares something: one
+-- prefix
+abbrev pub around_operations : List ℕ → List ℕ → List (List Decl)
+around_operations prefix uri = (record { prefix = prefix; uri = uri } ∷ []) ∷ [] ∷ []
+
+-- what the first scope binds, and its default, is bound alike in the second, which may bind more
+abbrev pub Meets : List (List Decl) → List (List Decl) → Type 0
+Meets c d = (p : List ℕ) → (p ≢ [] → IsSome (bound c p)) → bound c p ≡ bound d p
+
+-- ---- trees and change records
+
+-- a tree that a replica may have: proper, and not too deep
+abbrev pub IsSound : Tree → Type 0
+IsSound t = ProperIn [] t × (height t ≤ max_levels)
+
+-- a tree that diff documents lead from and to: besides, its print isn't too long, so that each
+-- position in it can be read
+pub record IsTold (t : Tree) : Type 0 where
+  pub proper : ProperIn [] t
+  pub low : height t ≤ max_levels
+  pub short : byte_len (print t) ≤ greatest_position
+
+-- the tree before the change records, and the tree after each
+abbrev pub AreTold : Tree → List Note → Type 0
+AreTold t [] = IsTold t
+AreTold t (n ∷ ns) = IsTold t × AreTold (edited t n.change) ns
+
+-- there are at most 2147483647 change records
+abbrev pub AreFew : List Note → Type 0
+AreFew ns = length ns ≤ 2147483647

@@ -1,7 +1,0 @@
-use Rattle.std.proofs.Common.{◌≡◌, take}
-use Rattle.patch_words.specs.Notices.{operations}
-use Rattle.patch_text.specs.inner.Lists.{with_all}
-use Rattle.patch_text.proofs.notices.push_operations.Given as goal
-
-abbrev pub invariant-loop-note : goal.invariant-loop-note
-invariant-loop-note l = l.document ≡ with_all (operations l.prefix (take l.note-index l.notes)) l.initial.document

@@ -1,7 +1,0 @@
-use Rattle.std.proofs.Common.{flat_map, take}
-use Rattle.patch_text.specs.inner.Declaring.{Gains}
-use Rattle.patch_text.proofs.Gaining.{prefix_alone}
-use Rattle.patch_text.proofs.prefixes.add_decls.Given as goal
-
-abbrev pub invariant-loop-decl : goal.invariant-loop-decl
-invariant-loop-decl l = Gains (flat_map prefix_alone (take l.decl-index l.decls)) l.initial.seen l.seen

@@ -1,2 +1,0 @@
-pub mod FreePrefix
-pub mod Cutting

@@ -1,3 +1,0 @@
--- What private functions and proofs speak of. No clause of a public call needs it.
-pub mod Declaring
-pub mod Cutting

@@ -1,0 +1,16 @@
+use Rattle.std.proofs.Common.{ℕ, List, [], ap, ◌∙◌}
+use Rattle.xml_tree.specs.Tree.{Tree}
+use Rattle.edit_ops.specs.Recorded.{all_notes}
+use Rattle.patch_rules.specs.Notices.{diff}
+use Rattle.patch_write.specs.inner.Lists.{with_all}
+use Rattle.patch_write.specs.inner.Modes.{documents_of}
+use Rattle.patch_write.proofs.notices.notice_tree.Goals as goal
+
+pub returns : goal.returns
+returns c = record {
+  ok =
+      let p = c.args.names.now.prefix in
+      c.in_ok-push_documents.ensures.ok
+      ∙ ap (λ (t : Tree). with_all (documents_of c.args.mode p c.args.names.now.sel c.args.from (all_notes c.args.notes.older.now c.args.notes.newer.now)) t)
+      (c.in_ok-notice.ensures.notice_without_documents ∙ ap (λ (r : List ℕ). diff p r []) c.text.ensures.exact);
+}

@@ -1,0 +1,7 @@
+use Rattle.std.proofs.Common.{flat_map, take}
+use Rattle.patch_write.specs.inner.Declaring.{Gains}
+use Rattle.patch_write.proofs.Gaining.{prefix_alone}
+use Rattle.patch_write.proofs.prefixes.add_decls.Given as goal
+
+abbrev pub invariant-loop-decl : goal.invariant-loop-decl
+invariant-loop-decl l = Gains (flat_map prefix_alone (take l.decl-index l.decls)) l.initial.seen l.seen

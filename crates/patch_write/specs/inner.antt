@@ -1,0 +1,4 @@
+-- What private functions and proofs use. No clause of a public call needs it.
+pub mod Declaring
+pub mod Lists
+pub mod Modes

@@ -1,0 +1,434 @@
+//! Diff documents about whole documents (RFC 5874, section 3).
+ghost use Rattle.std.specs.Prelude.{◌≡◌, [], ◌∷◌, ◌++◌, IfOk, OnOk, chars, codes, decimal, false, encode_utf8_all};
+ghost use Rattle.doc_names.specs.Ids.{id_text};
+ghost use Rattle.xml_tree.specs.Edits.{with_elem};
+ghost use Rattle.xml_tree.specs.Expanded.{name_of};
+ghost use Rattle.xml_tree.specs.Print.{document_print};
+ghost use Rattle.xml_tree.specs.Scopes.{decl_of};
+ghost use Rattle.xml_tree.specs.Tree.{last, tree_of};
+ghost use Rattle.edit_ops.specs.Notes.{tag_after};
+ghost use Rattle.edit_ops.specs.Operations.{operation, plain_attr, sel_attr};
+ghost use Rattle.edit_ops.specs.Recorded.{all_notes};
+ghost use Rattle.patch_rules.specs.Notices.{all_at_once, candidate, diff, diff_uri, document, gone_notice, one_by_one, operations, prefix_for, removed_document, tags_alone};
+ghost use Rattle.patch_write.specs.Modes.{notice_of};
+ghost use Rattle.patch_write.specs.inner.Modes.{documents_of, told_notes};
+ghost use Rattle.patch_write.specs.inner.Lists.{is_none, with_all};
+
+use crate::diff_elements::{element_of, push_plain, tag_text};
+use crate::operations::operation;
+use crate::prefixes::prefix_for;
+use doc_names::{DocId, print_doc_id};
+use edit_ops::{EditNote, Notes};
+use std::alloc::{AllocError, Global};
+use tree_text::print_document;
+use xcap_io::Bytes;
+use xcap_uri::{Mode, Root};
+use xml_tree::{Decl, Element, Prefix, Text};
+
+// The namespace of diff documents (RFC 5874, section 7.2).
+const DIFF_URI: &str = "urn:ietf:params:xml:ns:xcap-diff";
+
+// Names in a diff document: the prefix of its namespace, and the document's printed name.
+#[derive(Drop)]
+struct Names {
+    prefix: Prefix,
+    sel: Text,
+}
+
+// ---- `document` elements
+
+// The tag after the last change record, or `from` without any.
+fn last_tag(from: u64, notes: &[EditNote]) -> u64
+    ensures exact { result ≡ tag_after from notes.now }
+{
+    match notes.last() {
+        Some(note) => note.next(),
+        None => from,
+    }
+}
+
+// Adds the operations of change records to a document.
+fn push_operations(
+    alloc: Global,
+    document: &mut Element,
+    prefix: &Prefix,
+    notes: &[EditNote],
+) -> Result<(), AllocError>
+    ensures ok { OnOk result
+        (document.new ≡ with_all (operations prefix.now notes.now) document.old) }
+{
+    for note in notes {
+        document.push_elem(operation(alloc, prefix, note)?)?;
+    }
+    Ok(())
+}
+
+// The `document` element without tags.
+#[tactic(auto, using(crate::proofs::Words::words))]
+fn document_element(alloc: Global, names: &Names) -> Result<Element, AllocError>
+    ensures ok { IfOk result
+        (λ made. made ≡ tree_of (name_of names.now.prefix (codes "document")) []
+        (sel_attr names.now.sel ∷ []) (last [])) }
+{
+    let sel = names.sel.copy(alloc)?;
+    let mut made = element_of(alloc, &names.prefix, "document")?;
+    push_plain(alloc, &mut made, "sel", sel)?;
+    Ok(made)
+}
+
+// Adds an etag as the attribute of this name.
+fn push_etag(alloc: Global, document: &mut Element, word: &str, tag: u64) -> Result<(), AllocError>
+    ensures appended { OnOk result
+        (document.new ≡ record document.old { attrs = document.old.attrs ++ plain_attr (chars word.now) (decimal tag) ∷ [] }) }
+{
+    push_plain(alloc, document, word, tag_text(alloc, tag)?)
+}
+
+// Adds the etags after and before the changes.
+fn push_both(alloc: Global, document: &mut Element, from: u64, to: u64) -> Result<(), AllocError>
+    ensures appended { OnOk result
+        (document.new ≡ record document.old { attrs = (document.old.attrs ++ plain_attr (codes "new-etag") (decimal to) ∷ []) ++ plain_attr (codes "previous-etag") (decimal from) ∷ [] }) }
+{
+    push_etag(alloc, document, "new-etag", to)?;
+    push_etag(alloc, document, "previous-etag", from)
+}
+
+// The `document` element with these etags and no operation.
+fn unpatched_document(
+    alloc: Global,
+    names: &Names,
+    from: u64,
+    to: u64,
+) -> Result<Element, AllocError>
+    ensures ok { IfOk result (λ made. made ≡ document names.now.prefix names.now.sel from to []) }
+{
+    let mut made = document_element(alloc, names)?;
+    push_both(alloc, &mut made, from, to)?;
+    Ok(made)
+}
+
+// The `document` element of a document that was removed.
+fn removal_element(alloc: Global, names: &Names, from: u64) -> Result<Element, AllocError>
+    ensures ok { IfOk result (λ made. made ≡ removed_document names.now.prefix names.now.sel from) }
+{
+    let mut gone = document_element(alloc, names)?;
+    push_etag(alloc, &mut gone, "previous-etag", from)?;
+    Ok(gone)
+}
+
+// The `document` element with one operation.
+fn of_operation(
+    alloc: Global,
+    names: &Names,
+    from: u64,
+    to: u64,
+    element: Element,
+) -> Result<Element, AllocError>
+    ensures ok { IfOk result
+        (λ made. made ≡ document names.now.prefix names.now.sel from to (element ∷ [])) }
+{
+    let mut made = unpatched_document(alloc, names, from, to)?;
+    made.push_elem(element)?;
+    Ok(made)
+}
+
+// The `document` element of one change record.
+fn of_one(alloc: Global, names: &Names, note: &EditNote) -> Result<Element, AllocError>
+    ensures ok { IfOk result
+        (λ made. made ≡ document names.now.prefix names.now.sel note.now.previous note.now.next
+        (operation names.now.prefix note.now ∷ [])) }
+{
+    let element = operation(alloc, &names.prefix, note)?;
+    of_operation(alloc, names, note.previous(), note.next(), element)
+}
+
+// The `document` element with the operations of all change records.
+fn of_all(
+    alloc: Global,
+    names: &Names,
+    from: u64,
+    to: u64,
+    notes: Notes<'_>,
+) -> Result<Element, AllocError>
+    ensures ok { IfOk result
+        (λ made. made ≡ document names.now.prefix names.now.sel from to
+        (operations names.now.prefix (all_notes notes.entry.older.now notes.entry.newer.now))) }
+{
+    let mut made = unpatched_document(alloc, names, from, to)?;
+    push_operations(alloc, &mut made, &names.prefix, notes.older)?;
+    push_operations(alloc, &mut made, &names.prefix, notes.newer)?;
+    Ok(made)
+}
+
+// Adds a `document` element for each change record.
+fn push_each(
+    alloc: Global,
+    notice: &mut Element,
+    names: &Names,
+    notes: &[EditNote],
+) -> Result<(), AllocError>
+    ensures ok { OnOk result
+        (notice.new ≡ with_all (one_by_one names.now.prefix names.now.sel notes.now) notice.old) }
+{
+    for note in notes {
+        notice.push_elem(of_one(alloc, names, note)?)?;
+    }
+    Ok(())
+}
+
+// ---- the whole diff document
+
+// The address of the server's root, as a diff document has it.
+fn root_text(alloc: Global, root: &str) -> Result<Text, AllocError>
+    ensures ok { IfOk result (λ text. text ≡ chars root.now ++ codes "/") }
+{
+    let mut text = Text::from(alloc, root)?;
+    text.push('/')?;
+    Ok(text)
+}
+
+// Declares the namespace of diff documents, and names the server's root.
+fn begin(alloc: Global, notice: &mut Element, prefix: &Prefix, root: &str) -> Result<(), AllocError>
+    ensures declares_and_names { OnOk result (notice.new ≡ record notice.old {
+      decls = notice.old.decls ++ decl_of prefix.now diff_uri ∷ [];
+      attrs = notice.old.attrs ++ plain_attr (codes "xcap-root") (chars root.now ++ codes "/") ∷ [];
+    }) }
+{
+    let prefix = prefix.copy(alloc)?;
+    let uri = Text::from(alloc, DIFF_URI)?;
+    notice.push_decl(Decl { prefix, uri })?;
+    push_plain(alloc, notice, "xcap-root", root_text(alloc, root)?)
+}
+
+// A diff document without `document` elements, under the server's root.
+pub(crate) fn empty_notice(
+    alloc: Global,
+    prefix: &Prefix,
+    root: &str,
+) -> Result<Element, AllocError>
+    ensures notice_without_documents { IfOk result
+        (λ made. made ≡ diff prefix.now (chars root.now) []) }
+{
+    let mut made = element_of(alloc, prefix, "xcap-diff")?;
+    begin(alloc, &mut made, prefix, root)?;
+    Ok(made)
+}
+
+// Whether there are no change records.
+fn are_none(notes: Notes<'_>) -> bool
+    ensures exact { result ≡ is_none (all_notes notes.entry.older.now notes.entry.newer.now) }
+{
+    notes.older.is_empty() && notes.newer.is_empty()
+}
+
+// The tag after all change records.
+fn last_tag_in(from: u64, notes: Notes<'_>) -> u64
+    ensures exact { result
+        ≡ tag_after from (all_notes notes.entry.older.now notes.entry.newer.now) }
+{
+    last_tag(last_tag(from, notes.older), notes.newer)
+}
+
+// Adds the `document` element with etags alone.
+fn push_tags(
+    alloc: Global,
+    notice: &mut Element,
+    names: &Names,
+    from: u64,
+    notes: Notes<'_>,
+) -> Result<(), AllocError>
+    requires { is_none (all_notes notes.older.now notes.newer.now) ≡ false }
+    ensures ok { OnOk result
+        (notice.new ≡ with_all
+        (tags_alone names.now.prefix names.now.sel from
+        (all_notes notes.entry.older.now notes.entry.newer.now)) notice.old) }
+{
+    let to = last_tag_in(from, notes);
+    let made = unpatched_document(alloc, names, from, to)?;
+    notice.push_elem(made)?;
+    Ok(())
+}
+
+// Adds a `document` element for each change record of both slices.
+fn push_each_in(
+    alloc: Global,
+    notice: &mut Element,
+    names: &Names,
+    notes: Notes<'_>,
+) -> Result<(), AllocError>
+    ensures ok { OnOk result
+        (notice.new ≡ with_all
+        (one_by_one names.now.prefix names.now.sel
+        (all_notes notes.entry.older.now notes.entry.newer.now)) notice.old) }
+{
+    push_each(alloc, notice, names, notes.older)?;
+    push_each(alloc, notice, names, notes.newer)?;
+    Ok(())
+}
+
+// Adds the `document` element with all operations.
+fn push_all(
+    alloc: Global,
+    notice: &mut Element,
+    names: &Names,
+    from: u64,
+    notes: Notes<'_>,
+) -> Result<(), AllocError>
+    requires { is_none (all_notes notes.older.now notes.newer.now) ≡ false }
+    ensures ok { OnOk result
+        (notice.new ≡ with_all
+        (all_at_once names.now.prefix names.now.sel from
+        (all_notes notes.entry.older.now notes.entry.newer.now)) notice.old) }
+{
+    let to = last_tag_in(from, notes);
+    let made = of_all(alloc, names, from, to, notes)?;
+    notice.push_elem(made)?;
+    Ok(())
+}
+
+// Adds the `document` elements of change records.
+fn push_documents(
+    alloc: Global,
+    notice: &mut Element,
+    names: &Names,
+    mode: Mode,
+    from: u64,
+    notes: Notes<'_>,
+) -> Result<(), AllocError>
+    ensures ok { OnOk result
+        (notice.new ≡ with_all
+        (documents_of mode names.now.prefix names.now.sel from
+        (all_notes notes.entry.older.now notes.entry.newer.now)) notice.old) }
+{
+    if are_none(notes) {
+        return Ok(());
+    }
+    match mode {
+        Mode::NoPatching => push_tags(alloc, notice, names, from, notes),
+        Mode::XcapPatching => push_each_in(alloc, notice, names, notes),
+        Mode::Aggregate => push_all(alloc, notice, names, from, notes),
+    }
+}
+
+// The change records whose operations a diff document in this mode has.
+fn sent_records(mode: Mode, notes: Notes<'_>) -> Notes<'_>
+    ensures mode_records { all_notes result.older.now result.newer.now
+        ≡ told_notes mode (all_notes notes.entry.older.now notes.entry.newer.now) }
+{
+    match mode {
+        Mode::NoPatching => Notes {
+            older: &[],
+            newer: &[],
+        },
+        Mode::XcapPatching => notes,
+        Mode::Aggregate => notes,
+    }
+}
+
+// The names in the diff document of these change records.
+fn names_for(alloc: Global, doc: &DocId, notes: Notes<'_>) -> Result<Names, AllocError>
+    ensures records_prefix { IfOk result
+        (λ names. names.prefix
+        ≡ prefix_for (all_notes notes.entry.older.now notes.entry.newer.now)) }
+    ensures prints_name { IfOk result (λ names. names.sel ≡ id_text doc.now) }
+{
+    let prefix = prefix_for(alloc, notes)?;
+    let sel = print_doc_id(alloc, doc)?;
+    Ok(Names { prefix, sel })
+}
+
+// The tree of the diff document of these change records.
+fn notice_tree(
+    alloc: Global,
+    names: &Names,
+    mode: Mode,
+    root: &Root,
+    from: u64,
+    notes: Notes<'_>,
+) -> Result<Element, AllocError>
+    ensures ok { IfOk result
+        (λ made. made ≡ with_all
+        (documents_of mode names.now.prefix names.now.sel from
+        (all_notes notes.entry.older.now notes.entry.newer.now))
+        (diff names.now.prefix root.now [])) }
+{
+    let mut notice = empty_notice(alloc, &names.prefix, root.text())?;
+    push_documents(alloc, &mut notice, names, mode, from, notes)?;
+    Ok(notice)
+}
+
+/// The diff document of a document's change records since the tag `from`, as text. Without change
+/// records it has no `document`. `no-patching` sends the etags alone, `xcap-patching` each change
+/// by itself, and `aggregate` all changes at once, from the first etag to the last (RFC 5875,
+/// section 4.3).
+///
+/// # Errors
+/// `NoMemory` when out of memory.
+pub fn notice(
+    alloc: Global,
+    mode: Mode,
+    root: &Root,
+    doc: &DocId,
+    from: u64,
+    notes: Notes<'_>,
+) -> Result<Bytes, AllocError>
+    ensures ok { IfOk result
+        (λ bytes. bytes ≡ encode_utf8_all
+        (document_print (notice_of mode root.now (id_text doc.now) from
+        (all_notes notes.entry.older.now notes.entry.newer.now)))) }
+{
+    let names = names_for(alloc, doc, sent_records(mode, notes))?;
+    let notice = notice_tree(alloc, &names, mode, root, from, notes)?;
+    print_document(alloc, &notice)
+}
+
+// The names in a diff document without operations.
+#[tactic(auto, using(crate::proofs::Words::words))]
+fn plain_names(alloc: Global, doc: &DocId) -> Result<Names, AllocError>
+    ensures first_prefix { IfOk result (λ names. names.prefix ≡ candidate 0) }
+    ensures prints_name { IfOk result (λ names. names.sel ≡ id_text doc.now) }
+{
+    let prefix = Prefix::from(alloc, "d")?;
+    let sel = print_doc_id(alloc, doc)?;
+    Ok(Names { prefix, sel })
+}
+
+// Adds the `document` element of a document that was removed.
+fn push_removed(
+    alloc: Global,
+    notice: &mut Element,
+    names: &Names,
+    from: u64,
+) -> Result<(), AllocError>
+    ensures ok { OnOk result
+        (notice.new ≡ record notice.old { content = with_elem (removed_document names.now.prefix names.now.sel from) notice.old.content }) }
+{
+    let gone = removal_element(alloc, names, from)?;
+    notice.push_elem(gone)
+}
+
+// The tree of the diff document of a document that was removed.
+fn gone_tree(alloc: Global, names: &Names, root: &Root, from: u64) -> Result<Element, AllocError>
+    ensures ok { IfOk result
+        (λ made. made ≡ diff names.now.prefix root.now
+        (removed_document names.now.prefix names.now.sel from ∷ [])) }
+{
+    let mut notice = empty_notice(alloc, &names.prefix, root.text())?;
+    push_removed(alloc, &mut notice, names, from)?;
+    Ok(notice)
+}
+
+/// The diff document, as text, which says that a document is gone, for a client that has the
+/// version with the tag `from`.
+///
+/// # Errors
+/// `NoMemory` when out of memory.
+pub fn gone_notice(alloc: Global, root: &Root, doc: &DocId, from: u64) -> Result<Bytes, AllocError>
+    ensures ok { IfOk result
+        (λ bytes. bytes ≡ encode_utf8_all
+        (document_print (gone_notice root.now (id_text doc.now) from))) }
+{
+    let names = plain_names(alloc, doc)?;
+    let notice = gone_tree(alloc, &names, root, from)?;
+    print_document(alloc, &notice)
+}

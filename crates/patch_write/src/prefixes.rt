@@ -1,0 +1,128 @@
+//! The prefix of a diff document: `d`, or the first of `d1`, `d2` and so on that nothing in its
+//! operations declares.
+ghost use Rattle.std.specs.Prelude.{◌≡◌, ℕ, List, ◌++◌, IfOk, OnOk, flat_map, length};
+ghost use Rattle.edit_ops.specs.Recorded.{all_notes};
+ghost use Rattle.std.specs.Set.{is_member};
+ghost use Rattle.std.specs.Str.{bytes_eq};
+ghost use Rattle.patch_rules.specs.Notices.{candidate, first_free, prefix_for};
+ghost use Rattle.patch_rules.specs.inner.Declaring.{prefixes, prefixes_in};
+ghost use Rattle.patch_write.specs.inner.Declaring.{Gains, Holds, prefixes_at, prefixes_put, prefixes_of_record};
+
+use edit_ops::{Change, EditNote, Notes};
+use std::alloc::{AllocError, Global};
+use std::collections::BTreeSet;
+use xml_tree::{Decl, Element, Node, Prefix};
+
+// ---- declared prefixes
+
+// Adds the prefixes of declarations.
+fn add_decls(alloc: Global, seen: &mut BTreeSet<Prefix>, decls: &[Decl]) -> Result<(), AllocError>
+    ensures gains_prefixes { OnOk result (Gains (prefixes decls.now) seen.old seen.new) }
+{
+    for decl in decls {
+        let _is_new = seen.insert(decl.prefix.copy(alloc)?)?;
+    }
+    Ok(())
+}
+
+// Adds the prefixes that an element and all elements in it declare.
+#[cycle(declared)]
+fn add_element(
+    alloc: Global,
+    seen: &mut BTreeSet<Prefix>,
+    element: &Element,
+) -> Result<(), AllocError>
+    ensures gains_prefixes { OnOk result
+        (Gains (prefixes element.now.decls ++ prefixes_in element.now.content) seen.old seen.new) }
+{
+    add_decls(alloc, seen, element.decls())?;
+    let nodes = element.nodes();
+    for node in nodes {
+        add_node(alloc, seen, node)?;
+    }
+    Ok(())
+}
+
+// Adds the prefixes that a node declares.
+#[cycle(declared)]
+fn add_node(alloc: Global, seen: &mut BTreeSet<Prefix>, node: &Node) -> Result<(), AllocError>
+    ensures gains_prefixes { OnOk result (Gains (prefixes_at node.now) seen.old seen.new) }
+{
+    match node {
+        Node::Elem(element) => add_element(alloc, seen, element),
+        Node::Chars(_) => Ok(()),
+        Node::Comment(_) => Ok(()),
+    }
+}
+
+// Adds the prefixes that the inserted element of a change declares.
+fn add_change(alloc: Global, seen: &mut BTreeSet<Prefix>, change: &Change) -> Result<(), AllocError>
+    ensures gains_prefixes { OnOk result (Gains (prefixes_put change.now) seen.old seen.new) }
+{
+    match change {
+        Change::CreateDocument { .. } => Ok(()),
+        Change::Insert { element, .. } => add_element(alloc, seen, element),
+        Change::Replace { element, .. } => add_element(alloc, seen, element),
+        Change::Remove { .. } => Ok(()),
+        Change::SetAttr { .. } => Ok(()),
+        Change::DropAttr { .. } => Ok(()),
+        Change::RemoveDocument => Ok(()),
+    }
+}
+
+// Adds the prefixes that the operations of change records declare.
+fn add_notes(
+    alloc: Global,
+    seen: &mut BTreeSet<Prefix>,
+    notes: &[EditNote],
+) -> Result<(), AllocError>
+    ensures gains_prefixes { OnOk result
+        (Gains (flat_map prefixes_of_record notes.now) seen.old seen.new) }
+{
+    for note in notes {
+        add_decls(alloc, seen, note.bindings())?;
+        add_change(alloc, seen, note.change())?;
+    }
+    Ok(())
+}
+
+// ---- free prefixes
+
+// `d`, or `d` and a number from 1 on.
+#[tactic(auto, using(crate::proofs::Words::words))]
+fn candidate(alloc: Global, number: u64) -> Result<Prefix, AllocError>
+    ensures ok { IfOk result (λ prefix. prefix ≡ candidate number) }
+{
+    if number == 0 {
+        return Prefix::from(alloc, "d");
+    }
+    let numbered = format!(in alloc; "d{}", number)?;
+    Prefix::from(alloc, &numbered)
+}
+
+// The first candidate that isn't among these. More prefixes than `u64` has numbers don't fit into
+// memory.
+fn first_free(alloc: Global, seen: &BTreeSet<Prefix>) -> Result<Prefix, AllocError>
+    ensures first_unused { (ps : List (List ℕ)) → Holds ps seen.now
+        → IfOk result (λ prefix. prefix
+        ≡ candidate (first_free (is_member bytes_eq ps) (length ps) 0)) }
+{
+    for number in 0..u64::MAX {
+        let prefix = candidate(alloc, number)?;
+        if !seen.contains(&prefix) {
+            return Ok(prefix);
+        }
+    }
+    Err(AllocError)
+}
+
+// The prefix of a diff document with the operations of these change records.
+pub(crate) fn prefix_for(alloc: Global, notes: Notes<'_>) -> Result<Prefix, AllocError>
+    ensures records_prefix { IfOk result
+        (λ prefix. prefix ≡ prefix_for (all_notes notes.entry.older.now notes.entry.newer.now)) }
+{
+    let mut seen = BTreeSet::new(alloc);
+    add_notes(alloc, &mut seen, notes.older)?;
+    add_notes(alloc, &mut seen, notes.newer)?;
+    first_free(alloc, &seen)
+}

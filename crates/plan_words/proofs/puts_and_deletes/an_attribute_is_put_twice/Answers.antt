@@ -1,5 +1,0 @@
-use Rattle.plan_words.proofs.Twice.{written_again, written_is}
-use Rattle.plan_words.proofs.puts_and_deletes.an_attribute_is_put_twice.Goals as goal
-
-pub returns : goal.returns
-returns c = record { plans_the_same_writing_again = λ u t selector uri local p value change ends_so h. written_again u t selector uri local p value change ends_so (written_is u t selector.steps uri local p value change h) }

@@ -1,8 +1,0 @@
-use Rattle.plan_words.proofs.Twice.{deleted_is}
-use Rattle.plan_words.proofs.puts_and_deletes.what_was_deleted_is_not_found.Goals as goal
-
-pub returns : goal.returns
-returns c = record {
-  not_found = λ u t selector change h. (deleted_is u t selector change h).finds_nothing;
-  planned_document_is_faultless = λ u t selector change h. (deleted_is u t selector change h).faultless;
-}

@@ -1,9 +1,0 @@
-use Rattle.std.proofs.Common.{◌≡◌, length}
-use Rattle.preconditions.specs.readers.Fields.{Before, tags_from, with_tags}
-use Rattle.preconditions.proofs.tags.read_tags.Given as goal
-
-abbrev pub invariant-parts : goal.invariant-parts
-invariant-parts l = with_tags l.tags.items (tags_from Before l.rest) ≡ tags_from Before l.text
-
-abbrev pub decreases-parts : goal.decreases-parts
-decreases-parts l = length l.rest

@@ -1,5 +1,0 @@
-pub mod Fields
-pub mod readers
-pub mod Tags
-pub mod Verdicts
-pub mod inner

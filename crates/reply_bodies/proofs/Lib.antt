@@ -1,0 +1,5 @@
+mod Attributes
+pub mod ConflictBytes
+mod FoundNodes
+mod Fronts
+mod Parents

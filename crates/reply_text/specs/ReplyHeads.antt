@@ -1,0 +1,78 @@
+-- The bytes of a reply. RFC 9112, sections 2.1 (message), 4 (status line), 5 (field lines), 6.2
+-- (Content-Length) and 9.6 (close); RFC 9110, sections 8.3 (Content-Type), 8.8.3 (ETag) and 10.2.1
+-- (Allow).
+use Rattle.std.specs.Prelude.{ℕ, ◌==◌, Bool, List, [], ◌++◌, Option, codes, decimal, None, if◌then◌else◌}
+use Rattle.std.specs.Option.{option_map_or}
+use Rattle.reply_text.specs.declared.media_types.MediaType.{MediaType}
+use Rattle.reply_text.specs.declared.media_types.MediaType.TheVariants.{ResourceLists, RlsServices, XcapCaps, Element, Attribute, Namespaces, Error, Diff}
+use Rattle.reply_text.specs.Statuses.{reason}
+
+-- CR LF
+abbrev pub line_end : List ℕ
+line_end = codes "\r\n"
+
+-- status-line = HTTP-version SP status-code SP reason-phrase CRLF
+unfoldable pub status_line : ℕ → List ℕ
+status_line n = codes "HTTP/1.1 " ++ decimal n ++ codes " " ++ reason n ++ line_end
+
+-- the document's etag, a number in quotes
+unfoldable pub etag_line : ℕ → List ℕ
+etag_line n = codes "ETag: \"" ++ decimal n ++ codes "\"" ++ line_end
+
+-- the methods that a resource takes: the reading ones, or all
+unfoldable pub allow_line : Bool → List ℕ
+allow_line read_only = codes "Allow: " ++ (if read_only then codes "GET, HEAD" else codes "GET, HEAD, PUT, DELETE") ++ line_end
+
+-- the names of the media types (RFC 4825, section 15.2; RFC 4826, section 8.2; RFC 5874, section
+-- 7.1)
+unfoldable pub media_type : MediaType → List ℕ
+media_type ResourceLists = codes "application/resource-lists+xml"
+media_type RlsServices = codes "application/rls-services+xml"
+media_type XcapCaps = codes "application/xcap-caps+xml"
+media_type Element = codes "application/xcap-el+xml"
+media_type Attribute = codes "application/xcap-att+xml"
+media_type Namespaces = codes "application/xcap-ns+xml"
+media_type Error = codes "application/xcap-error+xml"
+media_type Diff = codes "application/xcap-diff+xml"
+
+unfoldable pub media_line : MediaType → List ℕ
+media_line media = codes "Content-Type: " ++ media_type media ++ line_end
+
+unfoldable pub length_line : ℕ → List ℕ
+length_line n = codes "Content-Length: " ++ decimal n ++ line_end
+
+unfoldable pub close_line : List ℕ
+close_line = codes "Connection: close" ++ line_end
+
+-- the head, up to and including the empty line: the status line and the field lines that apply; a
+-- 304 has no length
+abbrev pub head_of : ℕ → Option ℕ → Option Bool → Option MediaType → ℕ → Bool → List ℕ
+head_of status tag read_only media size closes =
+    status_line status
+    ++ option_map_or etag_line tag []
+    ++ option_map_or allow_line read_only []
+    ++ option_map_or media_line media []
+    ++ (if status == 304 then [] else length_line size)
+    ++ (if closes then close_line else [])
+    ++ line_end
+
+-- a reply, seen as its status, whether it closes, and its bytes in two parts
+pub record SentReply : Type 0 where
+  pub status : ℕ
+  pub closes : Bool
+  pub head : List ℕ
+  pub body : List ℕ
+
+-- all bytes of a reply
+abbrev pub bytes_of : SentReply → List ℕ
+bytes_of r = r.head ++ r.body
+
+-- the reply with this status, perhaps an etag, allowed methods and a media type; with this length,
+-- whether it closes, and this body
+abbrev pub sent : ℕ → Option ℕ → Option Bool → Option MediaType → ℕ → Bool → List ℕ → SentReply
+sent status tag read_only media size closes body =
+    record { status = status; closes = closes; head = head_of status tag read_only media size closes; body = body }
+
+-- a reply without etag and body
+abbrev pub plain : ℕ → Bool → SentReply
+plain status closes = sent status None None None 0 closes []

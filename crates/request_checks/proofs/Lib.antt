@@ -1,0 +1,6 @@
+pub mod Fronts
+pub mod Grammar
+pub mod Onlys
+pub mod ReadConditions
+pub mod Values
+pub mod WordCase

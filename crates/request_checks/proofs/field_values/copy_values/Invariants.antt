@@ -1,0 +1,9 @@
+use Rattle.std.proofs.Common.{◌≡◌, ◌++◌, length}
+use Rattle.request_checks.specs.Rights.{fields_named}
+use Rattle.request_checks.proofs.field_values.copy_values.Given as goal
+
+abbrev pub invariant-fields : goal.invariant-fields
+invariant-fields l = l.values ++ fields_named l.name l.fields ≡ fields_named l.name l.fn.fields
+
+abbrev pub decreases-fields : goal.decreases-fields
+decreases-fields l = length l.fields

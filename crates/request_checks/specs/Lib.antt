@@ -1,0 +1,9 @@
+pub mod Conditions
+pub mod Fields
+pub mod MediaTypes
+pub mod Methods
+pub mod Rights
+pub mod Tags
+pub mod Verdicts
+pub mod inner
+pub mod readers

@@ -1,0 +1,117 @@
+-- The reading of condition fields, computed from left to right. That it is the grammar's only
+-- reading is a law (`fields_have_one_reading`).
+use Rattle.std.specs.Prelude.{◌≡◌, ℕ, ◌==◌, Bool, true, false, if◌then◌else◌, List, [], ◌∷◌, ◌++◌, drop, Option, None, Some, option_map, codes}
+use Rattle.std.specs.List.{take_while, prefix_len}
+use Rattle.std.specs.Str.{bytes_eq}
+use Rattle.request_checks.specs.declared.entity_tags.EntityTag.{EntityTag}
+use Rattle.request_checks.specs.Tags.{is_tag_byte, comma_joined, is_ows_byte}
+use Rattle.request_checks.specs.Fields.{FieldValue, Missing, Star, Tags, Preconditions}
+
+-- ---- one tag
+
+abbrev pub entity_tag : Bool → List ℕ → EntityTag
+entity_tag weak opaque = record { weak = weak; opaque = opaque }
+
+-- the text after leading blanks
+abbrev pub behind_blanks : List ℕ → List ℕ
+behind_blanks [] = []
+behind_blanks (c ∷ cs) = if is_ows_byte c then behind_blanks cs else c ∷ cs
+
+-- the text doesn't begin with a blank
+abbrev pub IsTrimmed : List ℕ → Type 0
+IsTrimmed [] = Unit {0}
+IsTrimmed (c ∷ cs) = is_ows_byte c ≡ false
+
+-- the leading bytes that may be between quotes
+abbrev pub opaque_front : List ℕ → List ℕ
+opaque_front s = take_while is_tag_byte s
+
+-- the text after this byte, if it begins with it
+abbrev pub behind_byte : ℕ → List ℕ → Option (List ℕ)
+behind_byte b [] = None
+behind_byte b (c ∷ cs) = if c == b then Some cs else None
+
+-- the text after those bytes and the closing quote (34), if it is there
+abbrev pub closed : List ℕ → Option (List ℕ)
+closed s = behind_byte 34 (drop (prefix_len is_tag_byte s) s)
+
+abbrev pub quoted : Bool → List ℕ → Option (EntityTag × List ℕ)
+quoted weak s = option_map (λ rest. (entity_tag weak (opaque_front s), rest)) (closed s)
+
+-- the tag after its `W/`: a quote (34) follows
+abbrev pub behind_slash : List ℕ → Option (EntityTag × List ℕ)
+behind_slash [] = None
+behind_slash (c ∷ cs) = if c == 34 then quoted true cs else None
+
+-- the tag after its `W`: `/` (47) follows
+abbrev pub behind_letter : List ℕ → Option (EntityTag × List ℕ)
+behind_letter [] = None
+behind_letter (c ∷ cs) = if c == 47 then behind_slash cs else None
+
+-- the tag at the front, which begins with a quote (34) or `W` (87), and the text after it
+abbrev pub first_tag : List ℕ → Option (EntityTag × List ℕ)
+first_tag [] = None
+first_tag (c ∷ cs) = if c == 34 then quoted false cs else if c == 87 then behind_letter cs else None
+
+-- ---- a list of tags
+
+-- the state of a reader: before the tag of a part, after `W`, after `W/`, between quotes, after
+-- the tag
+pub data Place : Type 0 where
+  Before : Place
+  Letter : Place
+  Slash : Place
+  Inside : Place
+  Behind : Place
+
+-- these tags and the tags of the rest, if the rest can be read
+abbrev pub with_tags : List EntityTag → Option (List EntityTag) → Option (List EntityTag)
+with_tags tags more = option_map (λ ts. tags ++ ts) more
+
+-- the tags of the rest of a list, if the rest can be read: a comma (44), a quote (34), `W` (87) or
+-- `/` (47) changes the state
+abbrev pub tags_from : Place → List ℕ → Option (List EntityTag)
+tags_from Before [] = Some []
+tags_from Before (c ∷ cs) =
+    if is_ows_byte c then tags_from Before cs
+    else if c == 44 then tags_from Before cs
+    else if c == 34 then with_tags (entity_tag false (opaque_front cs) ∷ []) (tags_from Inside cs)
+    else if c == 87 then tags_from Letter cs
+    else None
+tags_from Letter [] = None
+tags_from Letter (c ∷ cs) = if c == 47 then tags_from Slash cs else None
+tags_from Slash [] = None
+tags_from Slash (c ∷ cs) = if c == 34 then with_tags (entity_tag true (opaque_front cs) ∷ []) (tags_from Inside cs) else None
+tags_from Inside [] = None
+tags_from Inside (c ∷ cs) = if c == 34 then tags_from Behind cs else if is_tag_byte c then tags_from Inside cs else None
+tags_from Behind [] = Some []
+tags_from Behind (c ∷ cs) = if is_ows_byte c then tags_from Behind cs else if c == 44 then tags_from Before cs else None
+
+-- ---- a field
+
+-- a list has at least one tag
+abbrev pub listed : Option (List EntityTag) → Option FieldValue
+listed None = None
+listed (Some []) = None
+listed (Some (t ∷ ts)) = Some (Tags (t ∷ ts))
+
+-- the reading of a field's text, if it can be read
+abbrev pub text_value : List ℕ → Option FieldValue
+text_value text = if bytes_eq text (codes "*") then Some Star else listed (tags_from Before text)
+
+-- the reading of a field's lines, if they can be read
+abbrev pub field_value : List (List ℕ) → Option FieldValue
+field_value [] = Some Missing
+field_value (line ∷ lines) = text_value (comma_joined (line ∷ lines))
+
+-- ---- both fields
+
+-- the readings of both, if each can be read
+abbrev pub both : Option FieldValue → Option FieldValue → Option Preconditions
+both None if_none_match = None
+both (Some a) None = None
+both (Some a) (Some b) = Some (record { if_match = a; if_none_match = b })
+
+-- what the lines of both say, if each can be read
+abbrev pub conditions_of : List (List ℕ) → List (List ℕ) → Option Preconditions
+conditions_of if_match if_none_match = both (field_value if_match) (field_value if_none_match)

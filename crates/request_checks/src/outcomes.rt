@@ -1,0 +1,72 @@
+//! The outcome of a request's conditions (RFC 9110, section 13.2.2).
+ghost use Rattle.std.specs.Prelude.{◌≡◌, IfOk, Option};
+ghost use Rattle.std.specs.Option.{option_map_or};
+ghost use Rattle.request_checks.specs.Fields.{ConditionsAnswer, Preconditions};
+ghost use Rattle.request_checks.specs.Verdicts.{verdict_of};
+ghost use Rattle.request_checks.specs.Conditions.{HasOutcome, by_verdict};
+ghost use Rattle.request_checks.specs.declared.conditions.Outcome.TheVariants.{Unreadable};
+
+use crate::field_values::copy_values;
+use crate::{ConditionFault, NoMemory, Outcome, Verdict, condition, read_conditions};
+use http_wire::Request;
+use std::alloc::{AllocError, Global};
+use xcap_io::Bytes;
+
+fn by_verdict(verdict: Verdict) -> Outcome
+    ensures exact { result ≡ by_verdict verdict }
+{
+    match verdict {
+        Verdict::Go => Outcome::Go,
+        Verdict::Same => Outcome::NotModified,
+        Verdict::Failed => Outcome::Failed,
+    }
+}
+
+fn outcome_by_lines(
+    alloc: Global,
+    if_match: &[Bytes],
+    if_none_match: &[Bytes],
+    tag: Option<u64>,
+    exists: bool,
+    reading: bool,
+) -> Result<Outcome, NoMemory>
+    ensures outcome_of_lines { IfOk result
+        (λ o. (said : Option Preconditions) × ConditionsAnswer if_match.now if_none_match.now said
+        × (o ≡ option_map_or
+        (λ conditions. by_verdict (verdict_of conditions tag exists reading)) said Unreadable)) }
+{
+    match read_conditions(alloc, if_match, if_none_match) {
+        Ok(conditions) => Ok(by_verdict(condition(&conditions, tag, exists, reading))),
+        Err(ConditionFault::BadCondition) => Ok(Outcome::Unreadable),
+        Err(ConditionFault::NoMemory) => Err(AllocError),
+    }
+}
+
+/// The outcome of the fields `If-Match` and `If-None-Match` of a request: `tag` is the etag of the
+/// document, if it is stored, `exists` says whether the resource exists, and `reading` whether the
+/// method is GET or HEAD.
+///
+/// # Errors
+/// `NoMemory` when out of memory.
+pub fn outcome(
+    alloc: Global,
+    request: &Request,
+    tag: Option<u64>,
+    exists: bool,
+    reading: bool,
+) -> Result<Outcome, NoMemory>
+    ensures outcome_of_conditions { IfOk result
+        (λ o. HasOutcome request.now.fields tag exists reading o) }
+{
+    let fields = request.fields.as_slice();
+    let if_match = copy_values(alloc, fields, b"if-match")?;
+    let if_none_match = copy_values(alloc, fields, b"if-none-match")?;
+    outcome_by_lines(
+        alloc,
+        if_match.as_slice(),
+        if_none_match.as_slice(),
+        tag,
+        exists,
+        reading,
+    )
+}

@@ -1,3 +1,0 @@
-pub mod Onlys
-pub mod ReadConditions
-pub mod WordCase

@@ -1,4 +1,0 @@
-pub mod Methods
-pub mod Rights
-pub mod Conditions
-pub mod MediaTypes

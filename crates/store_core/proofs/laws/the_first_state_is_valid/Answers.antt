@@ -1,0 +1,5 @@
+use Rattle.store_core.proofs.KeptAfter.{kept-first}
+use Rattle.store_core.proofs.laws.the_first_state_is_valid.Goals as goal
+
+pub returns : goal.returns
+returns c = record { first_state_valid = kept-first }

@@ -1,0 +1,11 @@
+-- The meaning of a store's result with the records since a version.
+use Rattle.store_core.specs.Since.{ChangesSince, ReportedChanges}
+use Rattle.edit_ops.specs.Recorded.{all_notes}
+use Rattle.store_core.specs.Since as since
+use Rattle.store_core.specs.declared.since.Since.{Since}
+use Rattle.store_core.specs.declared.since.Since.TheVariants.{Gone, Unknown, Changes}
+
+abbrev pub changes_since_in : Since → ChangesSince
+changes_since_in Gone = since.Gone
+changes_since_in Unknown = since.Unknown
+changes_since_in (Changes ns) = ReportedChanges (all_notes ns.older.now ns.newer.now)

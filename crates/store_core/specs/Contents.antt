@@ -1,0 +1,30 @@
+-- A store's contents as a view of a state: of each document the present tree and etag, and the
+-- retained change records.
+use Rattle.std.specs.Prelude.{◌≡◌, ℕ, List, map}
+use Rattle.xml_tree.specs.Tree.{Tree}
+use Rattle.doc_names.specs.declared.doc_id.DocId.{DocId}
+use Rattle.edit_ops.specs.Notes.{Note}
+use Rattle.store_core.specs.State.{Document, State, notes, retained}
+
+-- a stored document
+pub record StoredDocument : Type 0 where
+  pub id : DocId
+  pub tag : ℕ
+  pub tree : Tree
+  pub notes : List Note
+
+-- the contents: the documents in the order of their creation, and the next number
+pub record StoreContents : Type 0 where
+  pub documents : List StoredDocument
+  pub next : ℕ
+
+abbrev pub stored_of : Document → StoredDocument
+stored_of d = record { id = d.id; tag = d.now.tag; tree = d.now.tree; notes = retained (notes d) }
+
+-- the contents that represent a state
+abbrev pub stock_of : State → StoreContents
+stock_of m = record { documents = map stored_of m.documents; next = m.next }
+
+-- contents that represent the state
+abbrev pub Represents : StoreContents → State → Type 0
+Represents content state = content ≡ stock_of state

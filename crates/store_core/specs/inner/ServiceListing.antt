@@ -1,0 +1,25 @@
+-- The documents that the index of all services lists, from a store's entries into a map by the
+-- users' names. RFC 4826, section 4.4.7.
+use Rattle.std.specs.Prelude.{ℕ, List, [], ◌∷◌, map, filter_map}
+use Rattle.std.specs.BTreeMap.{insert_entry}
+use Rattle.std.specs.Borrow.{Bor}
+use Rattle.std.specs.Cmp.Lexicographic.{slice_cmp}
+use Rattle.std.specs.Ordering.{nat_cmp}
+use Rattle.xml_tree.specs.Tree.{Tree}
+use Rattle.doc_names.specs.declared.doc_id.DocId.{DocId}
+use Rattle.store_core.specs.declared.entry.Entry.{Entry}
+use Rattle.store_core.specs.Indexes.{indexed}
+use Rattle.store_core.specs.inner.Storing.{stored_in}
+
+-- the users' names and the trees of the documents that the index lists
+abbrev pub listed : List (DocId × Entry) → List (List ℕ × Tree)
+listed es = filter_map indexed (map stored_in es)
+
+-- the names and trees that a map lends
+abbrev pub pairs_in : List (Bor (List ℕ) × Bor Tree) → List (List ℕ × Tree)
+pairs_in es = map (λ e. (e.0.now, e.1.now)) es
+
+-- the entries of a map by names after these were added one after another: the last of each name
+abbrev pub entered : List (List ℕ × Tree) → List (List ℕ × Tree) → List (List ℕ × Tree)
+entered made [] = made
+entered made (d ∷ ds) = entered (insert_entry (slice_cmp nat_cmp) made d.0 d.1) ds

@@ -1,0 +1,68 @@
+//! Commits prepared changes.
+ghost use Rattle.std.specs.Prelude.{◌≡◌, IfOk, Ok, OnErr, OnOk};
+ghost use Rattle.store_core.specs.Queries.{Asks};
+ghost use Rattle.store_core.specs.DocumentChanges.{changing, content_after};
+ghost use Rattle.store_core.specs.KeyAddresses.{KeepsAddressesOf};
+ghost use Rattle.store_core.specs.PreparedChanges.{IsReady, Steps};
+
+use crate::NoMemory;
+use crate::prepared_change::Prepared;
+use crate::refusal::StoreRefusal;
+use crate::registry::{enter, leave};
+use crate::store::Store;
+use doc_names::DocId;
+use edit_ops::{Change, Edit, EditNote};
+
+impl Store {
+    /// Commits a prepared change, and returns the document's name and the change record, moved out
+    /// of it. Nothing may have changed since `prepare`. Does not allocate.
+    pub fn commit(&mut self, prepared: Prepared) -> Edit
+        requires { IsReady self.old prepared }
+        ensures holds_change { self.new.content
+            ≡ content_after self.old.content prepared.doc prepared.note.change }
+        ensures prepared_edit { result ≡ record { doc = prepared.doc; note = prepared.note } }
+        ensures keeps_key_addresses { KeepsAddressesOf self.old.content prepared.doc
+            prepared.note.change self.new.content }
+    {
+        let Prepared {
+            doc,
+            note,
+            step,
+            leaves,
+            enters,
+            total,
+        } = prepared;
+        leave(&mut self.services, leaves.as_slice());
+        let number = note.next();
+        let created = step.take(&mut self.documents, &doc, number);
+        enter(&mut self.services, enters.into_vec(), created);
+        self.last = number;
+        self.total = total;
+        Edit { doc, note }
+    }
+
+    /// Makes a change of a document, under the next number, and returns its record; or the first
+    /// reason against it, in the order of `StoreRefusal`. The conditions are those of `prepare`.
+    /// If it isn't made, the store's contents are unchanged.
+    ///
+    /// # Errors
+    /// `NoMemory` when out of memory.
+    pub fn change(
+        &mut self,
+        doc: DocId,
+        change: Change,
+    ) -> Result<Result<EditNote, StoreRefusal>, NoMemory>
+        requires { Asks self.old.content doc change }
+        ensures changed_or_refused { IfOk result
+            (λ r. Steps (changing self.old.content doc change) r self.old.content
+            self.new.content) }
+        ensures no_memory_unchanged { OnErr result (self.new.content ≡ self.old.content) }
+        ensures keeps_key_addresses { IfOk result
+            (λ r. OnOk r (KeepsAddressesOf self.old.content doc change self.new.content)) }
+    {
+        match self.prepare(doc, change)? {
+            Ok(prepared) => Ok(Ok(self.commit(prepared).note)),
+            Err(refusal) => Ok(Err(refusal)),
+        }
+    }
+}

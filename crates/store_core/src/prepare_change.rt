@@ -1,0 +1,377 @@
+//! Prepares changes of documents: all memory is taken first, so that `commit` can't fail.
+ghost use Rattle.std.specs.Prelude.{◌≡◌, ℕ, ◌≤◌, ◌+◌, [], ◌∷◌, Err, IfErr, IfOk, IfSome, IsSome, IsSomeAnd, None, Ok, OnOk, List, Some, false, length, max, min, option_map, true};
+ghost use Rattle.store_core.specs.inner.Planning.{refused_for, IsHeldAs, IsNewOutline, IsOutline, Plans};
+ghost use Rattle.xml_tree.specs.Tree.{Tree};
+ghost use Rattle.usage_docs.specs.Services.{document_len};
+ghost use Rattle.usage_docs.specs.declared.schema_table.Key.TheVariants as keys;
+ghost use Rattle.edit_ops.specs.declared.change.Change.TheVariants as changes;
+ghost use Rattle.store_core.specs.declared.refusal.StoreRefusal.TheVariants as refusals;
+ghost use Rattle.store_core.specs.Queries.{Asks};
+ghost use Rattle.store_core.specs.DocumentChanges.{Edits, act_of, against_number, against_tree, changing, content_after, document_in, stored_name, other_lengths};
+ghost use Rattle.doc_names.specs.Usages.{usage_of};
+ghost use Rattle.store_core.specs.Contents.{StoredDocument};
+ghost use Rattle.store_core.specs.ValidStates.{IsSoundFor, addresses_in};
+ghost use Rattle.store_core.specs.inner.Addresses.{AreExchanged};
+ghost use Rattle.store_core.specs.KeyAddresses.{KeepsAddressesOf};
+ghost use Rattle.store_core.specs.TreeChanges.{is_within};
+ghost use Rattle.store_core.specs.inner.Making.{IsOwn};
+ghost use Rattle.edit_ops.specs.Changes.{Fits, edited};
+ghost use Rattle.edit_ops.specs.Lengths.{element_len};
+ghost use Rattle.store_core.specs.PreparedChanges.{IsReady, total_of};
+
+use crate::NoMemory;
+use crate::addresses::{added_addresses, addresses, first_number, removed_addresses};
+use crate::entry::Entry;
+use crate::limits::{MAX_BYTES, MAX_BYTES_TOGETHER, MAX_DOCUMENTS};
+use crate::outlines::{Outline, creation, edit, removal};
+use crate::prepared_change::Prepared;
+use crate::put::{HEAD_LEN, document_len, put_by, put_root};
+use crate::refusal::StoreRefusal;
+use crate::registry::first_conflict;
+use crate::root_tests::is_within;
+use crate::step::{find, unshare};
+use crate::store::Store;
+use doc_names::DocId;
+use edit_ops::{Change, printed_len_after};
+use usage_docs::{Clash, Key};
+use xml_tree::{Element, List, Path, Text};
+
+// The length of a document of `len` bytes after a change that puts an element of `put` bytes, at
+// most the greatest number.
+fn len_after(root: &Element, len: usize, change: &Change, put: usize) -> usize
+    requires fits { Fits root.now change.now }
+    requires length_exact { len ≡ document_len root.now }
+    requires length_of_part { put ≡ min (element_len change.now) usize.MAX }
+    ensures exact { result ≡ min (document_len (edited root.now change.now)) usize.MAX }
+{
+    printed_len_after(root, len - HEAD_LEN, change, put).saturating_add(HEAD_LEN)
+}
+
+// The clash of the service at this index.
+fn clash_at(place: usize) -> Clash
+    ensures exact { result ≡ record { path = place ∷ []; key = keys.Uri } }
+{
+    match Path::root().child(place) {
+        Some(path) => Clash {
+            path,
+            key: Key::Uri,
+        },
+        None => unreachable!(),
+    }
+}
+
+// The number of the service at an index among the added ones, of which the first has this number:
+// if several are added, they are all services of the document, and the first has 0.
+fn number_at(first: usize, place: Option<usize>) -> Option<usize>
+    ensures exact { result ≡ option_map (λ i. max first i) place }
+{
+    match place {
+        Some(place) => Some(first.max(place)),
+        None => None,
+    }
+}
+
+// The first reason against a tree, by what was found of it.
+fn refused_for(place: Option<usize>, len: usize, is_full: bool, others: u64) -> Option<StoreRefusal>
+    requires { others ≤ MAX_BYTES_TOGETHER }
+    ensures exact { result ≡ refused_for place len is_full others }
+{
+    if let Some(place) = place {
+        return Some(StoreRefusal::ServiceTaken(clash_at(place)));
+    }
+    if len > MAX_BYTES {
+        return Some(StoreRefusal::TooLarge(len));
+    }
+    if is_full {
+        return Some(StoreRefusal::TooMany);
+    }
+    let total = others + len as u64;
+    if total > MAX_BYTES_TOGETHER {
+        return Some(StoreRefusal::StoreFull(total));
+    }
+    None
+}
+
+impl Store {
+    // The number of the next change.
+    fn next_number(&self) -> Option<u64>
+        ensures some_is_free { IfSome result
+            (λ n. (n ≡ self.now.content.next) × (against_number self.now.content ≡ None)) }
+        ensures none_at_end { result ≡ None
+            → against_number self.now.content ≡ Some refusals.NoNumber }
+    {
+        self.last.checked_add(1)
+    }
+
+    // The first reason against the tree of a new document, by the tree's length and its service
+    // addresses.
+    fn refusal_of_new(&self, doc: &DocId, len: usize, uris: &[Text]) -> Option<StoreRefusal>
+        requires { document_in stored_name self.now.content.documents doc.now ≡ None }
+        ensures first_refusal { (t : Tree) → len ≡ min (document_len t) usize.MAX
+            → uris.now ≡ addresses_in doc.now.auid t
+            → result ≡ against_tree self.now.content doc.now true t }
+    {
+        let place = first_conflict(&self.services, uris, None);
+        let is_full = self.documents.len() >= MAX_DOCUMENTS;
+        refused_for(place, len, is_full, self.total)
+    }
+
+    // The entry of a stored document.
+    fn stored_entry(&self, doc: &DocId) -> &Entry
+        requires { IsSome (document_in stored_name self.now.content.documents doc.now) }
+        ensures entry_held { IsHeldAs self.now.content doc.now result.now }
+        ensures tree_is_sound { IsSoundFor (usage_of doc.now.auid) result.now.tree.root }
+    {
+        match find(&self.documents, doc) {
+            Some(entry) => entry,
+            None => unreachable!(),
+        }
+    }
+
+    // The number of bytes of all documents except this stored one.
+    fn total_without(&self, doc: &DocId) -> u64
+        requires { IsSome (document_in stored_name self.now.content.documents doc.now) }
+        ensures exact { result ≡ other_lengths self.now.content doc.now }
+        ensures is_small { result ≤ MAX_BYTES_TOGETHER }
+        ensures completes_total { IsSomeAnd
+            (document_in stored_name self.now.content.documents doc.now)
+            (λ h. result + document_len h.tree ≡ total_of self.now.content) }
+    {
+        let Some(entry) = find(&self.documents, doc) else {
+            unreachable!()
+        };
+        self.total - entry.len as u64
+    }
+
+    // The first reason against a new tree of a stored document, by the tree's length, the added
+    // service addresses and the number of the first added service.
+    fn refusal_of_edit(
+        &self,
+        doc: &DocId,
+        len: usize,
+        first: usize,
+        uris: &[Text],
+    ) -> Option<StoreRefusal>
+        requires { IsSome (document_in stored_name self.now.content.documents doc.now) }
+        ensures first_refusal { (h : StoredDocument) (t : Tree) (leaves : List (List ℕ))
+            → document_in stored_name self.now.content.documents doc.now ≡ Some h
+            → len ≡ min (document_len t) usize.MAX
+            → AreExchanged first (addresses_in doc.now.auid h.tree) leaves uris.now
+            (addresses_in doc.now.auid t)
+            → result ≡ against_tree self.now.content doc.now false t }
+    {
+        let Some(entry) = find(&self.documents, doc) else {
+            unreachable!()
+        };
+        let place = first_conflict(&self.services, uris, Some(entry.created));
+        let others = self.total - entry.len as u64;
+        refused_for(number_at(first, place), len, false, others)
+    }
+
+    // The outline of a new document with this tree, or the first reason against it.
+    fn outline_creation(
+        &self,
+        doc: &DocId,
+        root: &Element,
+    ) -> Result<Result<Outline, StoreRefusal>, NoMemory>
+        requires { Asks self.now.content doc.now (changes.CreateDocument root.now) }
+        ensures ok_outline { IfOk result
+            (λ r. IfOk r (λ o. IsNewOutline self.now.content doc.now root.now o)) }
+        ensures err_refusal { IfOk result
+            (λ r. IfErr r (λ e. Plans self.now.content doc.now (changes.CreateDocument root.now)
+            (Err e))) }
+    {
+        let enters = addresses(self.alloc, doc.auid, root)?;
+        let put = put_root(self.alloc, root);
+        let len = document_len(put.len);
+        if let Some(refusal) = self.refusal_of_new(doc, len, enters.as_slice()) {
+            return Ok(Err(refusal));
+        }
+        let Some(number) = self.next_number() else {
+            return Ok(Err(StoreRefusal::NoNumber));
+        };
+        let sum = self.total();
+        let total = sum.saturating_add(len as u64);
+        let leaves = List::empty(self.alloc);
+        Ok(Ok(Outline {
+            number,
+            put,
+            len,
+            total,
+            leaves,
+            enters,
+        }))
+    }
+
+    // Plans the creation of a document.
+    fn plan_creation(
+        &self,
+        doc: DocId,
+        root: Element,
+    ) -> Result<Result<Prepared, StoreRefusal>, NoMemory>
+        requires { Asks self.now.content doc (changes.CreateDocument root) }
+        ensures plans_creation { IfOk result
+            (Plans self.now.content doc (changes.CreateDocument root)) }
+    {
+        match self.outline_creation(&doc, &root)? {
+            Ok(outline) => {
+                let prepared = creation(self.alloc, doc, root, outline)?;
+                Ok(Ok(prepared))
+            }
+            Err(refusal) => Ok(Err(refusal)),
+        }
+    }
+
+    // The outline of the document of this entry after an edit, or the first reason against it.
+    fn outline_edit(
+        &self,
+        doc: &DocId,
+        entry: &Entry,
+        change: &Change,
+    ) -> Result<Result<Outline, StoreRefusal>, NoMemory>
+        requires asks_change { Asks self.now.content doc.now change.now }
+        requires edits_document { act_of change.now ≡ Edits }
+        requires stored_there { IsHeldAs self.now.content doc.now entry.now }
+        requires is_sound { IsSoundFor (usage_of doc.now.auid) entry.now.tree.root }
+        ensures ok_outline { IfOk result
+            (λ r. IfOk r (λ o. IsOutline self.now.content doc.now entry.now.tree.root change.now
+            o)) }
+        ensures err_refusal { IfOk result
+            (λ r. IfErr r (λ e. Plans self.now.content doc.now change.now (Err e))) }
+    {
+        let tree = entry.tree.root();
+        let enters = added_addresses(self.alloc, doc.auid, change)?;
+        let put = put_by(self.alloc, change);
+        let len = len_after(tree, entry.len, change, put.len);
+        let first = first_number(change);
+        if let Some(refusal) = self.refusal_of_edit(doc, len, first, enters.as_slice()) {
+            return Ok(Err(refusal));
+        }
+        let Some(number) = self.next_number() else {
+            return Ok(Err(StoreRefusal::NoNumber));
+        };
+        let others = self.total_without(doc);
+        let total = others.saturating_add(len as u64);
+        let leaves = removed_addresses(self.alloc, doc.auid, tree, change)?;
+        Ok(Ok(Outline {
+            number,
+            put,
+            len,
+            total,
+            leaves,
+            enters,
+        }))
+    }
+
+    // Plans an edit of a document.
+    fn plan_edit(
+        &self,
+        doc: DocId,
+        change: Change,
+    ) -> Result<Result<Prepared, StoreRefusal>, NoMemory>
+        requires asks_change { Asks self.now.content doc change }
+        requires edits_document { act_of change ≡ Edits }
+        ensures plans_edit { IfOk result (Plans self.now.content doc change) }
+    {
+        let entry = self.stored_entry(&doc);
+        match self.outline_edit(&doc, entry, &change)? {
+            Ok(outline) => {
+                let prepared = edit(self.alloc, doc, entry, change, outline)?;
+                Ok(Ok(prepared))
+            }
+            Err(refusal) => Ok(Err(refusal)),
+        }
+    }
+
+    // Plans the removal of a document.
+    fn plan_removal(&self, doc: DocId) -> Result<Result<Prepared, StoreRefusal>, NoMemory>
+        requires { Asks self.now.content doc changes.RemoveDocument }
+        ensures plans_removal { IfOk result (Plans self.now.content doc changes.RemoveDocument) }
+    {
+        let Some((tree, tag)) = self.get(&doc) else {
+            unreachable!()
+        };
+        let Some(number) = self.next_number() else {
+            return Ok(Err(StoreRefusal::NoNumber));
+        };
+        let leaves = addresses(self.alloc, doc.auid, tree)?;
+        let total = self.total_without(&doc);
+        let prepared = removal(self.alloc, doc, tag, number, leaves, total)?;
+        Ok(Ok(prepared))
+    }
+
+    // Plans any change.
+    fn plan(&self, doc: DocId, change: Change) -> Result<Result<Prepared, StoreRefusal>, NoMemory>
+        requires { Asks self.now.content doc change }
+        ensures plans_change { IfOk result (Plans self.now.content doc change) }
+    {
+        match change {
+            Change::CreateDocument { root } => self.plan_creation(doc, root),
+            Change::RemoveDocument => self.plan_removal(doc),
+            edit => self.plan_edit(doc, edit),
+        }
+    }
+
+    // Makes the tree of a document unshared, if a change is one within its root: so it can be made
+    // in place.
+    fn unshare_for(&mut self, doc: &DocId, change: &Change) -> Result<(), NoMemory>
+        ensures contents_unchanged { self.new.content ≡ self.old.content }
+        ensures tree_unshared { OnOk result
+            (is_within change.now ≡ true → IsOwn self.new.room.trees doc.now) }
+    {
+        if is_within(change) {
+            return unshare(self.alloc, &mut self.documents, doc);
+        }
+        Ok(())
+    }
+
+    // Makes the tree of a change's document unshared, if it is made in place, and reserves the
+    // memory that it needs.
+    fn take_room(&mut self, prepared: &Prepared) -> Result<(), NoMemory>
+        ensures contents_unchanged { self.new.content ≡ self.old.content }
+        ensures document_room { OnOk result (1 ≤ self.new.room.documents) }
+        ensures address_room { OnOk result (length prepared.now.enters ≤ self.new.room.services) }
+        ensures tree_unshared { OnOk result
+            (is_within prepared.now.note.change ≡ true
+            → IsOwn self.new.room.trees prepared.now.doc) }
+    {
+        self.unshare_for(&prepared.doc, prepared.note.change())?;
+        self.reserve(prepared.added_address_count())
+    }
+
+    /// Takes all memory of a change of a document, which `commit` then makes; or returns the first
+    /// reason against it, in the order of `StoreRefusal`. A created document isn't stored yet, any
+    /// other change is one of a stored document; the new tree may be a document of the application
+    /// usage, if it isn't too long. The name is moved; only the name of a new document is copied,
+    /// since the store needs one.
+    ///
+    /// # Errors
+    /// `NoMemory` when out of memory.
+    pub fn prepare(
+        &mut self,
+        doc: DocId,
+        change: Change,
+    ) -> Result<Result<Prepared, StoreRefusal>, NoMemory>
+        requires { Asks self.old.content doc change }
+        ensures contents_unchanged { self.new.content ≡ self.old.content }
+        ensures prepared_change { IfOk result
+            (λ r. IfOk r (λ p. (p.doc ≡ doc)
+            × (changing self.old.content doc change
+            ≡ Ok (p.note, content_after self.old.content doc change)) × (p.note.change ≡ change))) }
+        ensures prepared_is_ready { IfOk result (λ r. IfOk r (λ p. IsReady self.new p)) }
+        ensures keeps_key_addresses { IfOk result
+            (λ r. OnOk r (KeepsAddressesOf self.old.content doc change
+            (content_after self.old.content doc change))) }
+        ensures first_refusal { IfOk result
+            (λ r. IfErr r (λ e. changing self.old.content doc change ≡ Err e)) }
+    {
+        self.represents_valid_state();
+        match self.plan(doc, change)? {
+            Ok(prepared) => {
+                self.take_room(&prepared)?;
+                Ok(Ok(prepared))
+            }
+            Err(refusal) => Ok(Err(refusal)),
+        }
+    }
+}

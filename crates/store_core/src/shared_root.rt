@@ -1,0 +1,114 @@
+//! The root of a document's tree: unshared, or shared with a change record.
+ghost use Rattle.std.specs.Prelude.{◌≡◌, OnOk, true};
+ghost use Rattle.edit_ops.specs.Changes.{Fits, edited};
+ghost use Rattle.edit_ops.specs.StagedChanges.{IsStaged};
+ghost use Rattle.store_core.specs.inner.Roots.{is_own, root_in};
+
+use crate::NoMemory;
+use edit_ops::{Change, RecordedTree, Staged, apply_staged};
+use std::alloc::Global;
+use std::mem;
+use xml_tree::{Element, LocalName, Name, Prefix, copy_tree};
+
+/// The root of a tree.
+#[derive(Drop)]
+pub enum Root {
+    /// Nobody shares it.
+    Own(Element),
+    /// It is the tree of a change record, which others may share.
+    Noted(RecordedTree),
+}
+
+// A root without a name, as a placeholder for one that is moved out.
+fn nameless(alloc: Global) -> Root
+    ensures own_is_unshared { is_own result ≡ true }
+{
+    let name = Name {
+        prefix: Prefix::empty(),
+        local: LocalName::empty(),
+    };
+    Root::Own(Element::new(alloc, name))
+}
+
+// A copy of a record's root; or that root, when out of memory.
+fn copy_root(alloc: Global, tree: RecordedTree) -> Root
+    ensures same_root { root_in result ≡ tree }
+{
+    match copy_tree(alloc, tree.root()) {
+        Ok(copy) => Root::Own(copy),
+        Err(NoMemory) => Root::Noted(tree),
+    }
+}
+
+// A record's root, unshared: moved out of the record, if nobody else has that any more, else
+// copied, if there is memory for that.
+fn take_root(alloc: Global, tree: RecordedTree) -> Root
+    ensures same_root { root_in result ≡ tree }
+{
+    match tree.into_root() {
+        Ok(root) => Root::Own(root),
+        Err(tree) => copy_root(alloc, tree),
+    }
+}
+
+impl Root {
+    /// Borrows the root. Does not allocate.
+    pub(crate) fn lent(&self) -> &Element
+        ensures exact { result.now ≡ root_in self.now }
+    {
+        match self {
+            Root::Own(root) => root,
+            Root::Noted(tree) => tree.root(),
+        }
+    }
+
+    // Whether nobody shares it.
+    fn is_own(&self) -> bool
+        ensures ok { result ≡ is_own self.now }
+    {
+        match self {
+            Root::Own(_) => true,
+            Root::Noted(_) => false,
+        }
+    }
+
+    // The root, unshared, if there is memory for the copy that may be needed.
+    fn make_unshared(self, alloc: Global) -> Root
+        ensures same_root { root_in result ≡ root_in self }
+    {
+        match self {
+            Root::Own(root) => Root::Own(root),
+            Root::Noted(tree) => take_root(alloc, tree),
+        }
+    }
+
+    /// Makes the root unshared and leaves it unchanged: it is moved out of its record, if nobody
+    /// else has that any more, else copied.
+    ///
+    /// # Errors
+    /// `NoMemory` when out of memory for the copy.
+    pub(crate) fn unshare(&mut self, alloc: Global) -> Result<(), NoMemory>
+        ensures same_root { root_in self.new ≡ root_in self.old }
+        ensures own_is_unshared { OnOk result (is_own self.new ≡ true) }
+    {
+        let root = mem::replace(self, nameless(alloc));
+        *self = root.make_unshared(alloc);
+        if self.is_own() {
+            return Ok(());
+        }
+        Err(NoMemory)
+    }
+
+    /// Makes a change in place, in an unshared root. Does not allocate.
+    pub(crate) fn make_in_place(&mut self, change: &Change, staged: Staged)
+        requires tree_owned { is_own self.old ≡ true }
+        requires fits { Fits (root_in self.old) change.now }
+        requires change_staged { IsStaged (root_in self.old) change.now staged }
+        ensures makes_change { root_in self.new ≡ edited (root_in self.old) change.now }
+    {
+        match self {
+            Root::Own(root) => apply_staged(root, change, staged),
+            Root::Noted(_) => unreachable!(),
+        }
+    }
+}

@@ -1,0 +1,11 @@
+use Rattle.std.proofs.Common.{◌≡◌, ◌-◌, chars}
+use denote.Text.{Utf8}
+use denote.Shadow.{shadow}
+use Rattle.xml_grammar.specs.readers.Functions.{read_at_most}
+use Rattle.tree_text.specs.readers.Members.{read_spelled_piece, value_with}
+use Rattle.tree_text.specs.readers.Texts.{reference_follows, read_spelling}
+use Rattle.tree_text.proofs.Loops.{finish}
+use Rattle.tree_text.proofs.attribute_bodies.read_body_value.Given as goal
+
+abbrev pub invariant-loop : goal.invariant-loop
+invariant-loop l = record { utf8 : shadow (Utf8 l.rest); left : read_spelling (chars l.text) ≡ finish value_with l.value (read_at_most reference_follows read_spelled_piece (l.end - l.counter) (chars l.rest)) }

@@ -1,8 +1,0 @@
-use Rattle.std.proofs.Common.{◌≤◌, arith, ◌∙◌}
-use Rattle.tree_text.proofs.FirstRuns.{ascii_in_name}
-use Rattle.tree_text.proofs.parts.stands_in_name.Goals as goal
-
-pub returns-then-c-le127 : goal.returns-then-c-le127
-returns-then-c-le127 c =
-    let low : c.args.c ≤ 127 = omega arith in
-    record { tells_whether_it_stands_in_names = c.is_plain_in_name.ensures.tells_whether_it_is_plain_in_names ∙ ascii_in_name c.args.c low }

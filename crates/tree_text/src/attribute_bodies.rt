@@ -1,0 +1,156 @@
+//! Bodies that spell the value of an attribute (application/xcap-att+xml; RFC 4825, section
+//! 15.2.2).
+ghost use Rattle.std.specs.Prelude.{◌≡◌, option_map, IfOk, IsTrue, Ok};
+ghost use Rattle.std.specs.Str.{chars};
+ghost use Rattle.xml_grammar.specs.readers.Functions.{read_whole};
+ghost use Rattle.xml_tree.specs.Characters.{all_chars};
+ghost use Rattle.tree_text.specs.Faults.{BodyAnswer, all_but_one, in_quotes, spelling_of, closing_len};
+ghost use Rattle.tree_text.specs.readers.Results.{Gives, GivesAll};
+ghost use Rattle.tree_text.specs.Grammar.{is_quote};
+ghost use Rattle.xml_tree.specs.Memory.{Answered};
+ghost use Rattle.tree_text.specs.readers.Texts.{read_spelling, read_plain, read_whole_reference};
+ghost use Rattle.tree_text.specs.readers.Whole.{BodyFaultOf, body_read};
+
+use crate::attribute_values::{is_quote, push_piece, push_raw, reference, reference_follows};
+use crate::character_classes::{Class, run};
+use crate::cursor::{is_over, split_first};
+use crate::fault::ValueFault;
+use crate::fault_places::place;
+use crate::parse_error::ParseError;
+use crate::text_buffers::no_text;
+use std::alloc::Global;
+use xml_tree::{ReadError, Text};
+
+/// A reference, read whole or not at all, and what follows it.
+fn whole_reference(text: &str) -> Result<(char, &str), ParseError<'_>>
+    ensures reads_rule { Gives (λ x. (x.0, chars x.1.now)) result
+        (read_whole_reference (chars text.now)) }
+{
+    match reference(text) {
+        Ok(read) => Ok(read),
+        Err(ParseError::Syntax(_)) => Err(ParseError::Syntax(text)),
+        Err(ParseError::Faulty(_, _)) => Err(ParseError::Syntax(text)),
+        Err(ParseError::Memory) => Err(ParseError::Memory),
+    }
+}
+
+/// Raw characters, possibly none, and what follows them.
+fn plain(text: &str) -> (&str, &str)
+    ensures reads_rule { read_plain (chars text.now) ≡ Ok (chars result.0.now, chars result.1.now) }
+{
+    run(text, Class::Raw)
+}
+
+/// The value that a spelling spells, and what follows it.
+fn read_body_value(alloc: Global, text: &str) -> Result<(Text, &str), ParseError<'_>>
+    ensures reads_rule { Gives (λ x. (x.0, chars x.1.now)) result (read_spelling (chars text.now)) }
+{
+    let mut value = no_text(alloc);
+    let (first, start) = plain(text);
+    push_raw(&mut value, first)?;
+    let mut rest = start;
+    for _ in 0..start.len() {
+        if !reference_follows(rest) {
+            break;
+        }
+        let (c, after) = whole_reference(rest)?;
+        let (more, after) = plain(after);
+        push_piece(&mut value, c, more)?;
+        rest = after;
+    }
+    Ok((value, rest))
+}
+
+/// The value that all of a spelling spells.
+fn all_spelled(alloc: Global, text: &str) -> Result<Text, ParseError<'_>>
+    ensures grammar_answer { GivesAll result (read_whole read_spelling (chars text.now)) }
+{
+    let (value, rest) = read_body_value(alloc, text)?;
+    if !is_over(rest) {
+        return Err(ParseError::Syntax(rest));
+    }
+    Ok(value)
+}
+
+/// The first of two parts of a text, if the second is exactly one character.
+fn all_but_one<'a>(front: &'a str, last: &str) -> Option<&'a str>
+    ensures exact { option_map (λ x. chars x.now) result
+        ≡ all_but_one (chars front.now) (chars last.now) }
+{
+    match split_first(last) {
+        Some((_, more)) => match split_first(more) {
+            Some(_) => None,
+            None => Some(front),
+        },
+        None => None,
+    }
+}
+
+/// The inside of a body between two quotes of one kind.
+fn in_quotes(body: &str) -> Option<&str>
+    ensures exact { option_map (λ inside. chars inside.now) result ≡ in_quotes (chars body.now) }
+{
+    match split_first(body) {
+        Some((quote, rest)) => {
+            if !is_quote(quote) {
+                return None;
+            }
+            let (inside, after) = run(rest, Class::Other(quote));
+            all_but_one(inside, after)
+        }
+        None => None,
+    }
+}
+
+/// The part of a body that spells its value, and how many bytes follow it.
+fn spelling_of(body: &str) -> (&str, usize)
+    ensures spelled_part { chars result.0.now ≡ spelling_of (chars body.now) }
+    ensures closing_length { result.1 ≡ closing_len (in_quotes (chars body.now)) }
+{
+    match in_quotes(body) {
+        Some(inside) => (inside, 1),
+        None => (body, 0),
+    }
+}
+
+/// The error for a stop in a body of these bytes, whose spelling is followed by `behind` bytes.
+fn error(bytes: &[u8], stop: ParseError<'_>, behind: usize) -> ReadError<ValueFault>
+    ensures body_fault { BodyFaultOf bytes.now behind stop.entry result }
+{
+    match stop {
+        ParseError::Syntax(rest) => {
+            ReadError::Fault(ValueFault::NotValue(place(bytes, rest).saturating_sub(behind)))
+        }
+        ParseError::Faulty(_, rest) => {
+            ReadError::Fault(ValueFault::NotValue(place(bytes, rest).saturating_sub(behind)))
+        }
+        ParseError::Memory => ReadError::NoMemory,
+    }
+}
+
+/// The value that the bytes of an attribute body spell: the value of an attribute, with or
+/// without its quotes.
+///
+/// # Errors
+/// `NotUtf8` where the bytes aren't UTF-8; else `NotValue` at the first `<`, `&` that begins no
+/// reference, or character that isn't a Char; `NoMemory` when out of memory.
+pub fn read_att_value(alloc: Global, bytes: &[u8]) -> Result<Text, ReadError<ValueFault>>
+    ensures grammar_answer { Answered (BodyAnswer bytes.now) result }
+    ensures allowed_chars { IfOk result (λ value. IsTrue (all_chars value)) }
+{
+    read_body(alloc, bytes)
+}
+
+/// The value that the bytes of a body spell.
+fn read_body(alloc: Global, bytes: &[u8]) -> Result<Text, ReadError<ValueFault>>
+    ensures grammar_answer { Answered (λ answer. answer ≡ body_read bytes.now) result }
+{
+    let Ok(text) = str::from_utf8(bytes) else {
+        return Err(ReadError::Fault(ValueFault::NotUtf8));
+    };
+    let (part, behind) = spelling_of(text);
+    match all_spelled(alloc, part) {
+        Ok(value) => Ok(value),
+        Err(stop) => Err(error(bytes, stop, behind)),
+    }
+}

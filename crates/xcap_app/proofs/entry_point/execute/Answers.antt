@@ -1,0 +1,41 @@
+use Rattle.std.proofs.Common.{List, ℕ, refl, subst}
+use Rattle.xcap_app.specs.KeepCommand.{KeepsCommand}
+use Rattle.xcap_app.specs.declared.command.Command.TheVariants.{Keep, Sample, Fetch, Put, Delete, Follow}
+use Rattle.xcap_app.proofs.Ends.{ran_as}
+use Rattle.xcap_app.proofs.entry_point.execute.Goals as goal
+
+pub returns-in-Fetch : goal.returns-in-Fetch
+returns-in-Fetch g c = record {
+  runs_command = ran_as g.W.Watchers.keeps c.args.command.now (Fetch c.in-Fetch.requester c.in-Fetch.path) c.run_fetch.result _ _ _ _ _ _ _ _ _ _ c.in-Fetch.is (c.run_fetch.ensures.runs_command, refl, refl, refl);
+}
+
+pub returns-in-Put : goal.returns-in-Put
+returns-in-Put g c = record {
+  runs_command = ran_as g.W.Watchers.keeps c.args.command.now (Put c.in-Put.requester c.in-Put.path c.in-Put.media) c.run_put.result _ _ _ _ _ _ _ _ _ _ c.in-Put.is (c.run_put.ensures.runs_command, refl, refl);
+}
+
+pub returns-in-Delete : goal.returns-in-Delete
+returns-in-Delete g c = record {
+  runs_command = ran_as g.W.Watchers.keeps c.args.command.now (Delete c.in-Delete.requester c.in-Delete.path) c.run_delete.result _ _ _ _ _ _ _ _ _ _ c.in-Delete.is (c.run_delete.ensures.runs_command, refl, refl, refl);
+}
+
+pub returns-in-Follow : goal.returns-in-Follow
+returns-in-Follow g c = record {
+  runs_command = ran_as g.W.Watchers.keeps c.args.command.now (Follow c.in-Follow.requester c.in-Follow.document c.in-Follow.rounds) c.run_follow.result _ _ _ _ _ _ _ _ _ _ c.in-Follow.is (c.run_follow.ensures.runs_command, refl, refl, refl);
+}
+
+pub returns-in-Keep : goal.returns-in-Keep
+returns-in-Keep g c = record {
+  runs_command =
+      ran_as g.W.Watchers.keeps c.args.command.now (Keep c.in-Keep.address c.in-Keep.root c.in-Keep.count) c.keep.result _ _ _ _ _ _ _ _ _ _ c.in-Keep.is (
+        subst (λ (address : List ℕ). KeepsCommand g.W.Watchers.keeps address c.in-Keep.root c.in-Keep.count c.keep.result (g.P.Line.state c.args.port.now) (g.P.Line.state c.keep.new.port)
+            (g.I.Line.state c.args.input.now) (g.I.Line.state c.keep.new.input) (g.O.Line.state c.args.output.now) (g.O.Line.state c.keep.new.output) c.args.watchers.now c.keep.new.watchers)
+            c.as_str-in-Keep.ensures.utf8_bytes c.keep.ensures.keeps_journal,
+        refl,
+      );
+}
+
+pub returns-in-Sample : goal.returns-in-Sample
+returns-in-Sample g c = record {
+  runs_command = ran_as g.W.Watchers.keeps c.args.command.now (Sample c.in-Sample.requests) c.sample.result _ _ _ _ _ _ _ _ _ _ c.in-Sample.is (c.sample.ensures.runs_sample, refl, refl, refl, refl);
+}

@@ -1,0 +1,12 @@
+use Rattle.xcap_app.proofs.Ends.{ran_told}
+use Rattle.xcap_app.proofs.entry_point.run.Goals as goal
+
+pub returns : goal.returns
+returns g c = record {
+  exit_status = (
+    c.tell_exit.result,
+    c.status.ensures.exact,
+    ran_told g.W.Watchers.keeps _ _ _ _ _ _ _ _ _ _ _ _ _ c.tell_exit.ensures.exit_reported c.execute_words-exit.ensures.runs_command,
+    c.tell_exit.ensures.writes_words,
+  );
+}

@@ -1,0 +1,69 @@
+-- What the commands of the client do, by how the run ends (RFC 4825, section 7). The commands are
+-- the project's own.
+use Rattle.std.specs.Prelude.{◌≡◌, ℕ, Bool, true, false, ◌&&◌, ◌∷◌, ◌++◌, List, Option, None, Some, is_some, Result, Ok, Err, encode_utf8_all, if◌then◌else◌}
+use Rattle.xcap_io.specs.Causes.{StreamState}
+use Rattle.doc_names.specs.Usages.{usage_of}
+use Rattle.doc_names.specs.declared.doc_id.DocId.{DocId}
+use Rattle.doc_names.specs.declared.doc_id.Home.{Home}
+use Rattle.doc_names.specs.declared.doc_id.Home.TheVariants.{Global, User}
+use Rattle.xcap_uri.specs.Roots.{slash}
+use Rattle.xcap_uri.specs.Targets.{TargetResult}
+use Rattle.xcap_uri.specs.declared.fault.UriFault.{UriFault}
+use Rattle.xcap_uri.specs.declared.target.Target.{Target}
+use Rattle.xcap_uri.specs.declared.target.Target.TheVariants.{Document}
+use Rattle.client_commands.specs.Follows.{Follows}
+use Rattle.client_commands.specs.Puts.{AsksNothing}
+use Rattle.client_commands.specs.declared.requester.Requester.{Requester}
+use Rattle.client_commands.specs.declared.command_end.CommandEnd.{CommandEnd}
+use Rattle.client_commands.specs.declared.command_end.CommandEnd.TheVariants as ends
+use Rattle.xcap_app.specs.Messages.{IsReportedAs}
+use Rattle.xcap_app.specs.declared.exit.Exit.{Exit}
+use Rattle.xcap_app.specs.declared.exit.Exit.TheVariants.{Done, Usage, InputFailed, OutputFailed, Refused, Client, OutOfMemory}
+use Rattle.xcap_app.specs.declared.refusal.Refusal.TheVariants.{TooLarge}
+
+-- how a run ends with a command of the client
+abbrev pub exit_of_client : CommandEnd → Exit
+exit_of_client ends.Done = Done
+exit_of_client ends.InputFailed = InputFailed
+exit_of_client ends.OutputFailed = OutputFailed
+exit_of_client ends.TooLarge = Refused TooLarge
+exit_of_client (ends.Failed fault) = Client fault
+exit_of_client ends.OutOfMemory = OutOfMemory
+
+-- The command did what it does where it ends so, and the exit says so, or that memory ran out for
+-- the message; or memory ran out before, and nothing was done.
+pub data RunsAs (Did : CommandEnd → Type 0) (Nothing : Type 0) (exit : Exit) : Type 0 where
+  ended_so : (ended : CommandEnd) → Did ended → IsReportedAs (exit_of_client ended) exit → RunsAs Did Nothing exit
+  lacks_memory : Nothing → exit ≡ OutOfMemory → RunsAs Did Nothing exit
+
+-- ---- the document of `follow`
+
+abbrev pub is_users : Home → Bool
+is_users Global = false
+is_users (User xui) = true
+
+-- the document of a target, where it can be followed: one under `users` of a usage whose documents
+-- are stored
+abbrev pub document_to_follow : Target → Option DocId
+document_to_follow (Document doc) = if is_some (usage_of doc.auid) && is_users doc.home then Some doc else None
+document_to_follow _ = None
+
+abbrev pub document_if_read : Result Target UriFault → Option DocId
+document_if_read (Ok target) = document_to_follow target
+document_if_read (Err fault) = None
+
+-- a target means this document under a root, or none that can be followed
+pub record MeansDocument (root target : List ℕ) (doc : Option DocId) : Type 0 where
+  pub answer : Result Target UriFault
+  pub by_rules : TargetResult root (encode_utf8_all target) answer
+  pub is : doc ≡ document_if_read answer
+
+-- After the root and a slash the text is a target that means a document, which was followed; or it
+-- means none, and the words spell no command; or memory ran out before that was known.
+pub data RunsFollow (requester : Requester) (document : List ℕ) (rounds : ℕ) (exit : Exit) (peer peer' output output' : StreamState) : Type 0 where
+  follows : (doc : DocId) → MeansDocument requester.root (requester.root ++ slash ∷ document) (Some doc)
+      → RunsAs (λ ended. Follows requester.root requester.user doc rounds ended peer peer' output output') (AsksNothing peer peer' output output') exit
+      → RunsFollow requester document rounds exit peer peer' output output'
+  means_none : MeansDocument requester.root (requester.root ++ slash ∷ document) None → exit ≡ Usage → AsksNothing peer peer' output output'
+      → RunsFollow requester document rounds exit peer peer' output output'
+  knows_nothing : exit ≡ OutOfMemory → AsksNothing peer peer' output output' → RunsFollow requester document rounds exit peer peer' output output'

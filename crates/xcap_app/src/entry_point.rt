@@ -1,0 +1,135 @@
+// The entry point.
+ghost use Rattle.std.specs.Prelude.{◌≡◌, None, Some, map, string_bytes};
+ghost use Rattle.xcap_app.specs.Commands.{command_of};
+ghost use Rattle.xcap_app.specs.Exits.{status_of, words_of};
+ghost use Rattle.xcap_app.specs.Runs.{Runs};
+ghost use Rattle.xcap_app.specs.Messages.{Tells};
+ghost use Rattle.xcap_app.specs.declared.exit.Exit.{Exit};
+
+use crate::arguments::command_of;
+use crate::asking::{run_delete, run_fetch, run_follow, run_put};
+use crate::check::check;
+use crate::command::Command;
+use crate::exit::Exit;
+use crate::keep::keep;
+use crate::replay::replay;
+use crate::report::tell_exit;
+use crate::sample::sample;
+use crate::serve::serve;
+use edit_ops::Edit;
+use std::alloc::Global;
+use watchers::Watchers;
+use xcap_io::{Line, Peer, Port, Sink, Source};
+
+fn execute<P: Port, C: Peer, I: Source, O: Sink, W: Watchers<Edit>>(
+    alloc: Global,
+    command: &Command,
+    port: &mut P,
+    peer: &mut C,
+    input: &mut I,
+    output: &mut O,
+    watchers: &mut W,
+) -> Exit
+    ensures runs_command { Runs W.keeps (Some command.now) result (P.state port.old)
+        (P.state port.new)
+        (C.state peer.old) (C.state peer.new) (I.state input.old) (I.state input.new)
+        (O.state output.old) (O.state output.new) watchers.old watchers.new }
+{
+    match command {
+        Command::Replay { root } => replay(alloc, root, input, output, watchers),
+        Command::Serve {
+            address,
+            root,
+            count,
+        } => serve(
+            alloc,
+            address.as_str(),
+            root,
+            *count,
+            port,
+            output,
+            watchers,
+        ),
+        Command::Keep {
+            address,
+            root,
+            count,
+        } => keep(
+            alloc,
+            address.as_str(),
+            root,
+            *count,
+            port,
+            input,
+            output,
+            watchers,
+        ),
+        Command::Check { usage } => check(alloc, *usage, input, output),
+        Command::Sample { requests } => sample(alloc, *requests, output),
+        Command::Fetch { requester, path } => run_fetch(alloc, requester, path, peer, output),
+        Command::Put {
+            requester,
+            path,
+            media,
+        } => { run_put(alloc, requester, path, media, peer, input, output) }
+        Command::Delete { requester, path } => run_delete(alloc, requester, path, peer, output),
+        Command::Follow {
+            requester,
+            document,
+            rounds,
+        } => run_follow(alloc, requester, document, *rounds, peer, output),
+    }
+}
+
+// Runs the command that the words spell, if they spell one.
+fn execute_words<P: Port, C: Peer, I: Source, O: Sink, W: Watchers<Edit>>(
+    alloc: Global,
+    words: &[String],
+    port: &mut P,
+    peer: &mut C,
+    input: &mut I,
+    output: &mut O,
+    watchers: &mut W,
+) -> Exit
+    ensures runs_command { Runs W.keeps (command_of (map string_bytes words.now)) result
+        (P.state port.old) (P.state port.new)
+        (C.state peer.old) (C.state peer.new) (I.state input.old) (I.state input.new)
+        (O.state output.old) (O.state output.new) watchers.old watchers.new }
+{
+    match command_of(alloc, words) {
+        Ok(Some(command)) => {
+            let exit = execute(alloc, &command, port, peer, input, output, watchers);
+            // Dropped by a call, whose proof is made once, rather than at each exit.
+            drop(command);
+            exit
+        }
+        Ok(None) => Exit::Usage,
+        Err(_) => Exit::OutOfMemory,
+    }
+}
+
+/// Runs the command that the words spell, which are the words of the command line without the
+/// program's name, and returns the status to exit with. What each command did, by how it ended, is
+/// defined by `Runs`; each status has its message on `errors`, and where `errors` fails, nothing
+/// else changes. For words that spell no command, it returns 2 and writes the usage line, and then
+/// nothing else is read, written, begun, requested or reported.
+pub fn run<P: Port, C: Peer, I: Source, O: Sink, E: Sink, W: Watchers<Edit>>(
+    alloc: Global,
+    words: &[String],
+    port: &mut P,
+    peer: &mut C,
+    input: &mut I,
+    output: &mut O,
+    errors: &mut E,
+    watchers: &mut W,
+) -> u8
+    ensures exit_status { (exit : Exit) × (result ≡ status_of exit)
+        × Runs W.keeps (command_of (map string_bytes words.now)) exit (P.state port.old)
+        (P.state port.new)
+        (C.state peer.old) (C.state peer.new) (I.state input.old) (I.state input.new)
+        (O.state output.old) (O.state output.new) watchers.old watchers.new
+        × Tells (words_of exit) (E.state errors.old) (E.state errors.new) }
+{
+    let exit = execute_words(alloc, words, port, peer, input, output, watchers);
+    tell_exit(alloc, errors, exit).status()
+}

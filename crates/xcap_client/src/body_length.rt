@@ -1,0 +1,98 @@
+// The length of a response's body (RFC 9112, section 6.3).
+ghost use Rattle.std.specs.Prelude.{◌≡◌, ℕ, List, [], ◌∷◌, All, map, length, IfErr, Some, None, if◌then◌else◌};
+ghost use Rattle.httparse.specs.Spans.{IsHeaderWithin, header_bytes};
+ghost use Rattle.http_wire.specs.Fields.{is_number, Found};
+ghost use Rattle.xcap_client.specs.inner.FillErrors.{IsOfFields};
+ghost use Rattle.xcap_client.specs.BodyLengths.{capped_value, within_limit, extent_by_length, extent_by};
+
+use crate::ResponseFault;
+use http_wire::{FieldLookup, find};
+use httparse::spans::HeaderSpan;
+
+/// The greatest length of a response's body, in bytes.
+pub const MAX_RESPONSE_BODY: usize = 16_777_216;
+
+// How far a body goes.
+#[derive(Clone, Copy)]
+pub enum BodyLength {
+    // There is none.
+    Empty,
+    // It has this many bytes.
+    Exactly(usize),
+    // It goes to the end of the connection's bytes.
+    ToEnd,
+}
+
+// The number that digits write, or the greatest `u64` where the number is greater.
+fn capped_number(digits: &[u8]) -> Option<u64>
+    ensures exact { result
+        ≡ (if is_number digits.now then Some (capped_value digits.now) else None) }
+{
+    if digits.is_empty() {
+        return None;
+    }
+    let mut value = 0_u64;
+    'digits: for digit in digits {
+        if !digit.is_ascii_digit() {
+            return None;
+        }
+        value = value
+            .saturating_mul(10)
+            .saturating_add(u64::from(*digit - b'0'));
+    }
+    Some(value)
+}
+
+fn within_limit(len: u64) -> Result<BodyLength, ResponseFault>
+    ensures fields_extent { result ≡ within_limit len }
+    ensures err_of_fields { IfErr result IsOfFields }
+{
+    if len > MAX_RESPONSE_BODY as u64 {
+        return Err(ResponseFault::TooLong(len));
+    }
+    Ok(BodyLength::Exactly(len as usize))
+}
+
+#[tactic(auto, unfolding(crate::specs::BodyLengths::extent_by_length))]
+fn length_once(bodiless: bool, value: &[u8]) -> Result<BodyLength, ResponseFault>
+    ensures fields_extent { result ≡ extent_by_length bodiless (value.now ∷ []) }
+    ensures err_of_fields { IfErr result IsOfFields }
+{
+    match capped_number(value) {
+        None => Err(ResponseFault::Length),
+        Some(_) if bodiless => Ok(BodyLength::Empty),
+        Some(len) => within_limit(len),
+    }
+}
+
+#[tactic(auto, unfolding(crate::specs::BodyLengths::extent_by_length))]
+fn extent_by_length(bodiless: bool, lengths: FieldLookup) -> Result<BodyLength, ResponseFault>
+    ensures err_of_fields { IfErr result IsOfFields }
+    ensures fields_extent { (values : List (List ℕ)) → Found lengths.entry values
+        → result ≡ extent_by_length bodiless values }
+{
+    match lengths {
+        FieldLookup::Absent if bodiless => Ok(BodyLength::Empty),
+        FieldLookup::Absent => Ok(BodyLength::ToEnd),
+        FieldLookup::Once(value) => length_once(bodiless, value),
+        FieldLookup::Repeated => Err(ResponseFault::Length),
+    }
+}
+
+// The length of the body after a head with this status.
+#[tactic(auto, unfolding(crate::specs::BodyLengths::extent_by))]
+pub fn read_body_length(
+    buf: &[u8],
+    headers: &[HeaderSpan],
+    status: u16,
+) -> Result<BodyLength, ResponseFault>
+    requires { All (IsHeaderWithin (length buf.now)) headers.now }
+    ensures err_of_fields { IfErr result IsOfFields }
+    ensures fields_extent { result ≡ extent_by status (map (header_bytes buf.now) headers.now) }
+{
+    let FieldLookup::Absent = find(buf, headers, b"transfer-encoding") else {
+        return Err(ResponseFault::Coding);
+    };
+    let bodiless = status == 204 || status == 304;
+    extent_by_length(bodiless, find(buf, headers, b"content-length"))
+}

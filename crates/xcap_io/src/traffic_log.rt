@@ -1,0 +1,47 @@
+// The traffic of a stream, for contracts alone. It occupies no memory, and its calls do nothing at
+// run time.
+ghost use Rattle.std.specs.Prelude.{◌≡◌};
+ghost use Rattle.std.specs.Borrow.{ftrue};
+ghost use Rattle.xcap_io.specs.Histories.{ConnectionHistory, no_history, with_end, with_given, with_next, with_taken};
+
+use std::marker::Model;
+
+/// What the calls on a stream have read and written so far, as contracts see it. Each call here
+/// accompanies the call that it records.
+#[derive(Drop)]
+pub struct TrafficLog {
+    pub ghost history: { ConnectionHistory },
+}
+
+impl Model for TrafficLog {
+    ghost also_owns = { λ _. ftrue };
+}
+
+impl TrafficLog {
+    /// An empty log.
+    pub fn new() -> TrafficLog
+        ensures empty_history { result.history ≡ no_history }
+    {
+        TrafficLog {}
+    }
+
+    /// A read gave these bytes; no bytes mean the end of the input.
+    pub fn gave(&mut self, _bytes: &[u8])
+        ensures given_is_logged { self.new.history ≡ with_given self.old.history _bytes.now }
+    {}
+
+    /// A write handed over these bytes.
+    pub fn took(&mut self, _bytes: &[u8])
+        ensures taken_is_logged { self.new.history ≡ with_taken self.old.history _bytes.now }
+    {}
+
+    /// The present connection ended, if there was one.
+    pub fn end(&mut self)
+        ensures connection_ended { self.new.history ≡ with_end self.old.history }
+    {}
+
+    /// A new connection began, after those that ended.
+    pub fn begin(&mut self)
+        ensures next_is_logged { self.new.history ≡ with_next self.old.history }
+    {}
+}

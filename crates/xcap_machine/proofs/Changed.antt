@@ -1,0 +1,26 @@
+-- The answer to a change, by what the store does with it and its contents afterwards.
+use Rattle.std.proofs.Common.{◌≡◌, Bool, Option, None, Some, Result, Ok, Err, refl}
+use Rattle.doc_names.specs.declared.doc_id.DocId.{DocId}
+use Rattle.edit_ops.specs.declared.change.Change.{Change}
+use Rattle.edit_ops.specs.Notes.{Note}
+use Rattle.store_core.specs.DocumentChanges.{act_of, against, answered, changing, content_after, document_in, stored_name, note_for}
+use Rattle.store_core.specs.declared.refusal.StoreRefusal.{StoreRefusal}
+use Rattle.store_core.specs.Contents.{StoreContents}
+use Rattle.reply_text.specs.ReplyHeads.{SentReply}
+use Rattle.xcap_machine.specs.Answers.{Answer, unchanged}
+use Rattle.xcap_machine.specs.DocumentWrites.{change_answer, refusal_reply}
+use Rattle.xcap_machine.specs.inner.Cases.{store_answer}
+
+-- the store refuses the change, or makes it with a record
+abbrev pub told_by_store : DocId → Bool → (Note → SentReply) → Result (Note × StoreContents) StoreRefusal → Answer
+told_by_store id closes reply (Err refusal) = unchanged (refusal_reply refusal closes)
+told_by_store id closes reply (Ok (note, next)) = record { reply = reply note; made = Some (id, note) }
+
+either_way : (id : DocId) (closes : Bool) (reply : Note → SentReply) (refusal : Option StoreRefusal) (note : Note) (next : StoreContents) → store_answer id closes reply refusal note ≡ told_by_store id closes reply (answered refusal note next)
+either_way id closes reply None note next = refl
+either_way id closes reply (Some refusal) note next = refl
+
+pub as_the_store : (c : StoreContents) (id : DocId) (change : Change) (closes : Bool) (reply : Note → SentReply) → change_answer c id change closes reply ≡ told_by_store id closes reply (changing c id change)
+as_the_store c id change closes reply =
+    let held = document_in stored_name c.documents id in
+    either_way id closes reply (against c id change held (act_of change)) (note_for c id change held) (content_after c id change)

@@ -1,0 +1,14 @@
+use Rattle.std.proofs.Common.{refl}
+use Rattle.xcap_uri.specs.Roots.{authority_of, path_of}
+use Rattle.xcap_machine.specs.Machine.{answer_as}
+use Rattle.store_core.specs.Contents.{stock_of}
+use Rattle.xcap_machine.proofs.Answered.{holds}
+use Rattle.xcap_machine.proofs.follow_laws.subscribers_hold_the_document.Goals as goal
+
+pub returns : goal.returns
+returns x = record {
+  held_after_answer = λ root c m request a is kept stands answers.
+      holds root ((x.roots_are_spelled_by_the_grammar.ensures.root_by_pieces root (authority_of root) (path_of root)).1 (is, refl, refl)) c m request a kept stands answers;
+  held_after_step = λ root m next request reply edit is step.
+      holds root ((x.roots_are_spelled_by_the_grammar.ensures.root_by_pieces root (authority_of root) (path_of root)).1 (is, refl, refl)) (stock_of m) m request (answer_as reply edit) step.0 refl step.1.answers;
+}

@@ -1,0 +1,5 @@
+use Rattle.xcap_machine.proofs.Effects.{put_is_there}
+use Rattle.xcap_machine.proofs.machine_laws.what_was_put_is_there.Goals as goal
+
+pub returns : goal.returns
+returns c = record { is_there = put_is_there }

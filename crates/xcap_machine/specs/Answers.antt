@@ -1,0 +1,48 @@
+-- The answer to a request: a reply, and the change of a document that is made, if there is one.
+-- RFC 4825, sections 8 and 11.
+use Rattle.std.specs.Prelude.{◌≡◌, ℕ, Bool, List, [], length, Option, None, Some, MatchOption}
+use Rattle.reply_bodies.specs.Conflicts.{conflict_bytes}
+use Rattle.reply_bodies.specs.declared.conflicts.ErrorBody.{ErrorBody}
+use Rattle.doc_names.specs.declared.doc_id.DocId.{DocId}
+use Rattle.edit_ops.specs.Notes.{Note}
+use Rattle.reply_text.specs.ReplyHeads.{SentReply, sent}
+use Rattle.reply_text.specs.declared.media_types.MediaType.{MediaType}
+use Rattle.reply_text.specs.declared.media_types.MediaType.TheVariants as media
+use Rattle.http_wire.specs.declared.request.Request.{Request}
+use Rattle.request_checks.specs.Conditions.{IsStop}
+
+-- a change that is made: the document's name, and the record of the change
+abbrev pub Made : Type 0
+Made = DocId × Note
+
+pub record Answer : Type 0 where
+  pub reply : SentReply
+  pub made : Option Made
+
+-- a reply alone: nothing is changed
+abbrev pub unchanged : SentReply → Answer
+unchanged reply = record { reply = reply; made = None }
+
+-- the reply of a request's conditions, or what follows where they pass: by the document's tag, if
+-- it is stored, whether the resource is there, and whether the request reads (RFC 9110, section
+-- 13.2)
+abbrev pub BehindConditions : Request → Option ℕ → Bool → Bool → Answer → Type 0 → Type 0
+BehindConditions request tag exists reading a GoesOn = (stop : Option SentReply) × IsStop request tag exists reading stop × MatchOption stop GoesOn (λ reply. a ≡ unchanged reply)
+
+-- ---- replies
+
+-- the resource doesn't allow the method (RFC 9110, section 15.5.6)
+abbrev pub not_allowed : Bool → Bool → SentReply
+not_allowed read_only closes = sent 405 None (Some read_only) None 0 closes []
+
+-- a conflict, with its error document (RFC 4825, section 11)
+abbrev pub conflict : ErrorBody → Bool → SentReply
+conflict body closes = sent 409 None None (Some media.Error) (length (conflict_bytes body)) closes (conflict_bytes body)
+
+-- a status with the tag of a document (RFC 4825, section 8.5)
+abbrev pub tagged : ℕ → ℕ → Bool → SentReply
+tagged status tag closes = sent status (Some tag) None None 0 closes []
+
+-- a text of this media type, with the document's tag, if it has one
+abbrev pub found : Option ℕ → MediaType → List ℕ → Bool → SentReply
+found tag m body closes = sent 200 tag None (Some m) (length body) closes body

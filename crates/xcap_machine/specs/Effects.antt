@@ -1,0 +1,142 @@
+-- What accepted requests leave in the store: those that make a change, which is an edit. RFC 4825,
+-- sections 8.2.3 and 8.2.4 (a GET of the same address gives what was put) and 8.4 (and nothing
+-- once it was deleted); RFC 9110, section 9.2.2 (PUT can be repeated without harm); RFC 4826,
+-- sections 3.4.5 and 4.4.5 (keys, by which addresses last).
+use Rattle.std.specs.Prelude.{◌≡◌, ℕ, nat_le, codes, List, [], map, Option, None, Some, IfSome, Ok, ◌+◌}
+use Rattle.std.specs.Bool.{MatchBool}
+use Rattle.xml_tree.specs.Tree.{Tree, at}
+use Rattle.xml_tree.specs.Limits.{max_levels, u64_max}
+use Rattle.tree_text.specs.Faults.{BodyAnswer, TextAnswer}
+use Rattle.node_select.specs.Selection.{Found, SelectsPath}
+use Rattle.node_select.specs.declared.selector.End.{End}
+use Rattle.node_select.specs.declared.selector.End.TheVariants.{Element, Attribute, Namespaces}
+use Rattle.node_select.specs.declared.selector.Selector.{Selector}
+use Rattle.edit_rules.specs.Attributes.{FindsValue}
+use Rattle.edit_rules.specs.Spots.{IsSpotOf}
+use Rattle.edit_rules.specs.declared.spot.Spot.{Spot}
+use Rattle.doc_names.specs.declared.doc_id.DocId.{DocId}
+use Rattle.xcap_uri.specs.Targets.{TargetResult}
+use Rattle.xcap_uri.specs.declared.target.Target.{Target}
+use Rattle.xcap_uri.specs.declared.target.Target.TheVariants.{Document, Node}
+use Rattle.http_wire.specs.declared.request.Request.{Request}
+use Rattle.request_checks.specs.Methods.{method_of}
+use Rattle.request_checks.specs.Rights.{fields_named}
+use Rattle.request_checks.specs.declared.method.Method.TheVariants.{Put, Delete}
+use Rattle.edit_ops.specs.declared.edit.Edit.{Edit}
+use Rattle.reply_text.specs.ReplyHeads.{plain}
+use Rattle.store_core.specs.Contents.{StoredDocument, StoreContents}
+use Rattle.store_core.specs.KeyAddresses.{KeepsAddressesOf}
+use Rattle.xcap_machine.specs.Answers.{Answer, unchanged}
+use Rattle.xcap_machine.specs.NodeWrites.{levels_for, scope_for}
+use Rattle.xcap_machine.specs.Machine.{content_after_answer}
+use Rattle.xcap_machine.specs.Requests.{IsAnswer}
+use Rattle.xcap_machine.specs.Resources.{version_of}
+
+-- ---- what was put is there
+
+-- the stored document has this tag afterwards, and is the tree that the body is parsed as
+pub record DocumentIsThere (next : StoreContents) (id : DocId) (tag : ℕ) (body : List ℕ) : Type 0 where
+  pub tree : Tree
+  pub spelled : TextAnswer max_levels [] body (Ok tree)
+  pub held : version_of next id ≡ Some (tree, tag)
+
+-- in the document afterwards, which has this tag, the selector selects exactly the element that
+-- the body is parsed as in the scope of the edit target that it had before
+pub record ElementIsThere (c next : StoreContents) (id : DocId) (tag : ℕ) (selector : Selector) (body : List ℕ) : Type 0 where
+  pub before : Tree
+  pub old_tag : ℕ
+  pub was_held : version_of c id ≡ Some (before, old_tag)
+  pub spot : Spot
+  pub is_spot : IsSpotOf before selector spot
+  pub element : Tree
+  pub spelled : TextAnswer (levels_for spot) (scope_for before spot) body (Ok element)
+  pub after : Tree
+  pub held : version_of next id ≡ Some (after, tag)
+  pub path : List ℕ
+  pub selects : SelectsPath selector.steps after path
+  pub there : at path after ≡ Some element
+
+-- in the document afterwards, which has this tag, the attribute that the selector finds has the
+-- value of the body
+pub record ValueIsThere (next : StoreContents) (id : DocId) (tag : ℕ) (selector : Selector) (uri local body : List ℕ) : Type 0 where
+  pub value : List ℕ
+  pub spelled : BodyAnswer body (Ok value)
+  pub after : Tree
+  pub held : version_of next id ≡ Some (after, tag)
+  pub path : List ℕ
+  pub finds : FindsValue selector.steps uri local after path value
+
+-- by what the selector ends in; namespace bindings are never put
+abbrev pub NodeIsThere : StoreContents → StoreContents → DocId → ℕ → Selector → End → List ℕ → Type 0
+NodeIsThere c next id tag selector Element body = ElementIsThere c next id tag selector body
+NodeIsThere c next id tag selector (Attribute uri local) body = ValueIsThere next id tag selector uri local body
+NodeIsThere c next id tag selector Namespaces body = ⊥
+
+-- by what was put: a document or a node of one
+abbrev pub TargetIsThere : StoreContents → StoreContents → Target → ℕ → List ℕ → Type 0
+TargetIsThere c next (Document id) tag body = DocumentIsThere next id tag body
+TargetIsThere c next (Node id selector) tag body = NodeIsThere c next id tag selector selector.end body
+TargetIsThere c next _ tag body = ⊥
+
+-- where a PUT made a change, from the contents before to the next ones, its address means a
+-- target, which is there as the body says
+abbrev pub PutIsThere : List ℕ → StoreContents → Request → Option Edit → StoreContents → Type 0
+PutIsThere root c request edit next =
+    IfSome edit (λ e. method_of request.method ≡ Put
+    → (target : Target) × TargetResult root request.target (Ok target) × TargetIsThere c next target e.note.next request.body)
+
+-- ---- what was deleted is gone
+
+-- in the document afterwards, which has this tag, the selector finds nothing
+pub record NodeIsGone (next : StoreContents) (id : DocId) (tag : ℕ) (selector : Selector) : Type 0 where
+  pub after : Tree
+  pub held : version_of next id ≡ Some (after, tag)
+  pub finds_nothing : Found after selector → ⊥
+
+-- by what was deleted: a document or a node of one
+abbrev pub TargetIsGone : StoreContents → Target → ℕ → Type 0
+TargetIsGone next (Document id) tag = version_of next id ≡ None
+TargetIsGone next (Node id selector) tag = NodeIsGone next id tag selector
+TargetIsGone next _ tag = ⊥
+
+-- where a DELETE made a change, its address means a target, and the next contents have nothing
+-- there
+abbrev pub DeletedIsGone : List ℕ → Request → Option Edit → StoreContents → Type 0
+DeletedIsGone root request edit next =
+    IfSome edit (λ e. method_of request.method ≡ Delete
+    → (target : Target) × TargetResult root request.target (Ok target) × TargetIsGone next target e.note.next)
+
+-- ---- a PUT once more
+
+-- the request has neither of the condition fields
+pub record IsUnconditional (request : Request) : Type 0 where
+  pub no_match : fields_named (codes "if-match") request.fields ≡ []
+  pub no_none_match : fields_named (codes "if-none-match") request.fields ≡ []
+
+-- the names and the trees of all stored documents
+abbrev pub name_and_tree : StoredDocument → DocId × Tree
+name_and_tree h = (h.id, h.tree)
+
+abbrev pub trees_of : StoreContents → List (DocId × Tree)
+trees_of c = map name_and_tree c.documents
+
+-- the answer leaves every tree unchanged and has the status 200; or, where the next number has
+-- more than 64 bits, it is 507 and changes nothing
+abbrev pub LeavesTrees : StoreContents → Request → Answer → Type 0
+LeavesTrees c request a =
+    MatchBool (nat_le (u64_max + 1) c.next)
+    (a ≡ unchanged (plain 507 request.closes))
+    ((a.reply.status ≡ 200) × (trees_of (content_after_answer c a.made) ≡ trees_of c))
+
+-- where a PUT without condition fields made a change, the answer to the same request on the
+-- contents afterwards leaves every tree unchanged
+abbrev pub SecondPutLeavesTrees : List ℕ → Request → Option Edit → StoreContents → Type 0
+SecondPutLeavesTrees root request edit next =
+    IfSome edit (λ e. method_of request.method ≡ Put → IsUnconditional request
+    → (again : Answer) → IsAnswer root next request again → LeavesTrees next request again)
+
+-- ---- addresses by keys
+
+-- where a change was made, it preserves what the key addresses of its document select
+abbrev pub KeyAddressesStay : StoreContents → Option Edit → StoreContents → Type 0
+KeyAddressesStay c edit next = IfSome edit (λ e. KeepsAddressesOf c e.doc e.note.change next)

@@ -1,0 +1,42 @@
+-- Flat lists: the addresses of a service, with all references resolved, as a document of lists.
+-- RFC 4826, section 4, defines services. That a flat list has an address, and that neither
+-- conditions nor tags apply to it, is this server's own.
+use Rattle.std.specs.Prelude.{◌≡◌, ℕ, List, None, Result, Ok, Err, encode_utf8_all}
+use Rattle.xml_tree.specs.Tree.{Tree}
+use Rattle.xml_tree.specs.Print.{document_print}
+use Rattle.doc_names.specs.declared.doc_id.DocId.{DocId}
+use Rattle.reply_text.specs.ReplyHeads.{plain}
+use Rattle.reply_text.specs.declared.media_types.MediaType.TheVariants as medias
+use Rattle.http_wire.specs.declared.request.Request.{Request}
+use Rattle.request_checks.specs.Methods.{for_method}
+use Rattle.request_checks.specs.declared.method.Method.{Method}
+use Rattle.store_core.specs.Contents.{StoreContents}
+use Rattle.list_resolve.specs.Documents.{flat_document}
+use Rattle.list_resolve.specs.Flat.{IsFlatList}
+use Rattle.list_resolve.specs.declared.fault.FlatFault.{FlatFault}
+use Rattle.list_resolve.specs.declared.fault.FlatFault.TheVariants.{NoService}
+use Rattle.xcap_machine.specs.Answers.{Answer, found, unchanged}
+
+-- the document of a flat list, or why there is none
+abbrev pub document_of : Result (List (List ℕ)) FlatFault → Result Tree FlatFault
+document_of (Ok uris) = flat_document uris
+document_of (Err fault) = Err fault
+
+-- the document, or why there is none, for the service with this address in this document
+abbrev pub IsFlatDocument : List ℕ → StoreContents → DocId → List ℕ → Result Tree FlatFault → Type 0
+IsFlatDocument root c id service answer = (list : Result (List (List ℕ)) FlatFault) × IsFlatList c root id service list × (answer ≡ document_of list)
+
+-- there is no such service; or there are too many references, or too many bytes in the document
+abbrev pub flat_status : FlatFault → ℕ
+flat_status NoService = 404
+flat_status _ = 507
+
+-- the document is sent, without a tag
+abbrev pub sends_flat : Result Tree FlatFault → Method → Request → Answer
+sends_flat (Ok t) method request = unchanged (for_method method (found None medias.ResourceLists (encode_utf8_all (document_print t)) request.closes))
+sends_flat (Err fault) method request = unchanged (plain (flat_status fault) request.closes)
+
+-- GET or HEAD of a flat list
+abbrev pub ReadsFlat : List ℕ → StoreContents → DocId → List ℕ → Method → Request → Answer → Type 0
+ReadsFlat root c id service method request a =
+    (answer : Result Tree FlatFault) × IsFlatDocument root c id service answer × (a ≡ sends_flat answer method request)

@@ -1,0 +1,16 @@
+pub mod Answers
+pub mod DocumentWrites
+pub mod Effects
+pub mod ElementFeeds
+pub mod Feeds
+pub mod FlatLists
+pub mod Laws
+pub mod Machine
+pub mod NodeWrites
+pub mod ReadRequests
+pub mod Requests
+pub mod Resources
+pub mod SubscriberVersions
+pub mod Subscribers
+pub mod Versions
+pub mod inner

@@ -1,0 +1,48 @@
+-- The abstract machine: a state has all documents with all their versions, and a step answers one
+-- request.
+use Rattle.std.specs.Prelude.{◌≡◌, ℕ, List, Option, None, Some, option_map}
+use Rattle.edit_ops.specs.declared.edit.Edit.{Edit}
+use Rattle.reply_text.specs.ReplyHeads.{SentReply}
+use Rattle.http_wire.specs.declared.request.Request.{Request}
+use Rattle.store_core.specs.DocumentChanges.{after, content_after}
+use Rattle.store_core.specs.Contents.{StoreContents, stock_of}
+use Rattle.store_core.specs.ValidStates.{IsValidState}
+use Rattle.store_core.specs.State.{State}
+use Rattle.xcap_machine.specs.Answers.{Answer, Made}
+use Rattle.xcap_machine.specs.Requests.{IsAnswer}
+
+-- the state after a change, if there is one
+abbrev pub after_answer : State → Option Made → State
+after_answer m None = m
+after_answer m (Some made) = after m made.0 made.1.change
+
+-- the change that watchers are notified of
+abbrev pub told_as : Edit → Made
+told_as e = (e.doc, e.note)
+
+-- the answer with a reply, and with the change of an edit, if there is one
+abbrev pub answer_as : SentReply → Option Edit → Answer
+answer_as reply edit = record { reply = reply; made = option_map told_as edit }
+
+-- The step of the machine of this root: in the state `m`, a request gets this reply, the machine
+-- is then in the state `next`, and watchers are notified of this edit, if a change was made.
+pub record Step (root : List ℕ) (m : State) (request : Request) (reply : SentReply) (next : State) (edit : Option Edit) : Type 0 where
+  pub answers : IsAnswer root (stock_of m) request (answer_as reply edit)
+  pub goes_on : next ≡ after_answer m (option_map told_as edit)
+
+-- a step from a valid state to a valid state
+abbrev pub ValidStep : List ℕ → State → Request → SentReply → State → Option Edit → Type 0
+ValidStep root m request reply next edit = IsValidState m × Step root m request reply next edit × IsValidState next
+
+-- ---- the step on store contents, on which alone an answer depends
+
+-- the contents after a change, if there is one
+abbrev pub content_after_answer : StoreContents → Option Made → StoreContents
+content_after_answer c None = c
+content_after_answer c (Some made) = content_after c made.0 made.1.change
+
+-- On the contents `c`, a request gets this reply, watchers are notified of this edit, if a change
+-- was made, and the contents are then `next`.
+pub record Does (root : List ℕ) (c : StoreContents) (request : Request) (reply : SentReply) (next : StoreContents) (edit : Option Edit) : Type 0 where
+  pub answers : IsAnswer root c request (answer_as reply edit)
+  pub goes_on : next ≡ content_after_answer c (option_map told_as edit)

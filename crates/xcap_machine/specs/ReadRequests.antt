@@ -1,0 +1,41 @@
+-- Requests that read. RFC 4825, section 8.3 (GET) with the conditions of RFC 9110, section 13. The
+-- tag of a node is the tag of its document (RFC 4825, sections 7.11 and 8.5).
+use Rattle.std.specs.Prelude.{◌≡◌, ℕ, true, List, Option, None, Some, encode_utf8_all}
+use Rattle.store_core.specs.Contents.{StoreContents}
+use Rattle.xml_tree.specs.Print.{document_print}
+use Rattle.node_select.specs.declared.selector.Selector.{Selector}
+use Rattle.doc_names.specs.declared.doc_id.DocId.{DocId}
+use Rattle.reply_text.specs.ReplyHeads.{plain}
+use Rattle.reply_text.specs.declared.media_types.MediaType.{MediaType}
+use Rattle.http_wire.specs.declared.request.Request.{Request}
+use Rattle.request_checks.specs.MediaTypes.{document_media}
+use Rattle.request_checks.specs.Methods.{for_method}
+use Rattle.request_checks.specs.declared.method.Method.{Method}
+use Rattle.reply_bodies.specs.Nodes.{encoded, found_text, node_media}
+use Rattle.xcap_machine.specs.Answers.{Answer, BehindConditions, found, unchanged}
+use Rattle.xcap_machine.specs.Resources.{IsResourceOf, Resource, absent, beyond_limit, there}
+
+-- what is found in a document with this tag is sent, unless a condition stops the request
+abbrev pub SendsFound : Option (List ℕ) → ℕ → MediaType → Method → Request → Answer → Type 0
+SendsFound None tag media method request a = a ≡ unchanged (plain 404 request.closes)
+SendsFound (Some text) tag media method request a =
+    BehindConditions request (Some tag) true true a (a ≡ unchanged (for_method method (found (Some tag) media text request.closes)))
+
+-- a document is sent
+abbrev pub SendsDocument : Resource → MediaType → Method → Request → Answer → Type 0
+SendsDocument absent media method request a = a ≡ unchanged (plain 404 request.closes)
+SendsDocument beyond_limit media method request a = a ≡ unchanged (plain 507 request.closes)
+SendsDocument (there t tag) media method request a = SendsFound (Some (encode_utf8_all (document_print t))) tag media method request a
+
+-- a node of a document is sent
+abbrev pub SendsNode : Resource → Selector → Method → Request → Answer → Type 0
+SendsNode absent selector method request a = a ≡ unchanged (plain 404 request.closes)
+SendsNode beyond_limit selector method request a = a ≡ unchanged (plain 507 request.closes)
+SendsNode (there t tag) selector method request a = SendsFound (encoded (found_text t selector)) tag (node_media selector.end) method request a
+
+-- GET or HEAD of a document, and of a node of one
+abbrev pub ReadsDocument : StoreContents → DocId → Method → Request → Answer → Type 0
+ReadsDocument c id method request a = (r : Resource) × IsResourceOf c id r × SendsDocument r (document_media id.auid) method request a
+
+abbrev pub ReadsNode : StoreContents → DocId → Selector → Method → Request → Answer → Type 0
+ReadsNode c id selector method request a = (r : Resource) × IsResourceOf c id r × SendsNode r selector method request a

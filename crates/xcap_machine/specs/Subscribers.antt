@@ -1,0 +1,43 @@
+-- The replica of a subscriber that applies a diff document. RFC 5874, section 3: a diff document
+-- has the changes between two entity tags.
+use Rattle.std.specs.Prelude.{◌≡◌, ℕ, ◌==◌, List, Some, Ok, decimal, slice_get, if◌then◌else◌}
+use Rattle.xml_tree.specs.Tree.{Tree}
+use Rattle.doc_names.specs.declared.doc_id.DocId.{DocId}
+use Rattle.xcap_uri.specs.Naming.{is_name_of}
+use Rattle.edit_ops.specs.Notes.{Note}
+use Rattle.patch_rules.specs.Replay.{CopyAnswer, Fetch, ReplicaContents, Patched, Replays, Same}
+use Rattle.patch_rules.specs.Replayed.{IsReadBack}
+use Rattle.store_core.specs.DocumentChanges.{document_in, document_name}
+use Rattle.store_core.specs.Contents.{Represents, StoreContents}
+use Rattle.store_core.specs.ValidStates.{IsValidState}
+use Rattle.store_core.specs.Since.{ReportedChanges, since}
+use Rattle.store_core.specs.State.{Document, State, Version, versions}
+
+-- store contents represent a valid state in which the document has this version, and have these
+-- change records since the version's tag
+pub record TellsSince (c : StoreContents) (m : State) (id : DocId) (d : Document) (from : Version) (ns : List Note) : Type 0 where
+  pub kept : IsValidState m
+  pub stands : Represents c m
+  pub there : document_in document_name m.documents id ≡ Some d
+  pub number : ℕ
+  pub is_version : slice_get (versions d) number ≡ Some from
+  pub told : since c id from.tag ≡ ReportedChanges ns
+
+-- the replica of a version: its tag, in digits, and its tree
+abbrev pub subscribed : Version → ReplicaContents
+subscribed v = Some (decimal v.tag, v.tree)
+
+-- from a version to another with the same tag nothing changed; to one with another tag the
+-- document was patched
+abbrev pub answer_between : Version → Version → CopyAnswer
+answer_between from to = if to.tag == from.tag then Same else Patched
+
+-- where the changes aren't sent, the document has to be fetched if its tag changed
+abbrev pub fetch_between : Version → Version → CopyAnswer
+fetch_between from to = if to.tag == from.tag then Same else Fetch (decimal to.tag)
+
+-- the text of a diff document is read back, and a replica with contents `held` that applies it
+-- gets the answer and the new contents
+pub record Brings (id : DocId) (notice : Tree) (held : ReplicaContents) (answer : CopyAnswer) (new : ReplicaContents) : Type 0 where
+  pub is_read : IsReadBack notice
+  pub is_applied : Replays (is_name_of id) notice held (Ok (answer, new))

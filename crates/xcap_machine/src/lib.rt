@@ -1,0 +1,29 @@
+//! The abstract machine: for each request in a state of the documents the one allowed reply and
+//! the next state; and its laws. No code.
+//! Promises upward one meaning for the crates that read, write and serve (`Step`, `IsAnswer`):
+//! exactly one answer to each request, no change by a refused one, valid states alone
+//! (`each_request_has_one_answer`, `what_is_refused_changes_nothing`, `every_state_stays_valid`), and
+//! subscribers that have the server's document (`notices_are_applied_in_order`).
+//! The standards are RFC 4825 (sections 6 to 8, 11), 4826 (4.4), 9110 (13), 5874 and 5875.
+//! Replies are parts here, not bytes: `InBytes` of `http_serve` makes bytes of them. An answer
+//! depends on what is stored now; the next state has all versions.
+#![tactic(auto)]
+
+mod follow_laws;
+mod machine_laws;
+mod memory;
+mod replay_laws;
+
+pub use follow_laws::{
+    a_tag_means_one_version, notices_are_applied_in_order, subscribers_hold_the_document,
+};
+pub use machine_laws::{
+    a_second_put_leaves_every_tree, each_reply_closes_as_its_request, each_request_has_one_answer,
+    every_state_stays_valid, key_addresses_keep_their_elements, targets_may_be_written,
+    what_is_held_follows_the_machine, what_is_refused_changes_nothing, what_was_deleted_is_gone,
+    what_was_put_is_there,
+};
+pub use memory::no_answer_is_503;
+pub use replay_laws::{
+    notes_are_told_since_a_version, removed_documents_are_dropped, versions_are_replayed,
+};

@@ -1,0 +1,117 @@
+//! Laws of the machine, each the contract of a function that does nothing.
+ghost use Rattle.std.specs.Prelude.{◌≡◌, ℕ, ◌+◌, ◌≤◌, true, false, List, Option, Ok, IsSome};
+ghost use Rattle.http_wire.specs.declared.request.Request.{Request};
+ghost use Rattle.edit_ops.specs.declared.edit.Edit.{Edit};
+ghost use Rattle.reply_text.specs.ReplyHeads.{SentReply};
+ghost use Rattle.request_checks.specs.Methods.{method_of};
+ghost use Rattle.store_core.specs.Contents.{Represents, StoreContents};
+ghost use Rattle.store_core.specs.ValidStates.{IsValidState};
+ghost use Rattle.store_core.specs.State.{State};
+ghost use Rattle.xcap_uri.specs.Targets.{TargetResult};
+ghost use Rattle.xcap_uri.specs.declared.target.Target.{Target};
+ghost use Rattle.xcap_machine.specs.Answers.{Answer};
+ghost use Rattle.xcap_machine.specs.Effects.{DeletedIsGone, KeyAddressesStay, PutIsThere, SecondPutLeavesTrees};
+ghost use Rattle.xcap_machine.specs.Machine.{Does, ValidStep, Step};
+ghost use Rattle.xcap_machine.specs.Requests.{IsAnswer, IsWritableTarget};
+ghost use Rattle.xcap_machine.specs.Laws.{AllowsOne, ChangesNothing, HasStep, tells_change};
+
+/// A law: under each root, a request has exactly one answer on given store contents: one reply,
+/// and one change or none. So it leaves one possible contents; and from each state the machine
+/// makes exactly one step: the reply, the next state, and the edit, if there is one.
+pub fn each_request_has_one_answer()
+    ensures answer_exists { (root : List ℕ) (c : StoreContents) (request : Request)
+        → (a : Answer) × IsAnswer root c request a }
+    ensures answers_are_one { (root : List ℕ) (c : StoreContents) (request : Request) (a b : Answer)
+        → IsAnswer root c request a → IsAnswer root c request b → a ≡ b }
+    ensures one_outcome { (root : List ℕ) (c : StoreContents) (request : Request)
+        → AllowsOne (Does root c request) }
+    ensures step_exists { (root : List ℕ) (m : State) (request : Request)
+        → HasStep root m request }
+    ensures steps_are_one { (root : List ℕ) (m : State) (request : Request)
+        → AllowsOne (Step root m request) }
+{}
+
+/// A law: a step whose status reports no change leaves the state unchanged and has no edit; so
+/// does each step whose status is 300 or more, as 304, 4xx and 5xx are. A step whose status
+/// reports a change takes one number and has an edit.
+pub fn what_is_refused_changes_nothing()
+    ensures unnotified_unchanged { (root : List ℕ) (m : State) (request : Request)
+        (reply : SentReply) (next : State) (edit : Option Edit)
+        → Step root m request reply next edit
+        → tells_change (method_of request.method) reply.status ≡ false
+        → ChangesNothing m next edit }
+    ensures refused_unchanged { (root : List ℕ) (m : State) (request : Request)
+        (reply : SentReply) (next : State) (edit : Option Edit)
+        → Step root m request reply next edit → 300 ≤ reply.status
+        → ChangesNothing m next edit }
+    ensures reported_takes_number { (root : List ℕ) (m : State) (request : Request)
+        (reply : SentReply) (next : State) (edit : Option Edit)
+        → Step root m request reply next edit
+        → tells_change (method_of request.method) reply.status ≡ true
+        → IsSome edit × (next.next ≡ m.next + 1) }
+{}
+
+/// A law: each step from a valid state leads to a valid state.
+pub fn every_state_stays_valid()
+    ensures next_is_valid { (root : List ℕ) (m : State) (request : Request)
+        (reply : SentReply) (next : State) (edit : Option Edit)
+        → IsValidState m → Step root m request reply next edit → IsValidState next }
+{}
+
+/// A law: a reply closes the connection exactly where its request does.
+pub fn each_reply_closes_as_its_request()
+    ensures closes_alike { (root : List ℕ) (c : StoreContents) (request : Request) (a : Answer)
+        → IsAnswer root c request a → a.reply.closes ≡ request.closes }
+{}
+
+/// A law: where store contents represent a valid state, what is done on them is a step of the
+/// machine from that state to a valid one, which the contents afterwards represent.
+pub fn what_is_held_follows_the_machine()
+    ensures represents_after { (root : List ℕ) (c next : StoreContents) (m : State)
+        (request : Request) (reply : SentReply) (edit : Option Edit)
+        → Does root c request reply next edit → IsValidState m → Represents c m
+        → (after : State) × ValidStep root m request reply after edit × Represents next after }
+{}
+
+/// A law: after an accepted PUT the address selects exactly what was put, as the body is parsed at
+/// its place; and the document has the tag of the edit.
+pub fn what_was_put_is_there()
+    ensures is_there { (root : List ℕ) (c next : StoreContents) (request : Request)
+        (reply : SentReply)
+        (edit : Option Edit) → Does root c request reply next edit
+        → PutIsThere root c request edit next }
+{}
+
+/// A law: after an accepted DELETE the address selects nothing.
+pub fn what_was_deleted_is_gone()
+    ensures deleted_is_gone { (root : List ℕ) (c next : StoreContents) (request : Request)
+        (reply : SentReply)
+        (edit : Option Edit) → Does root c request reply next edit
+        → DeletedIsGone root request edit next }
+{}
+
+/// A law: where a PUT without condition fields was accepted, the same request leaves every tree
+/// unchanged and gets the status 200; or 507, and nothing is changed, exactly where the greatest
+/// number has been given.
+pub fn a_second_put_leaves_every_tree()
+    ensures leaves_trees { (root : List ℕ) (c next : StoreContents) (request : Request)
+        (reply : SentReply)
+        (edit : Option Edit) (m : State) → IsValidState m → Represents c m
+        → Does root c request reply next edit → SecondPutLeavesTrees root request edit next }
+{}
+
+/// A law: each change that the machine makes of a document that was stored, and still is,
+/// preserves what key addresses select. An address that selected an element selects it where the
+/// change moves it, if it is still there and no key on the way to it is written or removed.
+pub fn key_addresses_keep_their_elements()
+    ensures keeps_elements { (root : List ℕ) (c next : StoreContents) (request : Request)
+        (reply : SentReply)
+        (edit : Option Edit) (m : State) → IsValidState m → Represents c m
+        → Does root c request reply next edit → KeyAddressesStay c edit next }
+{}
+
+/// A law: where the address of a request ends in an attribute, the attribute is writable.
+pub fn targets_may_be_written()
+    ensures writable_target { (root target : List ℕ) (t : Target) → TargetResult root target (Ok t)
+        → IsWritableTarget t }
+{}

@@ -1,0 +1,81 @@
+//! Decisions on changes of documents: prepared with all their memory, or refused.
+ghost use Rattle.std.specs.Prelude.{◌≡◌, IfOk, if◌then◌else◌};
+ghost use Rattle.store_core.specs.Queries.{Asks};
+ghost use Rattle.xcap_machine.specs.Answers.{tagged};
+ghost use Rattle.xcap_machine.specs.DocumentWrites.{change_answer, put_reply};
+ghost use Rattle.xcap_put.specs.Decisions.{Decides};
+ghost use Rattle.xcap_put.specs.inner.Planning.{AsksBy, answer_by};
+
+use crate::plan::Plan;
+use crate::refusal_replies::refusal_reply;
+use crate::{Decision, NoMemory};
+use doc_names::DocId;
+use edit_ops::Change;
+use reply_text::Reply;
+use std::alloc::Global;
+use store_core::Store;
+use xcap_io::Bytes;
+
+// The reply to a PUT: 200 where something was there, else 201.
+fn put_reply(alloc: Global, exists: bool, tag: u64, closes: bool) -> Reply
+    ensures exact { result ≡ tagged (if exists then 200 else 201) tag closes }
+{
+    if exists {
+        return Reply::with(200, Some(tag), None, Bytes::new(alloc), closes);
+    }
+    Reply::with(201, Some(tag), None, Bytes::new(alloc), closes)
+}
+
+/// Decides a change of a document. The reply has the document's new tag: 201 where what is written
+/// is new, and 200 where it replaces something. A change that the store refuses gets 409 where a
+/// service address is another document's, 507 beyond a limit.
+///
+/// # Errors
+/// `NoMemory` when out of memory.
+pub(crate) fn decide_change(
+    alloc: Global,
+    store: &mut Store,
+    doc: DocId,
+    change: Change,
+    exists: bool,
+    closes: bool,
+) -> Result<Decision, NoMemory>
+    requires change_asked { Asks store.old.content doc change }
+    ensures decides_change { IfOk result (λ d.
+        Decides (λ a. a ≡ change_answer store.old.content doc change closes
+        (put_reply exists closes)) store.new d) }
+    ensures contents_unchanged { store.new.content ≡ store.old.content }
+{
+    match store.prepare(doc, change)? {
+        Ok(prepared) => Ok(Decision::Changes {
+            reply: put_reply(alloc, exists, prepared.note().next(), closes),
+            prepared,
+        }),
+        Err(refusal) => {
+            let reply = refusal_reply(alloc, refusal, closes)?;
+            Ok(Decision::Stays(reply))
+        }
+    }
+}
+
+/// Decides by a plan.
+///
+/// # Errors
+/// `NoMemory` when out of memory.
+pub(crate) fn decide_plan(
+    alloc: Global,
+    store: &mut Store,
+    doc: DocId,
+    plan: Plan,
+    closes: bool,
+) -> Result<Decision, NoMemory>
+    requires change_asked { AsksBy store.old.content doc plan }
+    ensures decides_by_plan { IfOk result
+        (λ d. Decides (λ a. a ≡ answer_by store.old.content doc closes plan) store.new d) }
+    ensures contents_unchanged { store.new.content ≡ store.old.content }
+{
+    match plan {
+        Plan::Stops(reply) => Ok(Decision::Stays(reply)),
+        Plan::Makes { change, exists } => decide_change(alloc, store, doc, change, exists, closes),
+    }
+}

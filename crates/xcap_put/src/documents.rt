@@ -1,0 +1,183 @@
+//! PUT and DELETE of documents (RFC 4825, sections 8.2 and 8.4).
+ghost use Rattle.std.specs.Prelude.{◌≡◌, false, IfOk, Some};
+ghost use Rattle.doc_names.specs.Ids.{IsAddressable};
+ghost use Rattle.doc_names.specs.Usages.{usage_of};
+ghost use Rattle.edit_ops.specs.declared.change.Change.TheVariants as changes;
+ghost use Rattle.store_core.specs.Queries.{Asks, MayBe};
+ghost use Rattle.store_core.specs.ValidStates.{IsUserDocument};
+ghost use Rattle.request_checks.specs.MediaTypes.{document_media};
+ghost use Rattle.xcap_machine.specs.Resources.{version_of};
+ghost use Rattle.xcap_machine.specs.DocumentWrites.{DeletesDocument, PutsBody, PutsDocument, change_answer, deleted_reply, put_answer, put_change};
+ghost use Rattle.xcap_machine.specs.inner.Cases.{version_tag};
+ghost use Rattle.xcap_put.specs.Decisions.{Decides};
+
+use crate::decisions::decide_change;
+use crate::refusal_replies::refusal_reply;
+use crate::request_bodies::{Body, body_of};
+use crate::{Decision, NoMemory};
+use doc_names::{DocId, Usage};
+use edit_ops::Change;
+use http_wire::Request;
+use reply_text::Reply;
+use request_checks::{condition_reply, document_media};
+use std::alloc::Global;
+use store_core::Store;
+use xml_tree::{Element, Path};
+
+// The tag of a document, if it is stored.
+fn tag_of(store: &Store, doc: &DocId) -> Option<u64>
+    ensures exact { result ≡ version_tag (version_of store.now.content doc.now) }
+{
+    let (_, tag) = store.get(doc)?;
+    Some(tag)
+}
+
+// ---- PUT
+
+// The change of a PUT of a document: it replaces the stored one, or it is new.
+fn put_change(exists: bool, root: Element) -> Change
+    ensures replaces_or_creates { result ≡ put_change exists root }
+{
+    if exists {
+        return Change::Replace {
+            at: Path::root(),
+            element: root,
+        };
+    }
+    Change::CreateDocument { root }
+}
+
+// Puts a tree that is a document of its usage.
+fn put_tree(
+    alloc: Global,
+    store: &mut Store,
+    doc: DocId,
+    usage: Usage,
+    root: Element,
+    closes: bool,
+) -> Result<Decision, NoMemory>
+    requires readable { IsAddressable doc }
+    requires user_document { IsUserDocument doc.home }
+    requires usage_of_doc { usage_of doc.auid ≡ Some usage }
+    requires may_be { MayBe usage root }
+    ensures decides_put { IfOk result
+        (λ d. Decides (λ a. a ≡ put_answer store.old.content doc closes root) store.new d) }
+    ensures contents_unchanged { store.new.content ≡ store.old.content }
+{
+    let exists = tag_of(store, &doc).is_some();
+    decide_change(alloc, store, doc, put_change(exists, root), exists, closes)
+}
+
+// Puts a document after the conditions passed.
+fn put_body(
+    alloc: Global,
+    store: &mut Store,
+    doc: DocId,
+    usage: Usage,
+    request: &Request,
+) -> Result<Decision, NoMemory>
+    requires readable { IsAddressable doc }
+    requires user_document { IsUserDocument doc.home }
+    requires usage_of_doc { usage_of doc.auid ≡ Some usage }
+    ensures decides_by_body { IfOk result (λ d.
+        Decides (PutsBody usage (document_media doc.auid) request.now
+        (put_answer store.old.content doc request.now.closes)) store.new d) }
+    ensures contents_unchanged { store.new.content ≡ store.old.content }
+{
+    let media = document_media(doc.auid);
+    match body_of(alloc, usage, media, request)? {
+        Body::Refused(reply) => Ok(Decision::Stays(reply)),
+        Body::Document(root) => put_tree(alloc, store, doc, usage, root, request.closes),
+    }
+}
+
+/// Decides a PUT of a document of this usage: 201 where it is new and 200 where it replaces the
+/// stored one, both with the new tag. Replies without a change: 400 or 412 for the conditions, 415
+/// for the media type, 409 where the text is no document of the usage or a service address in it
+/// is another document's, 507 beyond a limit.
+///
+/// # Errors
+/// `NoMemory` when out of memory.
+pub fn put_document(
+    alloc: Global,
+    store: &mut Store,
+    doc: DocId,
+    usage: Usage,
+    request: &Request,
+) -> Result<Decision, NoMemory>
+    requires readable { IsAddressable doc }
+    requires user_document { IsUserDocument doc.home }
+    requires usage_of_doc { usage_of doc.auid ≡ Some usage }
+    ensures decides_put { IfOk result
+        (λ d. Decides (PutsDocument store.old.content doc usage request.now) store.new d) }
+    ensures contents_unchanged { store.new.content ≡ store.old.content }
+{
+    let tag = tag_of(store, &doc);
+    match condition_reply(alloc, request, tag, tag.is_some(), false)? {
+        Some(reply) => Ok(Decision::Stays(reply)),
+        None => put_body(alloc, store, doc, usage, request),
+    }
+}
+
+// ---- DELETE
+
+// Removes a stored document.
+fn remove(alloc: Global, store: &mut Store, doc: DocId, closes: bool) -> Result<Decision, NoMemory>
+    requires stored_there { Asks store.old.content doc changes.RemoveDocument }
+    ensures decides_removal { IfOk result (λ d.
+        Decides (λ a. a ≡ change_answer store.old.content doc changes.RemoveDocument closes
+        (deleted_reply closes)) store.new d) }
+    ensures contents_unchanged { store.new.content ≡ store.old.content }
+{
+    match store.prepare(doc, Change::RemoveDocument)? {
+        Ok(prepared) => Ok(Decision::Changes {
+            reply: Reply::fixed(200, closes),
+            prepared,
+        }),
+        Err(refusal) => {
+            let reply = refusal_reply(alloc, refusal, closes)?;
+            Ok(Decision::Stays(reply))
+        }
+    }
+}
+
+// Decides a DELETE of a stored document with this tag.
+fn delete_stored_document(
+    alloc: Global,
+    store: &mut Store,
+    doc: DocId,
+    tag: u64,
+    request: &Request,
+) -> Result<Decision, NoMemory>
+    requires tag_of_version { Some tag ≡ version_tag (version_of store.old.content doc) }
+    ensures decides_removal { IfOk result
+        (λ d. Decides (DeletesDocument store.old.content doc request.now) store.new d) }
+    ensures contents_unchanged { store.new.content ≡ store.old.content }
+{
+    match condition_reply(alloc, request, Some(tag), true, false)? {
+        Some(reply) => Ok(Decision::Stays(reply)),
+        None => remove(alloc, store, doc, request.closes),
+    }
+}
+
+/// Decides a DELETE of a document: 200, without a tag. Replies without a change: 404 where the
+/// document isn't stored, 400 or 412 for the conditions, 507 where the greatest number has been
+/// given.
+///
+/// # Errors
+/// `NoMemory` when out of memory.
+pub fn delete_document(
+    alloc: Global,
+    store: &mut Store,
+    doc: DocId,
+    request: &Request,
+) -> Result<Decision, NoMemory>
+    ensures decides_removal { IfOk result
+        (λ d. Decides (DeletesDocument store.old.content doc request.now) store.new d) }
+    ensures contents_unchanged { store.new.content ≡ store.old.content }
+{
+    match tag_of(store, &doc) {
+        Some(tag) => delete_stored_document(alloc, store, doc, tag, request),
+        None => Ok(Decision::Stays(Reply::fixed(404, request.closes))),
+    }
+}

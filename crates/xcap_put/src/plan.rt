@@ -1,0 +1,38 @@
+//! The plan of a request on a node, before the store is asked (RFC 4825, sections 8.2 and 8.4).
+ghost use Rattle.std.specs.Prelude.{IfOk};
+ghost use Rattle.xcap_put.specs.inner.Planning.{IsPlanOf};
+
+use crate::NoMemory;
+use crate::refusal_replies::unplanned;
+use edit_ops::Change;
+use edit_plans::EditRefusal;
+use reply_text::Reply;
+use std::alloc::Global;
+
+/// The plan of a request on a node, before the store is asked.
+#[derive(Drop)]
+pub(crate) enum Plan {
+    /// The request gets this reply, and changes nothing.
+    Stops(Reply),
+    /// The store is asked for this change; `exists` where the node that is written is there
+    /// already.
+    Makes { change: Change, exists: bool },
+}
+
+/// The plan of a planned change, or of the reason why there is none.
+pub(crate) fn plan_of(
+    alloc: Global,
+    planned: Result<Change, EditRefusal>,
+    exists: bool,
+    closes: bool,
+) -> Result<Plan, NoMemory>
+    ensures exact_plan { IfOk result (λ plan. IsPlanOf planned exists closes plan) }
+{
+    match planned {
+        Ok(change) => Ok(Plan::Makes { change, exists }),
+        Err(why) => {
+            let reply = unplanned(alloc, why, closes)?;
+            Ok(Plan::Stops(reply))
+        }
+    }
+}

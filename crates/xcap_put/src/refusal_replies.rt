@@ -1,0 +1,61 @@
+//! Replies to changes that aren't made (RFC 4825, section 11; RFC 4918, section 11.5).
+ghost use Rattle.std.specs.Prelude.{◌≡◌, IfOk};
+ghost use Rattle.xcap_machine.specs.Answers.{conflict};
+ghost use Rattle.xcap_machine.specs.NodeWrites.{plan_refused};
+ghost use Rattle.xcap_machine.specs.DocumentWrites.{clash_field, fault_conflict, refusal_reply};
+ghost use Rattle.reply_bodies.specs.declared.conflicts.ErrorBody.TheVariants as conflicts;
+
+use crate::NoMemory;
+use crate::conflicts::{conflict, fault_conflict, uniqueness};
+use edit_plans::EditRefusal;
+use reply_bodies::ErrorBody;
+use reply_text::Reply;
+use std::alloc::Global;
+use store_core::StoreRefusal;
+use usage_docs::{Clash, Fault};
+
+// The reply where another document has a service address.
+fn taken_address_reply(alloc: Global, clash: Clash, closes: bool) -> Result<Reply, NoMemory>
+    ensures ok { IfOk result
+        (λ reply. reply ≡ conflict (conflicts.Unique (clash_field clash)) closes) }
+{
+    let body = uniqueness(alloc, &clash)?;
+    conflict(alloc, &body, closes)
+}
+
+/// The reply to a change that the store refuses: a conflict, or 507 beyond a limit.
+pub(crate) fn refusal_reply(
+    alloc: Global,
+    refusal: StoreRefusal,
+    closes: bool,
+) -> Result<Reply, NoMemory>
+    ensures ok { IfOk result (λ reply. reply ≡ refusal_reply refusal closes) }
+{
+    match refusal {
+        StoreRefusal::ServiceTaken(clash) => taken_address_reply(alloc, clash, closes),
+        StoreRefusal::TooLarge(_) => Ok(Reply::fixed(507, closes)),
+        StoreRefusal::TooMany => Ok(Reply::fixed(507, closes)),
+        StoreRefusal::StoreFull(_) => Ok(Reply::fixed(507, closes)),
+        StoreRefusal::NoNumber => Ok(Reply::fixed(507, closes)),
+    }
+}
+
+// The reply to a change that would give a document this fault.
+fn faulty(alloc: Global, fault: Fault, closes: bool) -> Result<Reply, NoMemory>
+    ensures fault_reply { IfOk result (λ reply. reply ≡ conflict (fault_conflict fault) closes) }
+{
+    let body = fault_conflict(alloc, &fault)?;
+    conflict(alloc, &body, closes)
+}
+
+/// The reply to a change of a node for which there is no planned change.
+pub(crate) fn unplanned(alloc: Global, why: EditRefusal, closes: bool) -> Result<Reply, NoMemory>
+    ensures ok { IfOk result (λ reply. reply ≡ plan_refused why closes) }
+{
+    match why {
+        EditRefusal::NotFound => Ok(Reply::fixed(404, closes)),
+        EditRefusal::CannotInsert => conflict(alloc, &ErrorBody::CannotInsert, closes),
+        EditRefusal::CannotDelete => conflict(alloc, &ErrorBody::CannotDelete, closes),
+        EditRefusal::Faulty(fault) => faulty(alloc, fault, closes),
+    }
+}

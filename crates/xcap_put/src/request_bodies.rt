@@ -1,0 +1,108 @@
+//! The body of a PUT of a document (RFC 4825, section 8.2.2).
+ghost use Rattle.std.specs.Prelude.{◌≡◌, ◌≤◌, [], IfOk, Ok};
+ghost use Rattle.xml_tree.specs.Limits.{max_levels};
+ghost use Rattle.xml_tree.specs.Proper.{ProperIn};
+ghost use Rattle.xml_tree.specs.Tree.{height};
+ghost use Rattle.reply_bodies.specs.declared.conflicts.ErrorBody.TheVariants as conflicts;
+ghost use Rattle.xcap_machine.specs.Answers.{conflict};
+ghost use Rattle.xcap_machine.specs.DocumentWrites.{PutsBody, PutsSpelled, text_conflict};
+ghost use Rattle.xcap_machine.specs.inner.Cases.{PutsText};
+ghost use Rattle.xcap_put.specs.inner.Bodies.{Comes};
+
+use crate::NoMemory;
+use crate::conflicts::{conflict, fault_conflict};
+use doc_names::Usage;
+use http_wire::Request;
+use reply_bodies::ErrorBody;
+use reply_text::{MediaType, Reply};
+use request_checks::has_type;
+use std::alloc::Global;
+use tree_text::{TextFault, read_document};
+use usage_docs::first_fault;
+use xml_tree::{Element, MAX_LEVELS, ReadError};
+
+/// The body of a PUT, as it was read.
+#[derive(Drop)]
+pub(crate) enum Body {
+    /// It is refused with this reply.
+    Refused(Reply),
+    /// It is parsed as this tree, which is a document of the usage.
+    Document(Element),
+}
+
+/// The error for a text that can't be parsed: `malformed`, unless the text isn't UTF-8.
+pub(crate) fn text_conflict(malformed: ErrorBody, fault: TextFault) -> ErrorBody
+    ensures fault_reply { result ≡ text_conflict malformed fault }
+{
+    match fault {
+        TextFault::NotUtf8 => ErrorBody::NotUtf8,
+        TextFault::NotWellFormed(_) => malformed,
+        TextFault::Namespace(_) => malformed,
+        TextFault::RepeatedAttribute(_) => malformed,
+        TextFault::TooDeep(_) => malformed,
+        TextFault::Doctype(_) => malformed,
+    }
+}
+
+// The reply to a text that is no document.
+fn refused_text(alloc: Global, fault: TextFault, closes: bool) -> Result<Reply, NoMemory>
+    ensures fault_reply { IfOk result
+        (λ reply. reply ≡ conflict (text_conflict conflicts.NotWellFormed fault) closes) }
+{
+    let body = text_conflict(ErrorBody::NotWellFormed, fault);
+    conflict(alloc, &body, closes)
+}
+
+// Checks a tree that was parsed.
+fn check_document(
+    alloc: Global,
+    usage: Usage,
+    root: Element,
+    closes: bool,
+) -> Result<Body, NoMemory>
+    requires proper { ProperIn [] root }
+    requires height_bounded { height root ≤ max_levels }
+    ensures comes_of_tree { IfOk result
+        (λ body. Comes (λ answer a. PutsText usage (Ok root) closes answer a) usage body) }
+{
+    match first_fault(alloc, usage, &root) {
+        None => Ok(Body::Document(root)),
+        Some(fault) => {
+            drop(root);
+            let body = fault_conflict(alloc, &fault)?;
+            let reply = conflict(alloc, &body, closes)?;
+            Ok(Body::Refused(reply))
+        }
+    }
+}
+
+// Reads a body of the usage's media type.
+fn body_read(alloc: Global, usage: Usage, request: &Request) -> Result<Body, NoMemory>
+    ensures comes_of_text { IfOk result
+        (λ body. Comes (λ answer a. PutsSpelled usage request.now answer a) usage body) }
+{
+    match read_document(alloc, request.body.as_slice(), MAX_LEVELS) {
+        Ok(root) => check_document(alloc, usage, root, request.closes),
+        Err(ReadError::Fault(fault)) => {
+            let reply = refused_text(alloc, fault, request.closes)?;
+            Ok(Body::Refused(reply))
+        }
+        Err(ReadError::NoMemory) => Err(NoMemory),
+    }
+}
+
+/// Reads the body of a PUT of a document of this usage, whose media type is `media`.
+pub(crate) fn body_of(
+    alloc: Global,
+    usage: Usage,
+    media: MediaType,
+    request: &Request,
+) -> Result<Body, NoMemory>
+    ensures comes_of_body { IfOk result
+        (λ body. Comes (λ answer a. PutsBody usage media request.now answer a) usage body) }
+{
+    if !has_type(request, media) {
+        return Ok(Body::Refused(Reply::fixed(415, request.closes)));
+    }
+    body_read(alloc, usage, request)
+}

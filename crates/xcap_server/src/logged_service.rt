@@ -1,0 +1,93 @@
+// The service as a logged machine: it adds accepted requests to a log before it makes their
+// changes.
+ghost use Rattle.std.specs.Prelude.{◌≡◌, None, Err, is_some};
+ghost use Rattle.reply_text.specs.ReplyHeads.{plain};
+ghost use Rattle.store_core.specs.Stored.{Stored};
+ghost use Rattle.xcap_put.specs.declared.decision.Decision.{Decision as TheDecision};
+ghost use Rattle.xcap_put.specs.Decisions.{IsReadyFor, answer_of};
+ghost use Rattle.xcap_server.specs.inner.Servers.{CarriesOut};
+
+use crate::requests::decide;
+use crate::service::{Service, commit};
+use edit_journal::{AppendFault, Journal, JournalLog, LoggedMachine};
+use edit_ops::Edit;
+use http_serve::MachineReply;
+use http_wire::Request;
+use reply_text::Reply;
+use std::alloc::AllocError;
+use store_core::Store;
+use xcap_put::Decision;
+
+// Whether a decision makes a change.
+fn changes(decision: &Decision) -> bool
+    ensures exact { result ≡ is_some (answer_of decision.now).made }
+{
+    match decision {
+        Decision::Stays(_) => false,
+        Decision::Changes { .. } => true,
+    }
+}
+
+// The answer to a request whose record couldn't be added.
+fn not_entered(request: &Request) -> MachineReply<Edit>
+    ensures status_500 { result.reply ≡ plain 500 request.now.closes }
+    ensures no_change { result.edit ≡ None }
+{
+    MachineReply {
+        reply: Reply::fixed(500, request.closes),
+        edit: None,
+    }
+}
+
+// The answer where a change isn't made.
+fn unmade(fault: AppendFault, request: &Request) -> Result<MachineReply<Edit>, AllocError>
+    ensures makes_nothing { (s : Stored) (d : TheDecision)
+        → CarriesOut s d request.now (Err fault) result s }
+{
+    match fault {
+        AppendFault::Failed => Ok(not_entered(request)),
+        AppendFault::NoMemory => Err(AllocError),
+    }
+}
+
+// Carries out a decision, by the result of adding the request's record.
+fn carry_out(
+    store: &mut Store,
+    decision: Decision,
+    entered: Result<(), AppendFault>,
+    request: &Request,
+) -> Result<MachineReply<Edit>, AllocError>
+    requires ready { IsReadyFor store.old decision }
+    ensures carries_out { CarriesOut store.old decision request.now entered result store.new }
+{
+    match entered {
+        Ok(()) => Ok(commit(store, decision)),
+        Err(fault) => {
+            // Dropped by a call, whose proof is made once, rather than at each exit.
+            drop(decision);
+            unmade(fault, request)
+        }
+    }
+}
+
+impl LoggedMachine for Service {
+    ghost use Rattle.xcap_server.specs.inner.Servers.{AnswersRequest};
+
+    type Edit = Edit;
+
+    ghost steps = { AnswersRequest };
+
+    fn answer_logged<J: Journal>(
+        &mut self,
+        log: &mut JournalLog,
+        journal: &mut J,
+        request: &Request,
+    ) -> Result<MachineReply<Edit>, AllocError> {
+        let decision = decide(self.alloc, &self.root, &mut self.store, request)?;
+        if !changes(&decision) {
+            return Ok(commit(&mut self.store, decision));
+        }
+        let entered = log.append(self.alloc, journal, request);
+        carry_out(&mut self.store, decision, entered, request)
+    }
+}

@@ -1,0 +1,48 @@
+//! Laws of servers that restart, each the contract of a function that does nothing.
+ghost use Rattle.std.specs.Prelude.{◌≡◌, ℕ, ◌≤◌, ◌++◌, List, [], Result, false, length, take, All};
+ghost use Rattle.http_wire.specs.declared.request.Request.{Request};
+ghost use Rattle.xcap_io.specs.Causes.{StreamState};
+ghost use Rattle.edit_journal.specs.Journals.{IsFirstOf, JournalState};
+ghost use Rattle.edit_journal.specs.Logs.{LogState};
+ghost use Rattle.edit_journal.specs.Limits.{max_journal_bytes};
+ghost use Rattle.edit_journal.specs.Restarts.{Restarts};
+ghost use Rattle.edit_journal.specs.Texts.{IsRecordedRequest, text};
+ghost use Rattle.edit_journal.specs.declared.journal_restart.RestartFault.{RestartFault};
+ghost use Rattle.edit_journal.specs.PrefixRestarts.{EndsBehind};
+ghost use Rattle.store_core.specs.State.{State, first_state};
+ghost use Rattle.xcap_server.specs.LoggedServers.{Logs};
+ghost use Rattle.xcap_server.specs.ReplayedRequests.{Redoing, Refuses, ResultsFrom};
+ghost use Rattle.xcap_server.specs.Servers.{ServerState};
+ghost use Rattle.xcap_server.specs.RestartedServers.{RefusesNone, RepresentsAgain};
+
+/// A law: where the machine of a root makes a change at each of these requests, one after the
+/// other, a server of this root without documents that restarts from some first bytes of their
+/// text finds no fault in these bytes and refuses no request. It then has the contents that the
+/// machine had after the requests that it repeated; where it read all bytes that it accepts, these
+/// are exactly the requests whose records are whole in the bytes.
+pub fn servers_come_back_from_first_bytes()
+    ensures restarts_there { (all : List Request) (last : State) (source source' : StreamState)
+        (journal journal' : JournalState) (old new : ServerState)
+        (result : Result LogState RestartFault)
+        → All IsRecordedRequest all → Redoing old.root (first_state 1) all last
+        → ResultsFrom old [] → new.root ≡ old.root
+        → (restarts : Restarts ResultsFrom Refuses source source' journal journal' old new result)
+        → IsFirstOf (take max_journal_bytes restarts.bytes) (text all)
+        → (left : List Request) × RepresentsAgain new restarts.requests left last
+        × EndsBehind RefusesNone all (take max_journal_bytes restarts.bytes) restarts.requests left
+        restarts.rest new result }
+{}
+
+/// A law: where a journal has the records of the requests that a server stands for, some first
+/// bytes of it are first bytes of the text of requests at each of which the machine makes a
+/// change: those requests and, only where the log is torn, at most one more, which would be
+/// accepted now.
+pub fn journals_of_servers_come_to_a_state()
+    ensures reaches_state { (server : ServerState) (log : LogState) (journal : JournalState)
+        (requests : List Request) (bytes : List ℕ)
+        → Logs server log journal requests → IsFirstOf bytes journal.held
+        → (torn : List Request) × (last : State) × (length torn ≤ 1)
+        × (log.is_torn ≡ false → torn ≡ []) × All IsRecordedRequest (requests ++ torn)
+        × Redoing server.root (first_state 1) (requests ++ torn) last
+        × IsFirstOf bytes (text (requests ++ torn)) }
+{}

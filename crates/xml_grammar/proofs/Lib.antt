@@ -1,0 +1,17 @@
+pub mod Beginnings
+pub mod Carry
+pub mod Closed
+pub mod Exact
+pub mod Fronts
+pub mod Greedy
+pub mod Heads
+pub mod Laws
+pub mod Leaves
+pub mod Led
+pub mod Marks
+pub mod Repeats
+pub mod Shapes
+pub mod Spaced
+pub mod Tests
+pub mod UpTo
+pub mod Whole

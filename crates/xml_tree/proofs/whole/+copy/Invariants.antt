@@ -1,5 +1,0 @@
-use Rattle.std.proofs.Common.{◌≡◌, take}
-use Rattle.xml_tree.proofs.whole.+copy.Given as goal
-
-abbrev pub invariant-copy_nodes-loop-node : goal.invariant-copy_nodes-loop-node
-invariant-copy_nodes-loop-node l = l.made.items ≡ take l.node-index l.nodes
