@@ -1,10 +1,10 @@
-"""A plain picture of crates by level, for where graphviz isn't there: boxes in rows, straight lines."""
+"""A plain picture of crates by level, where graphviz isn't there: boxes in rows, straight lines."""
 GAP, ROW, HIGH, SIGN = 14, 74, 22, 6.6
 DASHED = 'stroke="#8c8c8c" stroke-dasharray="4 2"'
 
 
 def ordered(rows, below):
-    """The rows, each ordered by where the middle of a box's neighbours is, some times up and down."""
+    """The rows, each ordered by where the middle of a box's neighbours is, up and down by turns."""
     above = {name: [it for it in below if name in below[it]] for name in below}
     for sweep in range(24):
         near, walk = (below, rows) if sweep % 2 == 0 else (above, rows[::-1])

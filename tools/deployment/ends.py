@@ -99,6 +99,6 @@ def without_a_proxy(report, stage):
         answer = put_directly(port, "-m", "20")
         seconds = time.monotonic() - began
         seen = f"{answer.status} after {seconds:.1f} s more"
-        what = "it is dropped 10 s after its last byte, and they are served, behind 50 that broke"
+        what = "it is dropped 10 s after its last byte, and they are served, after 50 that broke"
         report.holds(what, answer.status == 200 and seconds < 10, seen)
     stage.end(served)

@@ -34,8 +34,8 @@ NAMESPACES = ["--pid", "--fork", "--mount", "--uts", "--ipc", "--cgroup", "--kil
 
 
 class Machine:
-    """It runs systemd with the given units of the repository, of which some keep a journal, and ends
-    with its block."""
+    """It runs systemd with the given units of the repository, of which some keep a journal, and
+    ends with its block."""
 
     def __init__(self, folder, program, units, wanted, keeping=()):
         self.folder = pathlib.Path(folder)

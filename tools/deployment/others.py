@@ -53,14 +53,22 @@ def slow(report, stage):
     report.holds("25 silent clients, and one that sends a byte at a time", is_so, seen)
 
 
-def by_haproxy(report, stage):
-    report.part("HAProxy in the place of nginx")
-    if not shutil.which("haproxy"):
+def start_before_server(report, stage, program, settings):
+    """Starts xcapd and a proxy before it, if it is there, and returns the port of xcapd."""
+    if not shutil.which(program):
         report.note("it isn't there, so nothing was tried")
-        return
+        return None
     port = free_port()
     stage.serve_told(port)
-    stage.start_proxy("haproxy/xcapd.cfg", [port])
+    stage.start_proxy(settings, [port])
+    return port
+
+
+def by_haproxy(report, stage):
+    report.part("HAProxy in the place of nginx")
+    port = start_before_server(report, stage, "haproxy", "haproxy/xcapd.cfg")
+    if port is None:
+        return
     own_and_others(report, stage)
     continued(report, stage)
     slow(report, stage)
@@ -78,12 +86,8 @@ def by_haproxy(report, stage):
 
 def by_apache(report, stage):
     report.part("Apache in the place of nginx, users known by Digest")
-    if not shutil.which("apache2"):
-        report.note("it isn't there, so nothing was tried")
+    if start_before_server(report, stage, "apache2", "apache/xcapd-by-digest.conf") is None:
         return
-    port = free_port()
-    stage.serve_told(port)
-    stage.start_proxy("apache/xcapd-by-digest.conf", [port])
     digest = {"how": ["--digest"]}
     own_and_others(report, stage, **digest)
     continued(report, stage, **digest)

@@ -181,7 +181,7 @@ class Keep:
             need(all(server.wire.ask(it).is_success for it in requests.BEFORE), "not made")
         self.old = new.read_bytes()
         self.due = self.run(refusing)[1:]
-        need(not any(it.status == 503 for it in self.due[0]), "503 without a want of memory")
+        need(not any(it.status == 503 for it in self.due[0]), "503 while there is memory")
 
     def run(self, refusing):
         """What came of a run that listened: what it is called, its answers, its journal and what

@@ -110,7 +110,7 @@ def full_disk(report, program, folder, random):
         kept, new = start(program, folder, text, limit=limit)
         known, accepted, all_refused = is_without_room(kept, states[-1], random)
         report.holds(
-            f"no room behind {limit} bytes: from the first record that doesn't fit on, each edit is"
+            f"no room after {limit} bytes: from the first record that doesn't fit on, each edit is"
             " answered 500 and changes nothing, and all is still read",
             all_refused,
             f"{accepted} accepted, then {200 - accepted} answered 500",
@@ -138,5 +138,5 @@ def ends(report, program, folder, random):
         is_so = kept.ask(*put)[0] == answer
         kept.close()
         is_so &= (kept.process.wait(), kept.told()) == ended
-        what = f"it ends behind its last connection, on which a {answer} was answered: status"
+        what = f"it ends after its last connection, on which a {answer} was answered: status"
         report.holds(what, is_so, str(ended[0]))

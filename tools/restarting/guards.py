@@ -79,9 +79,9 @@ def page_of_zeros(report, program, folder, random):
     report.holds("  mended as docs/OPERATIONS.md says it has all that journal had", is_so)
 
 
-def zeros_behind(report, program, folder, random):
+def zeros_in_new_journal(report, program, folder, random):
     """Zeros among the records that are new in journal.new."""
-    place = folder / "behind"
+    place = folder / "zeros"
     one, two, old, new = two_journals(program, place, random)
     (place / "journal.new").write_bytes(new[:-700] + bytes(700))
     kept = Looped(program, place)
@@ -186,5 +186,6 @@ def full(report, program, folder, random):
 
 
 def guards(report, program, folder, random):
-    for part in (restarts, again_and_again, stops, page_of_zeros, zeros_behind, second, full):
+    parts = restarts, again_and_again, stops, page_of_zeros, zeros_in_new_journal, second, full
+    for part in parts:
         part(report, program, folder, random)
