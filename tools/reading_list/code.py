@@ -22,7 +22,7 @@ def without_comments(text):
     return re.sub(r"//[^\n]*|^ *#!?\[[^\n]*\]$", lambda it: " " * len(it.group()), text, flags=re.M)
 
 
-def behind_bracket(text, start):
+def after_bracket(text, start):
     """The place after the bracket that closes the one at a place."""
     depth = 0
     for place in range(start, len(text)):
@@ -37,7 +37,7 @@ def behind_bracket(text, start):
 def within(text, start):
     """What is in the first braces after a place."""
     opening = text.index("{", start)
-    return text[opening + 1:behind_bracket(text, opening) - 1]
+    return text[opening + 1:after_bracket(text, opening) - 1]
 
 
 class CodeFile:
@@ -135,7 +135,7 @@ def parts_of_type(target):
     start = body.start(1)
     if body.group(1) in "=;":
         return file.types(file.text[start:file.text.index(";", start)])
-    inside = file.text[start + 1:behind_bracket(file.text, start) - 1]
+    inside = file.text[start + 1:after_bracket(file.text, start) - 1]
     if words.group(1) == "enum":
         # A variant's name is no type.
         inside = re.sub(r"^ {4}\w+", "", inside, flags=re.M)
@@ -167,16 +167,16 @@ def parts_at(file, place, head):
     """The same of the function whose name ends at a place of a file, in an impl of this head."""
     text, bounds = file.text, {}
     if text[place] == "<":
-        end = behind_bracket(text, place)
+        end = after_bracket(text, place)
         generics = re.findall(r"(\w+): ([\w +]+)", text[place:end])
         bounds = {name: re.findall(r"\w+", traits) for name, traits in generics}
         place = end
-    behind = behind_bracket(text, place)
-    end = re.compile(r"[{;]|\b(?:requires|ensures|ghost)\b").search(text, behind).start()
+    after = after_bracket(text, place)
+    end = re.compile(r"[{;]|\b(?:requires|ensures|ghost)\b").search(text, after).start()
     signature, parts = text[place:end], []
     while opening := CLAUSE.match(text, end):
         parts += file.free_names(opening.end(), within(text, opening.end()), bounds)
-        end = behind_bracket(text, opening.end())
+        end = after_bracket(text, opening.end())
     has_self = re.search(r"\b[sS]elf\b", signature)
     return parts + file.types(signature + (head if has_self else ""))
 

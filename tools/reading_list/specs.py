@@ -49,17 +49,43 @@ class Definition:
 
     def head(self, names, statement, bound):
         """A signature; or the head of a record or data, and after it a line for each part."""
-        first, *rest = statement.split("\n")
-        is_whole = not first.endswith(" where")
-        items = parsed(HEAD.sub("", statement if is_whole else first, count=1))
+        head, parts = head_and_parts(statement)
+        items = parsed(HEAD.sub("", head, count=1))
         inside = names.term(items[1:], bound)
-        for part in statements([] if is_whole else rest):
+        for part in statements(parts):
             items = parsed(part.strip().removeprefix("pub "))
             colon = items.index(":")
             names.term(items[colon + 1:], inside)
             # A field may be named by those after it.
             inside |= set() if self.constructors else set(items[:colon])
         return bound
+
+
+def head_and_parts(statement):
+    """The head of a record or data, and the lines of its parts; or all of a signature."""
+    lines = statement.split("\n")
+    ends = [n for n, line in enumerate(lines, 1) if line.endswith(" where")]
+    end = ends[0] if ends else len(lines)
+    return "\n".join(lines[:end]), lines[end:]
+
+
+def is_open(line):
+    """Whether an import or the head of a module goes on in the next line."""
+    bare = line.strip()
+    if bare.startswith("module _"):
+        return not bare.endswith("where")
+    return bare.startswith(("use ", "pub use ")) and "{" in bare and "}" not in bare
+
+
+def joined(lines):
+    """The lines, with each import and each head of a module as one."""
+    whole = []
+    for line in lines:
+        if whole and is_open(whole[-1]):
+            whole[-1] += " " + line.strip()
+        else:
+            whole.append(line)
+    return whole
 
 
 def statements(lines):
@@ -122,7 +148,7 @@ class SpecFile:
         _, crate, _, *path = module.split(".")
         self.path = CRATES / crate / "specs" / f"{'/'.join(path)}.antt"
         self.imports, self.definitions, self.maker_of = {}, {}, {}
-        self.read(self.path.read_text().split("\n"))
+        self.read(joined(self.path.read_text().split("\n")))
         self.operators = operators([*self.imports, *self.definitions])
 
     def read(self, lines):
@@ -167,9 +193,9 @@ class SpecFile:
         return current
 
     def note_constructors(self, definition):
-        head, *rest = definition.statements[0].split("\n")
+        head, parts = head_and_parts(definition.statements[0])
         if re.match(r"(pub )?data ", head):
-            for part in statements(rest):
+            for part in statements(parts):
                 items = parsed(part)
                 definition.constructors += items[:items.index(":")]
         self.maker_of.update((name, definition.name) for name in definition.constructors)

@@ -1,25 +1,63 @@
 -- What a command did that makes one call, by how it ended. The project's own.
 use Rattle.std.specs.Prelude.{◌≡◌, ℕ, List, Ok, Err}
 use Rattle.xcap_io.specs.Causes.{StreamState}
+use Rattle.xcap_client.specs.Asks.{getting, removing}
 use Rattle.xcap_client.specs.declared.request.Ask.{Ask}
 use Rattle.xcap_client.specs.declared.response.Response.{Response}
+use Rattle.client_commands.specs.Lines.{line_of_status}
 use Rattle.client_commands.specs.Outputs.{TakesAll, TakesSome}
 use Rattle.xcap_client.specs.Calls.{Calls}
 use Rattle.xcap_client.specs.declared.fault.ClientFault.{ClientFault}
 use Rattle.client_follower.specs.Faults.{of_client}
 use Rattle.client_commands.specs.declared.command_end.CommandEnd.{CommandEnd}
-use Rattle.client_commands.specs.declared.command_end.CommandEnd.TheVariants.{Done, OutputFailed, Failed, OutOfMemory}
+use Rattle.client_commands.specs.declared.command_end.CommandEnd.TheVariants.{Done, OutputFailed}
+use Rattle.client_commands.specs.declared.command_end.CommandEnd.TheVariants.{Failed, OutOfMemory}
+use Rattle.client_commands.specs.declared.requester.Requester.{Requester}
+
+-- The peer and the output of a command, at one moment.
+pub record CallStreams : Type 0 where
+  pub peer : StreamState
+  pub output : StreamState
+
+-- One call of a command: what is requested under a root, and the text that is written about the
+-- response.
+pub record CommandCall : Type 0 where
+  pub root : List ℕ
+  pub ask : Ask
+  pub text : Response → List ℕ
+
+-- the call of `fetch`: a GET, and the body of the response
+abbrev pub fetch_call : Requester → List ℕ → CommandCall
+fetch_call requester path =
+    record {
+      root = requester.root;
+      ask = getting requester.user path;
+      text = λ response. response.body;
+    }
+
+-- the call of `delete`: a DELETE, and the status
+abbrev pub delete_call : Requester → List ℕ → CommandCall
+delete_call requester path =
+    record {
+      root = requester.root;
+      ask = removing requester.user path;
+      text = λ response. line_of_status response.status;
+    }
 
 -- One call was made, its response was successful, and the output took this text about it, or a
 -- part of the text where it failed; or the call failed, and nothing was written; or memory ran out
 -- for the output after the call, and nothing was written.
-abbrev pub MakesOneCall : List ℕ → Ask → (Response → List ℕ) → CommandEnd → StreamState → StreamState → StreamState → StreamState → Type 0
-MakesOneCall root ask text Done peer peer' output output' =
-    (response : Response) × Calls root ask peer peer' (Ok response) × TakesAll (text response) output output'
-MakesOneCall root ask text OutputFailed peer peer' output output' =
-    (response : Response) × Calls root ask peer peer' (Ok response) × TakesSome (text response) output output'
-MakesOneCall root ask text (Failed fault) peer peer' output output' =
-    (given : ClientFault) × Calls root ask peer peer' (Err given) × (fault ≡ of_client given) × (output' ≡ output)
-MakesOneCall root ask text OutOfMemory peer peer' output output' =
-    (response : Response) × Calls root ask peer peer' (Ok response) × (output' ≡ output)
-MakesOneCall root ask text _ peer peer' output output' = ⊥
+abbrev pub MakesOneCall : CommandCall → CommandEnd → CallStreams → CallStreams → Type 0
+MakesOneCall call Done old new =
+    (response : Response) × Calls call.root call.ask old.peer new.peer (Ok response)
+    × TakesAll (call.text response) old.output new.output
+MakesOneCall call OutputFailed old new =
+    (response : Response) × Calls call.root call.ask old.peer new.peer (Ok response)
+    × TakesSome (call.text response) old.output new.output
+MakesOneCall call (Failed fault) old new =
+    (given : ClientFault) × Calls call.root call.ask old.peer new.peer (Err given)
+    × (fault ≡ of_client given) × (new.output ≡ old.output)
+MakesOneCall call OutOfMemory old new =
+    (response : Response) × Calls call.root call.ask old.peer new.peer (Ok response)
+    × (new.output ≡ old.output)
+MakesOneCall call _ old new = ⊥

@@ -25,8 +25,11 @@ pub record GaveText (limit : ℕ) (text : List ℕ) (old new : StreamState) : Ty
 
 -- The input gave a text, as a function of the result; or failed within `limit` bytes; or gave one
 -- byte more than `limit`; or memory ran out, and nothing was read.
-abbrev pub ReadsText : {T : Type 0} → (T → List ℕ) → ℕ → Result T InputFault → StreamState → StreamState → Type 0
+abbrev pub ReadsText : {T : Type 0} → (T → List ℕ) → ℕ → Result T InputFault → StreamState
+    → StreamState → Type 0
 ReadsText text limit (Ok x) old new = GaveText limit (text x) old new
-ReadsText text limit (Err Failed) old new = (front : List ℕ) × GaveAndFailed front old new × (length front ≤ limit)
-ReadsText text limit (Err TooLong) old new = (front : List ℕ) × JustGave front old new × (length front ≡ limit + 1)
+ReadsText text limit (Err Failed) old new =
+    (front : List ℕ) × GaveAndFailed front old new × (length front ≤ limit)
+ReadsText text limit (Err TooLong) old new =
+    (front : List ℕ) × JustGave front old new × (length front ≡ limit + 1)
 ReadsText text limit (Err NoMemory) old new = new ≡ old

@@ -1,29 +1,59 @@
 -- What the command that puts its input did, by how it ended. The project's own.
-use Rattle.std.specs.Prelude.{◌≡◌, ◌⊎◌, ℕ, ◌+◌, ◌≤◌, List, Option, length}
+use Rattle.std.specs.Prelude.{◌≡◌, ◌⊎◌, ℕ, ◌+◌, ◌≤◌, List, length}
 use Rattle.xcap_io.specs.Causes.{StreamState}
 use Rattle.http_wire.specs.Limits.{max_body_bytes}
 use Rattle.client_commands.specs.Inputs.{GaveAndFailed, GaveText, JustGave}
 use Rattle.xcap_client.specs.Asks.{putting}
-use Rattle.client_commands.specs.Endings.{MakesOneCall}
+use Rattle.client_commands.specs.Endings.{CallStreams, CommandCall, MakesOneCall}
 use Rattle.client_commands.specs.Lines.{put_line}
 use Rattle.client_commands.specs.declared.command_end.CommandEnd.{CommandEnd}
-use Rattle.client_commands.specs.declared.command_end.CommandEnd.TheVariants.{InputFailed, TooLarge, OutOfMemory}
+use Rattle.client_commands.specs.declared.command_end.CommandEnd.TheVariants.{InputFailed, TooLarge}
+use Rattle.client_commands.specs.declared.command_end.CommandEnd.TheVariants.{OutOfMemory}
+use Rattle.client_commands.specs.declared.requester.Requester.{Requester}
+
+-- The peer, the input and the output of the command, at one moment.
+pub record PutStreams : Type 0 where
+  pub peer : StreamState
+  pub input : StreamState
+  pub output : StreamState
+
+-- those that its call uses
+abbrev pub call_streams : PutStreams → CallStreams
+call_streams streams = record { peer = streams.peer; output = streams.output }
+
+-- Who puts, at which path, and as which media type.
+pub record PutOptions : Type 0 where
+  pub requester : Requester
+  pub path : List ℕ
+  pub media : List ℕ
+
+-- the call of `put`: a PUT of a text, and the status and the etag of the response
+abbrev pub put_call : PutOptions → List ℕ → CommandCall
+put_call options text = record {
+  root = options.requester.root;
+  ask = putting options.requester.user options.path options.media text;
+  text = λ response. put_line response.status response.tag;
+}
 
 -- the input gave a text, which was put
-abbrev pub PutsInput : List ℕ → Option (List ℕ) → List ℕ → List ℕ → CommandEnd → StreamState → StreamState → StreamState → StreamState → StreamState → StreamState → Type 0
-PutsInput root user path media ended peer peer' input input' output output' =
-    (text : List ℕ) × GaveText max_body_bytes text input input' × MakesOneCall root (putting user path media text) (λ response. put_line response.status response.tag) ended peer peer' output output'
+abbrev pub PutsInput : PutOptions → CommandEnd → PutStreams → PutStreams → Type 0
+PutsInput options ended old new =
+    (text : List ℕ) × GaveText max_body_bytes text old.input new.input
+    × MakesOneCall (put_call options text) ended (call_streams old) (call_streams new)
 
 -- no call was made, and nothing was written
-abbrev pub AsksNothing : StreamState → StreamState → StreamState → StreamState → Type 0
-AsksNothing peer peer' output output' = (peer' ≡ peer) × (output' ≡ output)
+abbrev pub AsksNothing : CallStreams → CallStreams → Type 0
+AsksNothing old new = (new.peer ≡ old.peer) × (new.output ≡ old.output)
 
 -- The input gave a text, which was put; or it failed, or has too many bytes, and no call was made.
-abbrev pub Puts : List ℕ → Option (List ℕ) → List ℕ → List ℕ → CommandEnd → StreamState → StreamState → StreamState → StreamState → StreamState → StreamState → Type 0
-Puts root user path media InputFailed peer peer' input input' output output' =
-    ((front : List ℕ) × GaveAndFailed front input input' × (length front ≤ max_body_bytes)) × AsksNothing peer peer' output output'
-Puts root user path media TooLarge peer peer' input input' output output' =
-    ((front : List ℕ) × JustGave front input input' × (length front ≡ max_body_bytes + 1)) × AsksNothing peer peer' output output'
-Puts root user path media OutOfMemory peer peer' input input' output output' =
-    ((input' ≡ input) × AsksNothing peer peer' output output') ⊎ PutsInput root user path media OutOfMemory peer peer' input input' output output'
-Puts root user path media ended peer peer' input input' output output' = PutsInput root user path media ended peer peer' input input' output output'
+abbrev pub Puts : PutOptions → CommandEnd → PutStreams → PutStreams → Type 0
+Puts options InputFailed old new =
+    ((front : List ℕ) × GaveAndFailed front old.input new.input × (length front ≤ max_body_bytes))
+    × AsksNothing (call_streams old) (call_streams new)
+Puts options TooLarge old new =
+    ((front : List ℕ) × JustGave front old.input new.input × (length front ≡ max_body_bytes + 1))
+    × AsksNothing (call_streams old) (call_streams new)
+Puts options OutOfMemory old new =
+    ((new.input ≡ old.input) × AsksNothing (call_streams old) (call_streams new))
+    ⊎ PutsInput options OutOfMemory old new
+Puts options ended old new = PutsInput options ended old new

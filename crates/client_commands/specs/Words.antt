@@ -29,7 +29,8 @@ response_words responses.Head = codes "bad response: head\n"
 response_words responses.Coding = codes "bad response: coding\n"
 response_words responses.Length = codes "bad response: length\n"
 response_words (responses.TooLong n) = codes "bad response: too-long " ++ (decimal n ++ codes "\n")
-response_words (responses.Short n m) = codes "bad response: short " ++ (decimal n ++ (codes " " ++ (decimal m ++ codes "\n")))
+response_words (responses.Short n m) =
+    codes "bad response: short " ++ (decimal n ++ (codes " " ++ (decimal m ++ codes "\n")))
 
 -- an etag, or a dash
 abbrev pub tag_words : Option (List ℕ) → List ℕ
@@ -43,11 +44,14 @@ with_number words n = words ++ (decimal n ++ codes "\n")
 -- why a diff document can't be applied
 abbrev pub apply_words : ApplyFault → List ℕ
 apply_words notices.WrongDocument = codes "notice: wrong-document\n"
-apply_words (notices.WrongTag held wanted) = codes "notice: wrong-tag " ++ (tag_words held ++ (codes " " ++ (encode_utf8_all wanted ++ codes "\n")))
+apply_words (notices.WrongTag held wanted) =
+    codes "notice: wrong-tag "
+    ++ (tag_words held ++ (codes " " ++ (encode_utf8_all wanted ++ codes "\n")))
 apply_words (notices.Unlocated n) = with_number (codes "notice: unlocated-node ") n
 apply_words (notices.NamespacePrefix n) = with_number (codes "notice: invalid-namespace-prefix ") n
 apply_words (notices.Directive n) = with_number (codes "notice: invalid-patch-directive ") n
-apply_words (notices.RootOperation n) = with_number (codes "notice: invalid-root-element-operation ") n
+apply_words (notices.RootOperation n) =
+    with_number (codes "notice: invalid-root-element-operation ") n
 apply_words (notices.NodeTypes n) = with_number (codes "notice: invalid-node-types ") n
 apply_words (notices.Whitespace n) = with_number (codes "notice: invalid-whitespace-directive ") n
 
@@ -55,8 +59,10 @@ apply_words (notices.Whitespace n) = with_number (codes "notice: invalid-whitesp
 abbrev pub fault_words : FollowerFault → List ℕ
 fault_words (faults.Client clients.PeerFault) = codes "network failed\n"
 fault_words (faults.Client clients.NoMemory) = codes "out of memory\n"
-fault_words (faults.Client (clients.Refused status None)) = codes "refused " ++ (decimal status ++ codes "\n")
-fault_words (faults.Client (clients.Refused status (Some name))) = codes "refused " ++ (decimal status ++ (codes " " ++ (encode_utf8_all name ++ codes "\n")))
+fault_words (faults.Client (clients.Refused status None)) =
+    codes "refused " ++ (decimal status ++ codes "\n")
+fault_words (faults.Client (clients.Refused status (Some name))) =
+    codes "refused " ++ (decimal status ++ (codes " " ++ (encode_utf8_all name ++ codes "\n")))
 fault_words (faults.Client (clients.BadResponse fault)) = response_words fault
 fault_words faults.BadTag = codes "bad response: tag\n"
 fault_words (faults.BadText fault) = codes "bad response: text\n"

@@ -1,7 +1,5 @@
 // The commands that make one call and read no input.
-ghost use Rattle.xcap_client.specs.Asks.{getting, removing};
-ghost use Rattle.client_commands.specs.Endings.{MakesOneCall};
-ghost use Rattle.client_commands.specs.Lines.{line_of_status};
+ghost use Rattle.client_commands.specs.Endings.{MakesOneCall, delete_call, fetch_call};
 
 use crate::command_end::{CommandEnd, write_out};
 use crate::output_lines::status_line;
@@ -10,7 +8,7 @@ use client_follower::FollowerFault;
 use std::alloc::{AllocError, Global};
 use xcap_client::{fetch, remove};
 use xcap_io::{Line, Peer, Sink};
-use xml_tree::Text;
+use xml_names::Text;
 
 /// Fetches the resource at a path under the root, and writes the body of the response.
 pub fn fetch_from<C: Peer, O: Sink>(
@@ -20,9 +18,9 @@ pub fn fetch_from<C: Peer, O: Sink>(
     peer: &mut C,
     output: &mut O,
 ) -> CommandEnd
-    ensures one_call { MakesOneCall requester.now.root (getting requester.now.user path.now)
-        (λ response. response.body) result
-        (C.state peer.old) (C.state peer.new) (O.state output.old) (O.state output.new) }
+    ensures one_call { MakesOneCall (fetch_call requester.now path.now) result
+        (record { peer = C.state peer.old; output = O.state output.old })
+        (record { peer = C.state peer.new; output = O.state output.new }) }
 {
     match fetch(
         alloc,
@@ -44,9 +42,9 @@ pub fn delete_at<C: Peer, O: Sink>(
     peer: &mut C,
     output: &mut O,
 ) -> CommandEnd
-    ensures one_call { MakesOneCall requester.now.root (removing requester.now.user path.now)
-        (λ response. line_of_status response.status) result
-        (C.state peer.old) (C.state peer.new) (O.state output.old) (O.state output.new) }
+    ensures one_call { MakesOneCall (delete_call requester.now path.now) result
+        (record { peer = C.state peer.old; output = O.state output.old })
+        (record { peer = C.state peer.new; output = O.state output.new }) }
 {
     let response = match remove(
         alloc,

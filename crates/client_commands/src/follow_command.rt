@@ -21,8 +21,9 @@ fn make_round<C: Peer, O: Sink>(
     peer: &mut C,
     output: &mut O,
 ) -> Option<CommandEnd>
-    ensures makes_round { MakesRound follower.old follower.new result (C.state peer.old)
-        (C.state peer.new) (O.state output.old) (O.state output.new) }
+    ensures makes_round { MakesRound follower.old follower.new result
+        (record { peer = C.state peer.old; output = O.state output.old })
+        (record { peer = C.state peer.new; output = O.state output.new }) }
 {
     if let Err(fault) = follower.round(peer) {
         return Some(CommandEnd::Failed(fault));
@@ -59,8 +60,9 @@ fn follow_on<C: Peer, O: Sink>(
     peer: &mut C,
     output: &mut O,
 ) -> CommandEnd
-    ensures follows_on { FollowsOn rounds follower.old result (C.state peer.old) (C.state peer.new)
-        (O.state output.old) (O.state output.new) }
+    ensures follows_on { FollowsOn rounds follower.old result
+        (record { peer = C.state peer.old; output = O.state output.old })
+        (record { peer = C.state peer.new; output = O.state output.new }) }
 {
     let mut made = 0;
     'rounds: while made < rounds {
@@ -83,8 +85,10 @@ pub fn follow<C: Peer, O: Sink>(
     peer: &mut C,
     output: &mut O,
 ) -> CommandEnd
-    ensures follows_document { Follows requester.now.root requester.now.user doc.now rounds result
-        (C.state peer.old) (C.state peer.new) (O.state output.old) (O.state output.new) }
+    ensures follows_document { Follows
+        (record { requester = requester.now; doc = doc.now; rounds = rounds }) result
+        (record { peer = C.state peer.old; output = O.state output.old })
+        (record { peer = C.state peer.new; output = O.state output.new }) }
 {
     match Follower::start(alloc, peer, &requester.root, requester.user(), doc) {
         Ok(mut follower) => follow_on(alloc, &mut follower, rounds, peer, output),

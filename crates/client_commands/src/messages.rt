@@ -1,12 +1,13 @@
 // The status that a program ends with where a call of the client failed, and its message.
 ghost use Rattle.std.specs.Prelude.{◌≡◌, IfOk, string_bytes};
-ghost use Rattle.client_commands.specs.Words.{apply_words, fault_words, response_words, status_of_fault, tag_words};
+ghost use Rattle.client_commands.specs.Words.{apply_words, fault_words, response_words};
+ghost use Rattle.client_commands.specs.Words.{status_of_fault, tag_words};
 
 use client_follower::FollowerFault;
 use patch_apply::ApplyFault;
 use std::alloc::{AllocError, Global};
 use xcap_client::{ClientFault, ResponseFault};
-use xml_tree::Text;
+use xml_names::Text;
 
 // The status for the fault of a call.
 fn client_status(fault: &ClientFault) -> u8

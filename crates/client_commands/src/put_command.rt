@@ -1,8 +1,6 @@
 // The command that puts its input.
-ghost use Rattle.xcap_client.specs.Asks.{putting};
 ghost use Rattle.client_commands.specs.Endings.{MakesOneCall};
-ghost use Rattle.client_commands.specs.Lines.{put_line};
-ghost use Rattle.client_commands.specs.Puts.{Puts};
+ghost use Rattle.client_commands.specs.Puts.{Puts, put_call};
 
 use crate::command_end::{CommandEnd, write_out};
 use crate::output_lines::put_line;
@@ -13,7 +11,7 @@ use http_wire::MAX_BODY;
 use std::alloc::{AllocError, Global};
 use xcap_client::put;
 use xcap_io::{Line, Peer, Sink, Source};
-use xml_tree::Text;
+use xml_names::Text;
 
 // Puts a text, and writes the status and the etag.
 fn put_text<C: Peer, O: Sink>(
@@ -25,10 +23,11 @@ fn put_text<C: Peer, O: Sink>(
     peer: &mut C,
     output: &mut O,
 ) -> CommandEnd
-    ensures one_call { MakesOneCall requester.now.root
-        (putting requester.now.user path.now media.now text.now)
-        (λ response. put_line response.status response.tag) result
-        (C.state peer.old) (C.state peer.new) (O.state output.old) (O.state output.new) }
+    ensures one_call { MakesOneCall
+        (put_call (record { requester = requester.now; path = path.now; media = media.now })
+        text.now) result
+        (record { peer = C.state peer.old; output = O.state output.old })
+        (record { peer = C.state peer.new; output = O.state output.new }) }
 {
     let response = match put(
         alloc,
@@ -59,9 +58,18 @@ pub fn put_at<C: Peer, I: Source, O: Sink>(
     input: &mut I,
     output: &mut O,
 ) -> CommandEnd
-    ensures puts_input { Puts requester.now.root requester.now.user path.now media.now result
-        (C.state peer.old) (C.state peer.new) (I.state input.old) (I.state input.new)
-        (O.state output.old) (O.state output.new) }
+    ensures puts_input { Puts
+        (record { requester = requester.now; path = path.now; media = media.now }) result
+        (record {
+          peer = C.state peer.old;
+          input = I.state input.old;
+          output = O.state output.old;
+        })
+        (record {
+          peer = C.state peer.new;
+          input = I.state input.new;
+          output = O.state output.new;
+        }) }
 {
     match read_text(alloc, input, MAX_BODY) {
         Ok(text) => put_text(alloc, requester, path, media, &text, peer, output),

@@ -3,7 +3,7 @@ ghost use Rattle.std.specs.Prelude.{◌≡◌, chars, option_map};
 
 use client_follower::borrowed_user;
 use xcap_uri::Root;
-use xml_tree::Text;
+use xml_names::Text;
 
 /// The user who asks a server, if one is named, and the root of the server.
 #[derive(Drop)]

@@ -1,6 +1,7 @@
 -- The number of connections that the client's calls begin. RFC 9112, section 9; the model of
 -- connections is the project's own.
-use Rattle.std.specs.Prelude.{◌≡◌, ◌⊎◌, ℕ, ◌≤◌, List, ◌++◌, length, replicate, Result, Ok, Err, encode_utf8_all}
+use Rattle.std.specs.Prelude.{◌≡◌, ◌⊎◌, ℕ, ◌≤◌, List, ◌++◌, length, replicate, Result, Ok, Err}
+use Rattle.std.specs.Prelude.{encode_utf8_all}
 use Rattle.xcap_io.specs.Causes.{StreamState}
 use Rattle.xcap_io.specs.Connections.{asked}
 use Rattle.xcap_io.specs.Histories.{Traffic}
@@ -17,17 +18,24 @@ pub record Begins (root : List ℕ) (count : ℕ) (old new : StreamState) : Type
   pub passed : List Traffic
   pub many : length passed ≡ count
   pub behind : asked new ≡ asked old ++ passed
-  pub dialled : new.peer.addresses ≡ replicate count (encode_utf8_all (address_of root)) ++ old.peer.addresses
+  pub dialled : new.peer.addresses
+      ≡ replicate count (encode_utf8_all (address_of root)) ++ old.peer.addresses
 
 -- one began; or none did, and the call was out of memory or the peer failed
 abbrev pub BeginsForCall : List ℕ → StreamState → StreamState → Result Response ClientFault → Type 0
 BeginsForCall root old new result =
-    Begins root 1 old new ⊎ (Begins root 0 old new × ((result ≡ Err clients.NoMemory) ⊎ (result ≡ Err clients.PeerFault)))
+    Begins root 1 old new
+    ⊎ (Begins root 0 old new × ((result ≡ Err clients.NoMemory) ⊎ (result ≡ Err clients.PeerFault)))
 
 -- at most one began, and one where the follower started
-abbrev pub BeginsForStart : List ℕ → StreamState → StreamState → Result Following FollowerFault → Type 0
-BeginsForStart root old new result = (count : ℕ) × Begins root count old new × (count ≤ 1) × ((f : Following) → result ≡ Ok f → count ≡ 1)
+abbrev pub BeginsForStart : List ℕ → StreamState → StreamState → Result Following FollowerFault
+    → Type 0
+BeginsForStart root old new result =
+    (count : ℕ) × Begins root count old new × (count ≤ 1)
+    × ((f : Following) → result ≡ Ok f → count ≡ 1)
 
 -- at most two began, and at least one where the round succeeded
 abbrev pub BeginsForRound : List ℕ → StreamState → StreamState → Result Round FollowerFault → Type 0
-BeginsForRound root old new result = (count : ℕ) × Begins root count old new × (count ≤ 2) × ((round : Round) → result ≡ Ok round → 1 ≤ count)
+BeginsForRound root old new result =
+    (count : ℕ) × Begins root count old new × (count ≤ 2)
+    × ((round : Round) → result ≡ Ok round → 1 ≤ count)

@@ -1,9 +1,10 @@
 -- What a follower takes from the result of a GET of its document (RFC 4825, section 7.3; RFC 9110,
 -- section 15).
-use Rattle.std.specs.Prelude.{◌≡◌, ℕ, Bool, false, ◌==◌, List, [], Option, None, Some, Result, Ok, Err, if◌then◌else◌}
+use Rattle.std.specs.Prelude.{◌≡◌, ℕ, Bool, false, ◌==◌, List, [], Option, None, Some, Result, Ok}
+use Rattle.std.specs.Prelude.{Err, if◌then◌else◌}
 use Rattle.std.specs.Result.{result_map_both}
 use Rattle.xcap_io.specs.Causes.{StreamState}
-use Rattle.xml_tree.specs.Limits.{max_levels}
+use Rattle.xml_names.specs.Limits.{max_levels}
 use Rattle.xml_tree.specs.Tree.{Tree}
 use Rattle.tree_text.specs.Faults.{TextAnswer}
 use Rattle.tree_text.specs.declared.fault.TextFault.{TextFault}
@@ -17,7 +18,8 @@ use Rattle.xcap_client.specs.declared.fault.ClientFault.{ClientFault}
 use Rattle.xcap_client.specs.declared.fault.ClientFault.TheVariants as clients
 use Rattle.client_follower.specs.Faults.{of_client}
 use Rattle.client_follower.specs.declared.fault.FollowerFault.{FollowerFault}
-use Rattle.client_follower.specs.declared.fault.FollowerFault.TheVariants.{BadTag, BadText, NoMemory}
+use Rattle.client_follower.specs.declared.fault.FollowerFault.TheVariants.{BadTag, BadText}
+use Rattle.client_follower.specs.declared.fault.FollowerFault.TheVariants.{NoMemory}
 
 -- the response was refused with this status
 abbrev pub is_refused_with : ℕ → ClientFault → Bool
@@ -26,22 +28,31 @@ is_refused_with status _ = false
 
 -- A response with a document has an etag, and its body is the tree. Faults are reported in this
 -- order; but memory may run out while the body is parsed.
-pub data BringsVersion (response : Response) (result : Result ReplicaVersion FollowerFault) : Type 0 where
+pub data BringsVersion (response : Response)
+    (result : Result ReplicaVersion FollowerFault) : Type 0 where
   has_no_tag : response.tag ≡ None → result ≡ Err BadTag → BringsVersion response result
-  spells_a_document : (tag : List ℕ) (root : Tree) → response.tag ≡ Some tag → TextAnswer max_levels [] response.body (Ok root)
+  spells_a_document : (tag : List ℕ) (root : Tree) → response.tag ≡ Some tag
+      → TextAnswer max_levels [] response.body (Ok root)
       → result ≡ Ok (record { tag = tag; root = root }) → BringsVersion response result
-  spells_none : (tag : List ℕ) (fault : TextFault) → response.tag ≡ Some tag → TextAnswer max_levels [] response.body (Err fault)
+  spells_none : (tag : List ℕ) (fault : TextFault) → response.tag ≡ Some tag
+      → TextAnswer max_levels [] response.body (Err fault)
       → result ≡ Err (BadText fault) → BringsVersion response result
-  lacks_memory : (tag : List ℕ) → response.tag ≡ Some tag → result ≡ Err NoMemory → BringsVersion response result
+  lacks_memory : (tag : List ℕ) → response.tag ≡ Some tag → result ≡ Err NoMemory
+      → BringsVersion response result
 
 -- by the result of the call: a response with the document; 404, where there is none; or another
 -- fault
-abbrev pub TakesDocument : Result Response ClientFault → Result (Option ReplicaVersion) FollowerFault → Type 0
-TakesDocument (Ok response) result = (version : Result ReplicaVersion FollowerFault) × BringsVersion response version × (result ≡ result_map_both (λ held. Some held) (λ fault. fault) version)
-TakesDocument (Err fault) result = result ≡ (if is_refused_with 404 fault then Ok None else Err (of_client fault))
+abbrev pub TakesDocument : Result Response ClientFault
+    → Result (Option ReplicaVersion) FollowerFault → Type 0
+TakesDocument (Ok response) result =
+    (version : Result ReplicaVersion FollowerFault) × BringsVersion response version
+    × (result ≡ result_map_both (λ held. Some held) (λ fault. fault) version)
+TakesDocument (Err fault) result =
+    result ≡ (if is_refused_with 404 fault then Ok None else Err (of_client fault))
 
 -- One call fetched the document, on a connection of its own.
-pub record Fetches (root : List ℕ) (user : Option (List ℕ)) (doc : DocId) (old new : StreamState) (result : Result (Option ReplicaVersion) FollowerFault) : Type 0 where
+pub record Fetches (root : List ℕ) (user : Option (List ℕ)) (doc : DocId) (old new : StreamState)
+    (result : Result (Option ReplicaVersion) FollowerFault) : Type 0 where
   pub given : Result Response ClientFault
   pub calls : Calls root (getting user (id_text doc)) old new given
   pub takes : TakesDocument given result

@@ -1,6 +1,6 @@
 -- The follower's fault for each fault of a call below. The project's own.
-use Rattle.xml_tree.specs.declared.read_error.ReadError.{ReadError}
-use Rattle.xml_tree.specs.declared.read_error.ReadError.TheVariants as errors
+use Rattle.xml_names.specs.declared.read_error.ReadError.{ReadError}
+use Rattle.xml_names.specs.declared.read_error.ReadError.TheVariants as errors
 use Rattle.tree_text.specs.declared.fault.TextFault.{TextFault}
 use Rattle.patch_apply.specs.declared.fault.NoticeFault.{NoticeFault}
 use Rattle.patch_apply.specs.declared.fault.ApplyFault.{ApplyFault}

@@ -2,7 +2,7 @@
 -- section 3; RFC 5875).
 use Rattle.std.specs.Prelude.{◌≡◌, ℕ, List, Option, None, Some, Result, Ok, Err, if◌then◌else◌}
 use Rattle.xml_tree.specs.Tree.{Tree}
-use Rattle.xml_tree.specs.declared.read_error.ReadError.{ReadError}
+use Rattle.xml_names.specs.declared.read_error.ReadError.{ReadError}
 use Rattle.doc_names.specs.declared.doc_id.DocId.{DocId}
 use Rattle.xcap_client.specs.declared.response.Response.{Response}
 use Rattle.xcap_uri.specs.Naming.{is_name_of}
@@ -32,17 +32,22 @@ outcome_of (Err error) = Err (of_apply error)
 
 -- The body is a diff document, which was applied to the replica, or is none; but memory may run
 -- out while it is read.
-pub data TakesNotice (doc : DocId) (body : List ℕ) (held held' : ReplicaContents) (result : Result (Option Round) FollowerFault) : Type 0 where
-  applies : (notice : Tree) (applied : Result Applied (ReadError ApplyFault)) → NoticeAnswer body (Ok notice)
+pub data TakesNotice (doc : DocId) (body : List ℕ) (held held' : ReplicaContents)
+    (result : Result (Option Round) FollowerFault) : Type 0 where
+  applies : (notice : Tree) (applied : Result Applied (ReadError ApplyFault))
+      → NoticeAnswer body (Ok notice)
       → Applies (is_name_of doc) notice held applied held' → result ≡ outcome_of applied
       → TakesNotice doc body held held' result
-  is_none : (fault : NoticeFault) → NoticeAnswer body (Err fault) → held' ≡ held → result ≡ Err (BadNotice fault)
+  is_none : (fault : NoticeFault) → NoticeAnswer body (Err fault) → held' ≡ held
+      → result ≡ Err (BadNotice fault)
       → TakesNotice doc body held held' result
   lacks_memory : held' ≡ held → result ≡ Err NoMemory → TakesNotice doc body held held' result
 
 -- by the result of the call: a response with a diff document; 410, where the server no longer
 -- knows the etag and the document has to be fetched; or another fault
-abbrev pub TakesFeed : DocId → Result Response ClientFault → ReplicaContents → ReplicaContents → Result (Option Round) FollowerFault → Type 0
+abbrev pub TakesFeed : DocId → Result Response ClientFault → ReplicaContents → ReplicaContents
+    → Result (Option Round) FollowerFault → Type 0
 TakesFeed doc (Ok response) held held' result = TakesNotice doc response.body held held' result
 TakesFeed doc (Err fault) held held' result =
-    (held' ≡ held) × (result ≡ (if is_refused_with 410 fault then Ok None else Err (of_client fault)))
+    (held' ≡ held)
+    × (result ≡ (if is_refused_with 410 fault then Ok None else Err (of_client fault)))

@@ -19,27 +19,38 @@ use Rattle.client_follower.specs.declared.feed_rounds.Round.TheVariants.{Refetch
 
 -- The replica was empty, and nothing was requested; or one call requested the feed since the
 -- replica's etag, on a connection of its own.
-pub data AsksFeed (f f' : Following) (old new : StreamState) (result : Result (Option Round) FollowerFault) : Type 0 where
-  holds_nothing : f.held ≡ None → f' ≡ f → new ≡ old → result ≡ Ok None → AsksFeed f f' old new result
-  asks : (tag : List ℕ) (tree : Tree) (given : Result Response ClientFault) → f.held ≡ Some (tag, tree)
-      → Calls f.root (getting f.user (feed_path tag f.doc)) old new given → TakesFeed f.doc given f.held f'.held result
+pub data AsksFeed (f f' : Following) (old new : StreamState)
+    (result : Result (Option Round) FollowerFault) : Type 0 where
+  holds_nothing : f.held ≡ None → f' ≡ f → new ≡ old → result ≡ Ok None
+      → AsksFeed f f' old new result
+  asks : (tag : List ℕ) (tree : Tree) (given : Result Response ClientFault)
+      → f.held ≡ Some (tag, tree)
+      → Calls f.root (getting f.user (feed_path tag f.doc)) old new given
+      → TakesFeed f.doc given f.held f'.held result
       → f' ≡ record f { held = f'.held } → AsksFeed f f' old new result
 
 -- the replica after the document was fetched, and the outcome of the round
-abbrev pub HoldsFetched : Following → Following → Result (Option ReplicaVersion) FollowerFault → Result Round FollowerFault → Type 0
-HoldsFetched f f' (Ok (Some held)) result = (f' ≡ record f { held = stored_in (Some held) }) × (result ≡ Ok Refetched)
+abbrev pub HoldsFetched : Following → Following → Result (Option ReplicaVersion) FollowerFault
+    → Result Round FollowerFault → Type 0
+HoldsFetched f f' (Ok (Some held)) result =
+    (f' ≡ record f { held = stored_in (Some held) }) × (result ≡ Ok Refetched)
 HoldsFetched f f' (Ok None) result = (f' ≡ record f { held = None }) × (result ≡ Ok Removed)
 HoldsFetched f f' (Err fault) result = (f' ≡ f) × (result ≡ Err fault)
 
-pub record Refetches (f f' : Following) (old new : StreamState) (result : Result Round FollowerFault) : Type 0 where
+pub record Refetches (f f' : Following) (old new : StreamState)
+    (result : Result Round FollowerFault) : Type 0 where
   pub fetched : Result (Option ReplicaVersion) FollowerFault
   pub fetches : Fetches f.root f.user f.doc old new fetched
   pub holds : HoldsFetched f f' fetched result
 
 -- The feed's diff document decided what became of the document; or it didn't, and then the
 -- document was fetched; or the request for the feed failed.
-pub data Rounds (f f' : Following) (old new : StreamState) (result : Result Round FollowerFault) : Type 0 where
-  by_feed : (round : Round) → AsksFeed f f' old new (Ok (Some round)) → result ≡ Ok round → Rounds f f' old new result
-  by_document : (between : StreamState) → AsksFeed f f old between (Ok None) → Refetches f f' between new result
+pub data Rounds (f f' : Following) (old new : StreamState)
+    (result : Result Round FollowerFault) : Type 0 where
+  by_feed : (round : Round) → AsksFeed f f' old new (Ok (Some round)) → result ≡ Ok round
       → Rounds f f' old new result
-  failed : (fault : FollowerFault) → AsksFeed f f' old new (Err fault) → f' ≡ f → result ≡ Err fault → Rounds f f' old new result
+  by_document : (between : StreamState) → AsksFeed f f old between (Ok None)
+      → Refetches f f' between new result
+      → Rounds f f' old new result
+  failed : (fault : FollowerFault) → AsksFeed f f' old new (Err fault) → f' ≡ f → result ≡ Err fault
+      → Rounds f f' old new result

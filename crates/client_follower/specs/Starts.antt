@@ -8,11 +8,14 @@ use Rattle.client_follower.specs.Documents.{Fetches}
 use Rattle.client_follower.specs.States.{Following}
 use Rattle.client_follower.specs.declared.fault.FollowerFault.{FollowerFault}
 
-abbrev pub started : List ℕ → Option (List ℕ) → DocId → Result (Option ReplicaVersion) FollowerFault → Result Following FollowerFault
-started root user doc (Ok held) = Ok (record { root = root; user = user; doc = doc; held = stored_in held })
+abbrev pub started : List ℕ → Option (List ℕ) → DocId → Result (Option ReplicaVersion) FollowerFault
+    → Result Following FollowerFault
+started root user doc (Ok held) =
+    Ok (record { root = root; user = user; doc = doc; held = stored_in held })
 started root user doc (Err fault) = Err fault
 
-pub record Starts (root : List ℕ) (user : Option (List ℕ)) (doc : DocId) (old new : StreamState) (result : Result Following FollowerFault) : Type 0 where
+pub record Starts (root : List ℕ) (user : Option (List ℕ)) (doc : DocId) (old new : StreamState)
+    (result : Result Following FollowerFault) : Type 0 where
   pub fetched : Result (Option ReplicaVersion) FollowerFault
   pub fetches : Fetches root user doc old new fetched
   pub told : result ≡ started root user doc fetched

@@ -13,7 +13,7 @@ use tree_text::read_document;
 use xcap_client::{ClientFault, Response, fetch};
 use xcap_io::{Line, Peer};
 use xcap_uri::Root;
-use xml_tree::MAX_LEVELS;
+use xml_names::MAX_LEVELS;
 
 // The version of the document in a response.
 fn version_in(alloc: Global, response: Response) -> Result<ReplicaVersion, FollowerFault>

@@ -8,7 +8,7 @@ use thiserror::Error;
 use tree_text::TextFault;
 use xcap_client::ClientFault;
 use xcap_io::NoMemory;
-use xml_tree::ReadError;
+use xml_names::ReadError;
 
 /// Why a follower learned nothing. It is then as it was.
 #[derive(Debug, Drop, Error)]

@@ -9,7 +9,7 @@ use crate::fault::FollowerFault;
 use patch_apply::{Applied, ApplyFault, Replica, apply_notice, read_notice};
 use std::alloc::Global;
 use xcap_client::{ClientFault, Response};
-use xml_tree::ReadError;
+use xml_names::ReadError;
 
 /// The outcome of a round.
 #[derive(Clone, Copy, Drop, PartialEq, Eq)]

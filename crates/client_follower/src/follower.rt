@@ -16,7 +16,7 @@ use std::marker::Model;
 use xcap_client::{copy_user, fetch};
 use xcap_io::{Line, Peer};
 use xcap_uri::Root;
-use xml_tree::Text;
+use xml_names::Text;
 
 /// A follower of a document under a root, with its replica. Contracts see the root, the user who
 /// asks, the document's name and the contents of the replica.
@@ -40,7 +40,12 @@ impl Model for Follower {
 
     ghost coded = { Prim.hlevel (codes, tree_code, d.the_row.coded) };
 
-    ghost view = { λ f. record { root = f.root; user = f.user; doc = f.replica.doc; held = stored_in f.replica.held } };
+    ghost view = { λ f. record {
+      root = f.root;
+      user = f.user;
+      doc = f.replica.doc;
+      held = stored_in f.replica.held;
+    } };
 
     ghost invariant = { λ f. HoldsSound (stored_in f.replica.held) };
 }

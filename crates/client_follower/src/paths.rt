@@ -6,7 +6,7 @@ ghost use Rattle.client_follower.specs.Paths.{feed_path};
 use doc_names::{DocId, print_doc_id, push_part};
 use std::alloc::Global;
 use xcap_io::NoMemory;
-use xml_tree::Text;
+use xml_names::Text;
 
 // An etag as a part of an address.
 fn tag_part(alloc: Global, tag: &Text) -> Result<Text, NoMemory>

@@ -5,7 +5,7 @@ use Rattle.std.proofs.lemmas.Bool.{eq-eqb}
 use Rattle.std.proofs.lemmas.Fmt.{IsAscii-decimal}
 use Rattle.std.proofs.lemmas.Str.{encodes-IsAscii}
 use Rattle.std.specs.List.{AllByRecursion}
-use Rattle.xml_tree.specs.Limits.{u64_max}
+use Rattle.xml_names.specs.Limits.{u64_max}
 use Rattle.xml_tree.specs.Tree.{Tree}
 use Rattle.doc_names.specs.Equality.{same_id}
 use Rattle.doc_names.specs.declared.doc_id.DocId.{DocId}
@@ -14,6 +14,7 @@ use Rattle.xcap_uri.specs.Shapes.{tag_spelled}
 use Rattle.xcap_uri.specs.declared.target.Mode.{Mode}
 use Rattle.xcap_uri.specs.declared.target.Mode.TheVariants.{NoPatching, XcapPatching, Aggregate}
 use Rattle.reply_text.specs.ReplyHeads.{SentReply}
+use Rattle.http_wire.specs.declared.request.Request.{Request}
 use Rattle.store_core.specs.DocumentChanges.{document_in, document_name, stored_name}
 use Rattle.store_core.specs.Contents.{Represents, StoreContents, stored_of, stock_of}
 use Rattle.store_core.specs.ValidStates.{IsKept, IsValidState}
@@ -26,7 +27,6 @@ use Rattle.xcap_machine.specs.Requests.{IsAnswer}
 use Rattle.patch_rules.specs.Replay.{CopyAnswer, ReplicaContents, Removed}
 use Rattle.patch_apply.specs.DiffTexts.{NoticeAnswer}
 use Rattle.patch_apply.specs.declared.fault.NoticeFault.{NoticeFault}
-use Rattle.patch_apply.specs.declared.replica.Applied.{Applied}
 use Rattle.xcap_machine.proofs.OneVersion.{found_all, held_there}
 use Rattle.xcap_machine.specs.Subscribers.{answer_between, subscribed}
 use Rattle.xcap_machine.specs.SubscriberVersions.{SubscriberHolds, SubscribersHold, Updates, UpdatesFrom, UpdatesHeld, UpdatesTo}
@@ -34,9 +34,8 @@ use Rattle.client_theorem.proofs.Numerals.{printed_numeral}
 use Rattle.client_theorem.specs.FeedRequests.{AsksForFeed, feed_request}
 use Rattle.client_theorem.proofs.Replies.{sends_a_notice}
 use Rattle.client_theorem.proofs.Taking.{updated}
-use Rattle.client_theorem.specs.FollowResults.{Follows, FollowsFrom, FollowsHeld, OrNoMemory, Refuses, TakesNotice}
+use Rattle.client_theorem.specs.FollowResults.{FeedQuery, FollowOutcome, Follows, FollowsFrom, FollowsHeld, OrNoMemory, Refuses, TakesNotice}
 use Rattle.client_theorem.specs.SubscriberVersions.{DropsWhatIsGone, Gets, HoldsThePresent, IsPatching, IsRetained}
-use Rattle.client_theorem.specs.declared.fault.FollowFault.{FollowFault}
 use Rattle.client_theorem.specs.declared.fault.FollowFault.TheVariants.{BadTag, Status}
 
 -- ---- tags
@@ -60,87 +59,89 @@ small_tag m id d from last kept next small is =
 
 -- ---- what was requested
 
-module _ (root : List ℕ) (c : StoreContents) (m : State) (stands : Represents c m) (mode : Mode) (id : DocId) (old : ReplicaContents) (result : Result Applied FollowFault) (new : ReplicaContents)
-    (asks : (tag : List ℕ) (n : ℕ) → tag_spelled tag ≡ Some n → AsksForFeed root mode n id (feed_request root mode tag id))
-    (holds : (tag : List ℕ) (reply : SentReply) → IsAnswer root c (feed_request root mode tag id) (unchanged reply) → SubscribersHold root m (feed_request root mode tag id) reply) where
+-- the request for the feed since a tag
+abbrev request_since : FeedQuery → List ℕ → Request
+request_since query tag = feed_request query.root query.mode tag query.doc
+
+module _ (query : FeedQuery) (m : State) (stands : Represents query.content m) (outcome : FollowOutcome)
+    (asks : (tag : List ℕ) (n : ℕ) → tag_spelled tag ≡ Some n → AsksForFeed query.root query.mode n query.doc (request_since query tag))
+    (holds : (tag : List ℕ) (reply : SentReply) → IsAnswer query.root query.content (request_since query tag) (unchanged reply) → SubscribersHold query.root m (request_since query tag) reply) where
   -- with a version whose tag is a numeral the machine was asked
-  asked : (tag : ℕ) (tree : Tree) → 1 ≤ tag → tag ≤ u64_max → old ≡ Some (decimal tag, tree) → Follows root c mode id id old result new → FollowsFrom root c mode id id old result new (decimal tag)
+  asked : (tag : ℕ) (tree : Tree) → 1 ≤ tag → tag ≤ u64_max → outcome.old ≡ Some (decimal tag, tree) → Follows query query.doc outcome → FollowsFrom query query.doc (decimal tag) outcome
   asked tag tree some small is follows =
-      let held : FollowsHeld root c mode id id old result new (Some (decimal tag, tree)) = subst (FollowsHeld root c mode id id old result new) is follows in
-      either (is_some (tag_spelled (decimal tag))) (FollowsFrom root c mode id id old result new (decimal tag)) (Refuses old result new BadTag)
+      let held : FollowsHeld query query.doc outcome (Some (decimal tag, tree)) = subst (FollowsHeld query query.doc outcome) is follows in
+      either (is_some (tag_spelled (decimal tag))) (FollowsFrom query query.doc (decimal tag) outcome) (Refuses BadTag outcome)
       (λ _ so. so) (λ no so. let never : true ≡ false = sym (ap is_some (spelled tag some small)) ∙ no in absurd cc) held
 
   -- and its reply carries a diff document of what the subscriber is to have
-  pub told : (tag : ℕ) (tree : Tree) → 1 ≤ tag → tag ≤ u64_max → old ≡ Some (decimal tag, tree) → since c id tag ≢ Unknown → Follows root c mode id id old result new
-      → (answer : CopyAnswer) (then : ReplicaContents) → ((body : List ℕ) → UpdatesHeld mode tag id body (document_in document_name m.documents id) → Updates id body old answer then) → Gets result new answer then
+  pub told : (tag : ℕ) (tree : Tree) → 1 ≤ tag → tag ≤ u64_max → outcome.old ≡ Some (decimal tag, tree) → since query.content query.doc tag ≢ Unknown → Follows query query.doc outcome
+      → (answer : CopyAnswer) (then : ReplicaContents) → ((body : List ℕ) → UpdatesHeld query.mode tag query.doc body (document_in document_name m.documents query.doc) → Updates query.doc body outcome.old answer then) → Gets answer then outcome
   told tag tree some small is known follows answer then updates =
       let from = asked tag tree some small is follows in
       let reply = from.0 in
       let is_tag = spelled tag some small in
       let request = asks (decimal tag) tag is_tag in
-      let brings : SubscriberHolds m mode tag id reply = holds (decimal tag) reply from.1 mode tag id request.target request.method in
-      let status : reply.status ≡ 200 = sends_a_notice root c mode tag id (feed_request root mode (decimal tag) id) request (unchanged reply) from.1 known in
-      either (reply.status == 200) ((read : Result Tree NoticeFault) × NoticeAnswer reply.body read × TakesNotice id old result new read) (Refuses old result new (Status reply.status))
-      (λ _ so. updated id old result new reply.body so.0 old answer then (updates reply.body (brings.updates status)) so.1 refl so.2)
+      let brings : SubscriberHolds m query.mode tag query.doc reply = holds (decimal tag) reply from.1 query.mode tag query.doc request.target request.method in
+      let status : reply.status ≡ 200 = sends_a_notice query.root query.content query.mode tag query.doc (request_since query (decimal tag)) request (unchanged reply) from.1 known in
+      either (reply.status == 200) ((read : Result Tree NoticeFault) × NoticeAnswer reply.body read × TakesNotice query.doc read outcome) (Refuses (Status reply.status) outcome)
+      (λ _ so. updated query.doc outcome reply.body so.0 outcome.old answer then (updates reply.body (brings.updates status)) so.1 refl so.2)
       (λ no so. let never : true ≡ false = sym (eq-eqb reply.status 200 status) ∙ no in absurd cc) from.2
 
   -- ---- the two cases of the document
 
-  by_mode : (one : Mode) → IsPatching one → (body : List ℕ) (from now : Version) → UpdatesTo one id body from now → Updates id body (subscribed from) (answer_between from now) (subscribed now)
+  by_mode : (one : Mode) → IsPatching one → (body : List ℕ) (from now : Version) → UpdatesTo one query.doc body from now → Updates query.doc body (subscribed from) (answer_between from now) (subscribed now)
   by_mode NoPatching patching body from now h = absurd patching
   by_mode XcapPatching patching body from now h = h
   by_mode Aggregate patching body from now h = h
 
-  pub present : (d : Document) (from : Version) → 1 ≤ from.tag → from.tag ≤ u64_max → IsPatching mode → IsRetained m id d from → old ≡ subscribed from → Follows root c mode id id old result new
-      → Gets result new (answer_between from d.now) (subscribed d.now)
+  pub present : (d : Document) (from : Version) → 1 ≤ from.tag → from.tag ≤ u64_max → IsPatching query.mode → IsRetained m query.doc d from → outcome.old ≡ subscribed from → Follows query query.doc outcome
+      → Gets (answer_between from d.now) (subscribed d.now) outcome
   present d from some small patching retained is follows =
-      told from.tag from.tree some small is (λ unknown. retained.retained (ap (λ (s : StoreContents). since s id from.tag) (sym stands) ∙ unknown)) follows (answer_between from d.now) (subscribed d.now)
+      told from.tag from.tree some small is (λ unknown. retained.retained (ap (λ (s : StoreContents). since s query.doc from.tag) (sym stands) ∙ unknown)) follows (answer_between from d.now) (subscribed d.now)
       (λ body h.
-      let u : UpdatesFrom mode from.tag id body d = subst (UpdatesHeld mode from.tag id body) retained.there h in
+      let u : UpdatesFrom query.mode from.tag query.doc body d = subst (UpdatesHeld query.mode from.tag query.doc body) retained.there h in
       let same : from ≡ u.from = u.only from retained.number retained.is_version refl in
-      let to : UpdatesTo mode id body from d.now = subst (λ (v : Version). UpdatesTo mode id body v d.now) (sym same) u.updates in
-      subst (λ (held : ReplicaContents). Updates id body held (answer_between from d.now) (subscribed d.now)) (sym is) (by_mode mode patching body from d.now to))
+      let to : UpdatesTo query.mode query.doc body from d.now = subst (λ (v : Version). UpdatesTo query.mode query.doc body v d.now) (sym same) u.updates in
+      subst (λ (held : ReplicaContents). Updates query.doc body held (answer_between from d.now) (subscribed d.now)) (sym is) (by_mode query.mode patching body from d.now to))
 
-  never_unknown : (tag : ℕ) → document_in document_name m.documents id ≡ None → since c id tag ≢ Unknown
+  never_unknown : (tag : ℕ) → document_in document_name m.documents query.doc ≡ None → since query.content query.doc tag ≢ Unknown
   never_unknown tag none unknown =
-      let nothing : document_in stored_name (stock_of m).documents id ≡ None = held_there m.documents id ∙ ap (option_map stored_of) none in
-      let gone : since c id tag ≡ Gone = ap (λ (s : StoreContents). since s id tag) stands ∙ ap (held_since tag) nothing in
+      let nothing : document_in stored_name (stock_of m).documents query.doc ≡ None = held_there m.documents query.doc ∙ ap (option_map stored_of) none in
+      let gone : since query.content query.doc tag ≡ Gone = ap (λ (s : StoreContents). since s query.doc tag) stands ∙ ap (held_since tag) nothing in
       let never : Gone ≡ Unknown = sym gone ∙ unknown in
       absurd cc
 
-  pub dropped : (tag : ℕ) (tree : Tree) → document_in document_name m.documents id ≡ None → 1 ≤ tag → tag ≤ u64_max → old ≡ Some (decimal tag, tree) → Follows root c mode id id old result new
-      → Gets result new Removed None
+  pub dropped : (tag : ℕ) (tree : Tree) → document_in document_name m.documents query.doc ≡ None → 1 ≤ tag → tag ≤ u64_max → outcome.old ≡ Some (decimal tag, tree) → Follows query query.doc outcome
+      → Gets Removed None outcome
   dropped tag tree none some small is follows =
       told tag tree some small is (never_unknown tag none) follows Removed None
       (λ body h.
-      let drops : (t : Tree) → Updates id body (Some (decimal tag, t)) Removed None = subst (UpdatesHeld mode tag id body) none h in
-      subst (λ (held : ReplicaContents). Updates id body held Removed None) (sym is) (drops tree))
+      let drops : (t : Tree) → Updates query.doc body (Some (decimal tag, t)) Removed None = subst (UpdatesHeld query.mode tag query.doc body) none h in
+      subst (λ (held : ReplicaContents). Updates query.doc body held Removed None) (sym is) (drops tree))
 
 -- ---- unless out of memory
 
-pub unless_memory : (old : ReplicaContents) (result : Result Applied FollowFault) (new : ReplicaContents) (P : Type 0) (answer : CopyAnswer) (then : ReplicaContents) → (P → Gets result new answer then) → OrNoMemory old result new P
-    → Gets result new answer then
-unless_memory old result new P answer then gets (inl p) = gets p
-unless_memory old result new P answer then gets (inr none) = inr none.0
+pub unless_memory : (outcome : FollowOutcome) (P : FollowOutcome → Type 0) (answer : CopyAnswer) (then : ReplicaContents) → (P outcome → Gets answer then outcome) → OrNoMemory P outcome → Gets answer then outcome
+unless_memory outcome P answer then gets (inl p) = gets p
+unless_memory outcome P answer then gets (inr none) = inr none.0
 
 -- the law of the machine, for the document of the replica
-pub record Lawful (root : List ℕ) (c : StoreContents) (m : State) (mode : Mode) (id : DocId) : Type 0 where
+pub record Lawful (query : FeedQuery) (m : State) : Type 0 where
   pub kept : IsValidState m
-  pub stands : Represents c m
-  pub asks : (tag : List ℕ) (n : ℕ) → tag_spelled tag ≡ Some n → AsksForFeed root mode n id (feed_request root mode tag id)
-  pub holds : (tag : List ℕ) (reply : SentReply) → IsAnswer root c (feed_request root mode tag id) (unchanged reply) → SubscribersHold root m (feed_request root mode tag id) reply
+  pub stands : Represents query.content m
+  pub asks : (tag : List ℕ) (n : ℕ) → tag_spelled tag ≡ Some n → AsksForFeed query.root query.mode n query.doc (feed_request query.root query.mode tag query.doc)
+  pub holds : (tag : List ℕ) (reply : SentReply) → IsAnswer query.root query.content (feed_request query.root query.mode tag query.doc) (unchanged reply) → SubscribersHold query.root m (feed_request query.root query.mode tag query.doc) reply
 
-module _ (root : List ℕ) (c : StoreContents) (m : State) (mode : Mode) (id mine : DocId) (old : ReplicaContents) (result : Result Applied FollowFault) (new : ReplicaContents) (lawful : Lawful root c m mode id) (same : mine ≡ id)
-    (follows : OrNoMemory old result new (Follows root c mode id mine old result new)) where
-  its_own : OrNoMemory old result new (Follows root c mode id id old result new)
-  its_own = subst (λ (doc : DocId). OrNoMemory old result new (Follows root c mode id doc old result new)) same follows
+module _ (query : FeedQuery) (m : State) (mine : DocId) (outcome : FollowOutcome) (lawful : Lawful query m) (same : mine ≡ query.doc) (follows : OrNoMemory (Follows query mine) outcome) where
+  its_own : OrNoMemory (Follows query query.doc) outcome
+  its_own = subst (λ (doc : DocId). OrNoMemory (Follows query doc) outcome) same follows
 
-  pub holds_present : (last : ℕ) → last + 1 ≡ c.next → last ≤ u64_max → HoldsThePresent m mode id old result new
+  pub holds_present : (last : ℕ) → last + 1 ≡ query.content.next → last ≤ u64_max → HoldsThePresent m query.mode query.doc outcome
   holds_present last next small d from patching retained is =
-      let tag = small_tag m id d from last lawful.kept (next ∙ ap (λ (s : StoreContents). s.next) lawful.stands) small retained in
-      unless_memory old result new (Follows root c mode id id old result new) (answer_between from d.now) (subscribed d.now)
-      (present root c m lawful.stands mode id old result new lawful.asks lawful.holds d from tag.0 tag.1 patching retained is) its_own
+      let tag = small_tag m query.doc d from last lawful.kept (next ∙ ap (λ (s : StoreContents). s.next) lawful.stands) small retained in
+      unless_memory outcome (Follows query query.doc) (answer_between from d.now) (subscribed d.now)
+      (present query m lawful.stands outcome lawful.asks lawful.holds d from tag.0 tag.1 patching retained is) its_own
 
-  pub drops_gone : DropsWhatIsGone m id old result new
+  pub drops_gone : DropsWhatIsGone m query.doc outcome
   drops_gone tag tree none some small is =
-      unless_memory old result new (Follows root c mode id id old result new) Removed None (dropped root c m lawful.stands mode id old result new lawful.asks lawful.holds tag tree none some small is) its_own
+      unless_memory outcome (Follows query query.doc) Removed None (dropped query m lawful.stands outcome lawful.asks lawful.holds tag tree none some small is) its_own

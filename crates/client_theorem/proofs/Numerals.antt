@@ -13,8 +13,8 @@ use Rattle.percent_encoding.specs.Percent.{percent_decode}
 use Rattle.percent_encoding.proofs.PercentLemmas.{percent_decode-nil, percent_decode_not_percent}
 use Rattle.xml_grammar.specs.Digits.{decimal_digits}
 use Rattle.xml_grammar.specs.Rules.{AllPass, number_from}
-use Rattle.tree_text.specs.Faults.{is_other}
-use Rattle.xml_tree.specs.Limits.{u64_max}
+use Rattle.xml_tokens.specs.Tokens.{is_other}
+use Rattle.xml_names.specs.Limits.{u64_max}
 use Rattle.xcap_uri.specs.Escapes.{StandsFor, has_whole_escapes}
 use Rattle.xcap_uri.specs.Numerals.{begins_with_digit, numeral_of}
 use Rattle.doc_names.proofs.Words.{word_letters}

@@ -25,23 +25,24 @@ use Rattle.xcap_machine.specs.Feeds.{changes_since_answer}
 use Rattle.xcap_machine.specs.Machine.{ValidStep, Step, after_answer, answer_as, told_as}
 use Rattle.xcap_machine.specs.Requests.{ByMethod, ByTarget, ByUser, IsAnswer}
 use Rattle.xcap_machine.specs.inner.Cases.{IsAnswered}
+use Rattle.xcap_machine.specs.inner.Records.{feed_query, read_by, server_of}
 use Rattle.client_theorem.specs.FeedRequests.{AsksForFeed}
 
 module _ (root : List ℕ) (c : StoreContents) (mode : Mode) (n : ℕ) (id : DocId) (request : Request) (asks : AsksForFeed root mode n id request) where
   -- it is the answer by the result of the since-query
-  answered : (a : Answer) → IsAnswer root c request a → a ≡ changes_since_answer root mode n id (since c id n) Get request
+  answered : (a : Answer) → IsAnswer root c request a → a ≡ changes_since_answer root (feed_query mode n id) (since c id n) (read_by Get request)
   answered a is =
       let same : is.0 ≡ Ok (Feed mode n id) = one_target root request.target is.0 (Ok (Feed mode n id)) is.1 asks.target in
-      let here : ByTarget root c (Feed mode n id) (method_of request.method) request a = subst (λ (read : Result Target UriFault). IsAnswered root c read request a) same is.2 in
-      let reads : ByUser root c (Feed mode n id) Get request a = subst (λ (x : Method). ByTarget root c (Feed mode n id) x request a) asks.method here in
-      either (is_allowed false id.auid id.home request.fields) (ByMethod root c (Feed mode n id) Get request a) (a ≡ unchanged (plain 403 request.closes))
+      let here : ByTarget (server_of root c) (Feed mode n id) (method_of request.method) request a = subst (λ (read : Result Target UriFault). IsAnswered root c read request a) same is.2 in
+      let reads : ByUser (server_of root c) (Feed mode n id) Get request a = subst (λ (x : Method). ByTarget (server_of root c) (Feed mode n id) x request a) asks.method here in
+      either (is_allowed false id.auid id.home request.fields) (ByMethod (server_of root c) (Feed mode n id) Get request a) (a ≡ unchanged (plain 403 request.closes))
       (λ _ so. so) (λ no so. let never : true ≡ false = sym asks.allowed ∙ no in absurd cc) reads
 
   -- nothing is changed
   pub changes_nothing : (a : Answer) → IsAnswer root c request a → a.made ≡ None
   changes_nothing a is = ap (λ (x : Answer). x.made) (answered a is) ∙ by (since c id n)
     where
-      by : (changes_since : ChangesSince) → (changes_since_answer root mode n id changes_since Get request).made ≡ None
+      by : (changes_since : ChangesSince) → (changes_since_answer root (feed_query mode n id) changes_since (read_by Get request)).made ≡ None
       by Gone = refl
       by Unknown = refl
       by (ReportedChanges ns) = refl
@@ -50,7 +51,7 @@ module _ (root : List ℕ) (c : StoreContents) (mode : Mode) (n : ℕ) (id : Doc
   pub sends_a_notice : (a : Answer) → IsAnswer root c request a → since c id n ≢ Unknown → a.reply.status ≡ 200
   sends_a_notice a is known = ap (λ (x : Answer). x.reply.status) (answered a is) ∙ by (since c id n) known
     where
-      by : (changes_since : ChangesSince) → changes_since ≢ Unknown → (changes_since_answer root mode n id changes_since Get request).reply.status ≡ 200
+      by : (changes_since : ChangesSince) → changes_since ≢ Unknown → (changes_since_answer root (feed_query mode n id) changes_since (read_by Get request)).reply.status ≡ 200
       by Gone some = refl
       by Unknown some = absurd (some refl)
       by (ReportedChanges ns) some = refl

@@ -1,6 +1,6 @@
 -- The fault of following for each fault of its parts.
-use Rattle.xml_tree.specs.declared.read_error.ReadError.{ReadError}
-use Rattle.xml_tree.specs.declared.read_error.ReadError.TheVariants as errors
+use Rattle.xml_names.specs.declared.read_error.ReadError.{ReadError}
+use Rattle.xml_names.specs.declared.read_error.ReadError.TheVariants as errors
 use Rattle.patch_apply.specs.declared.fault.ApplyFault.{ApplyFault}
 use Rattle.patch_apply.specs.declared.fault.NoticeFault.{NoticeFault}
 use Rattle.client_theorem.specs.declared.fault.FollowFault.{FollowFault}

@@ -1,7 +1,8 @@
 -- Requests for feeds. RFC 9110, section 9.3.1: GET; RFC 5875, section 4.3: the modes of diff
 -- processing. That a feed has an address, and which, and how a request names its user, is this
 -- server's own.
-use Rattle.std.specs.Prelude.{◌≡◌, ℕ, true, false, List, [], ◌∷◌, ◌++◌, codes, encode_utf8_all, Some, Ok}
+use Rattle.std.specs.Prelude.{◌≡◌, ℕ, true, false, List, [], ◌∷◌, ◌++◌, codes, encode_utf8_all}
+use Rattle.std.specs.Prelude.{Some, Ok}
 use Rattle.doc_names.specs.Ids.{IsAddressable, id_text}
 use Rattle.doc_names.specs.Usages.{usage_of}
 use Rattle.doc_names.specs.declared.doc_id.DocId.{DocId}
@@ -27,7 +28,8 @@ mode_text Aggregate = codes "aggregate"
 -- the address of the feed of a document since the version with a tag
 abbrev pub feed_address : List ℕ → Mode → List ℕ → DocId → List ℕ
 feed_address root mode tag doc =
-    root ++ codes "/~feed/" ++ mode_text mode ++ codes "/" ++ encode_utf8_all tag ++ codes "/" ++ id_text doc
+    root ++ codes "/~feed/" ++ mode_text mode ++ codes "/" ++ encode_utf8_all tag ++ codes "/"
+    ++ id_text doc
 
 -- the field that names a user
 abbrev pub user_field : List ℕ → Field
@@ -59,7 +61,8 @@ pub record HasFeed (doc : DocId) : Type 0 where
 
 -- the request asks to read the feed of the document in this mode, since the version with this tag,
 -- and is allowed to
-pub record AsksForFeed (root : List ℕ) (mode : Mode) (tag : ℕ) (doc : DocId) (request : Request) : Type 0 where
+pub record AsksForFeed (root : List ℕ) (mode : Mode) (tag : ℕ) (doc : DocId)
+    (request : Request) : Type 0 where
   pub target : TargetResult root request.target (Ok (Feed mode tag doc))
   pub method : method_of request.method ≡ Get
   pub allowed : is_allowed false doc.auid doc.home request.fields ≡ true

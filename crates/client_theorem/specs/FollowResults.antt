@@ -20,49 +20,68 @@ use Rattle.patch_apply.specs.declared.fault.NoticeFault.{NoticeFault}
 use Rattle.patch_apply.specs.declared.replica.Applied.{Applied}
 use Rattle.client_theorem.specs.FeedRequests.{feed_request}
 use Rattle.client_theorem.specs.declared.fault.FollowFault.{FollowFault}
-use Rattle.client_theorem.specs.declared.fault.FollowFault.TheVariants.{Nothing, BadTag, Status, Notice, Apply, NoMemory}
+use Rattle.client_theorem.specs.declared.fault.FollowFault.TheVariants.{Nothing, BadTag, Status}
+use Rattle.client_theorem.specs.declared.fault.FollowFault.TheVariants.{Notice, Apply, NoMemory}
 
--- The old replica, the result, and the new replica.
-module _ (old : ReplicaContents) (result : Result Applied FollowFault) (new : ReplicaContents) where
-  -- a fault, after which the replica is unchanged
-  abbrev pub Refuses : FollowFault → Type 0
-  Refuses fault = (result ≡ Err fault) × (new ≡ old)
+-- A replica before a document was followed with it, the result, and the replica afterwards.
+pub record FollowOutcome : Type 0 where
+  pub old : ReplicaContents
+  pub result : Result Applied FollowFault
+  pub new : ReplicaContents
 
-  -- this, or out of memory, after which the replica is unchanged: `Answered` (`xml_tree/Memory`)
-  -- says nothing of replicas
-  abbrev pub OrNoMemory : Type 0 → Type 0
-  OrNoMemory Comes = Comes ⊎ Refuses NoMemory
+-- Which document is followed, in which mode, and by which machine: its root and its store contents.
+pub record FeedQuery : Type 0 where
+  pub root : List ℕ
+  pub content : StoreContents
+  pub mode : Mode
+  pub doc : DocId
 
-  -- what a diff document makes of a version, or why it can't be applied
-  abbrev pub Applies : Result (CopyAnswer × ReplicaContents) CopyFault → Type 0
-  Applies (Ok x) = (applied : Applied) × (result ≡ Ok applied) × (answer_in applied ≡ x.0) × (new ≡ x.1)
-  Applies (Err fault) = Refuses (Apply (apply_fault_of fault))
+-- a fault, after which the replica is unchanged
+abbrev pub Refuses : FollowFault → FollowOutcome → Type 0
+Refuses fault outcome = (outcome.result ≡ Err fault) × (outcome.new ≡ outcome.old)
 
--- What a reply makes of a replica of the document `mine`.
-module _ (mine : DocId) (old : ReplicaContents) (result : Result Applied FollowFault) (new : ReplicaContents) where
-  -- a diff document is applied; another body is refused
-  abbrev pub TakesNotice : Result Tree NoticeFault → Type 0
-  TakesNotice (Ok notice) = (stated : Result (CopyAnswer × ReplicaContents) CopyFault) × Replays (is_name_of mine) notice old stated × Applies old result new stated
-  TakesNotice (Err fault) = Refuses old result new (Notice fault)
+-- this, or out of memory, after which the replica is unchanged: `Answered` (`xml_tree/Memory`)
+-- says nothing of replicas
+abbrev pub OrNoMemory : (FollowOutcome → Type 0) → FollowOutcome → Type 0
+OrNoMemory Comes outcome = Comes outcome ⊎ Refuses NoMemory outcome
 
-  -- the body is read where the status is 200
-  abbrev pub Takes : SentReply → Type 0
-  Takes reply =
-      MatchBool (reply.status == 200)
-      ((read : Result Tree NoticeFault) × NoticeAnswer reply.body read × TakesNotice read)
-      (Refuses old result new (Status reply.status))
+-- what a diff document makes of a version, or why it can't be applied
+abbrev pub Applies : Result (CopyAnswer × ReplicaContents) CopyFault → FollowOutcome → Type 0
+Applies (Ok x) outcome =
+    (applied : Applied) × (outcome.result ≡ Ok applied) × (answer_in applied ≡ x.0)
+    × (outcome.new ≡ x.1)
+Applies (Err fault) outcome = Refuses (Apply (apply_fault_of fault)) outcome
 
--- What comes of following the document `id` of the machine of this root, on these store contents,
--- with a replica of the document `mine`.
-module _ (root : List ℕ) (c : StoreContents) (mode : Mode) (id mine : DocId) (old : ReplicaContents) (result : Result Applied FollowFault) (new : ReplicaContents) where
-  -- the machine's reply to the request for the feed since a tag
-  abbrev pub FollowsFrom : List ℕ → Type 0
-  FollowsFrom tag = (reply : SentReply) × IsAnswer root c (feed_request root mode tag id) (unchanged reply) × Takes mine old result new reply
+-- a diff document is applied to a replica of the document `mine`; another body is refused
+abbrev pub TakesNotice : DocId → Result Tree NoticeFault → FollowOutcome → Type 0
+TakesNotice mine (Ok notice) outcome =
+    (stated : Result (CopyAnswer × ReplicaContents) CopyFault)
+    × Replays (is_name_of mine) notice outcome.old stated × Applies stated outcome
+TakesNotice mine (Err fault) outcome = Refuses (Notice fault) outcome
 
-  -- the replica's version, and its tag
-  abbrev pub FollowsHeld : Option (List ℕ × Tree) → Type 0
-  FollowsHeld None = Refuses old result new Nothing
-  FollowsHeld (Some version) = MatchBool (is_some (tag_spelled version.0)) (FollowsFrom version.0) (Refuses old result new BadTag)
+-- the body of a reply is read where the status is 200
+abbrev pub Takes : DocId → SentReply → FollowOutcome → Type 0
+Takes mine reply outcome =
+    MatchBool (reply.status == 200)
+    ((read : Result Tree NoticeFault) × NoticeAnswer reply.body read
+    × TakesNotice mine read outcome)
+    (Refuses (Status reply.status) outcome)
 
-  abbrev pub Follows : Type 0
-  Follows = FollowsHeld old
+-- the machine's reply to the request for the feed since a tag, with a replica of `mine`
+abbrev pub FollowsFrom : FeedQuery → DocId → List ℕ → FollowOutcome → Type 0
+FollowsFrom query mine tag outcome =
+    (reply : SentReply)
+    × IsAnswer query.root query.content (feed_request query.root query.mode tag query.doc)
+    (unchanged reply)
+    × Takes mine reply outcome
+
+-- the replica's version, and its tag
+abbrev pub FollowsHeld : FeedQuery → DocId → FollowOutcome → Option (List ℕ × Tree) → Type 0
+FollowsHeld query mine outcome None = Refuses Nothing outcome
+FollowsHeld query mine outcome (Some version) =
+    MatchBool (is_some (tag_spelled version.0)) (FollowsFrom query mine version.0 outcome)
+    (Refuses BadTag outcome)
+
+-- what comes of following a document with a replica of the document `mine`
+abbrev pub Follows : FeedQuery → DocId → FollowOutcome → Type 0
+Follows query mine outcome = FollowsHeld query mine outcome outcome.old

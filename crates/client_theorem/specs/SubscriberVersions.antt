@@ -1,7 +1,7 @@
 -- Which version a subscriber has after following a document: the server's. RFC 5875, section 4.3:
 -- the modes that send the changes of a document.
-use Rattle.std.specs.Prelude.{◌≡◌, ◌≢◌, ◌≤◌, ◌⊎◌, ℕ, decimal, None, Some, Result, Ok, Err, slice_get}
-use Rattle.xml_tree.specs.Limits.{u64_max}
+use Rattle.std.specs.Prelude.{◌≡◌, ◌≢◌, ◌≤◌, ◌⊎◌, ℕ, decimal, None, Some, Ok, Err, slice_get}
+use Rattle.xml_names.specs.Limits.{u64_max}
 use Rattle.xml_tree.specs.Tree.{Tree}
 use Rattle.doc_names.specs.declared.doc_id.DocId.{DocId}
 use Rattle.xcap_uri.specs.declared.target.Mode.{Mode}
@@ -14,7 +14,7 @@ use Rattle.patch_rules.specs.Replay.{CopyAnswer, ReplicaContents, Removed}
 use Rattle.patch_apply.specs.Views.{answer_in}
 use Rattle.patch_apply.specs.declared.replica.Applied.{Applied}
 use Rattle.xcap_machine.specs.Subscribers.{answer_between, subscribed}
-use Rattle.client_theorem.specs.declared.fault.FollowFault.{FollowFault}
+use Rattle.client_theorem.specs.FollowResults.{FollowOutcome}
 use Rattle.client_theorem.specs.declared.fault.FollowFault.TheVariants.{NoMemory}
 
 -- a mode that sends the changes, and not only that there were some
@@ -31,20 +31,24 @@ pub record IsRetained (m : State) (id : DocId) (d : Document) (from : Version) :
   pub retained : since (stock_of m) id from.tag ≢ Unknown
 
 -- this result and this replica; or out of memory
-abbrev pub Gets : Result Applied FollowFault → ReplicaContents → CopyAnswer → ReplicaContents → Type 0
-Gets result new answer held =
-    ((applied : Applied) × (result ≡ Ok applied) × (answer_in applied ≡ answer) × (new ≡ held)) ⊎ (result ≡ Err NoMemory)
+abbrev pub Gets : CopyAnswer → ReplicaContents → FollowOutcome → Type 0
+Gets answer held outcome =
+    ((applied : Applied) × (outcome.result ≡ Ok applied) × (answer_in applied ≡ answer)
+    × (outcome.new ≡ held))
+    ⊎ (outcome.result ≡ Err NoMemory)
 
 -- a subscriber with a version that is retained gets the document's current version, in a mode that
 -- sends changes
-abbrev pub HoldsThePresent : State → Mode → DocId → ReplicaContents → Result Applied FollowFault → ReplicaContents → Type 0
-HoldsThePresent m mode id old result new =
-    (d : Document) (from : Version) → IsPatching mode → IsRetained m id d from → old ≡ subscribed from
-    → Gets result new (answer_between from d.now) (subscribed d.now)
+abbrev pub HoldsThePresent : State → Mode → DocId → FollowOutcome → Type 0
+HoldsThePresent m mode id outcome =
+    (d : Document) (from : Version) → IsPatching mode → IsRetained m id d from
+    → outcome.old ≡ subscribed from
+    → Gets (answer_between from d.now) (subscribed d.now) outcome
 
 -- a subscriber with a version of a document that is gone has an empty replica afterwards, in every
 -- mode
-abbrev pub DropsWhatIsGone : State → DocId → ReplicaContents → Result Applied FollowFault → ReplicaContents → Type 0
-DropsWhatIsGone m id old result new =
-    (tag : ℕ) (tree : Tree) → document_in document_name m.documents id ≡ None → 1 ≤ tag → tag ≤ u64_max → old ≡ Some (decimal tag, tree)
-    → Gets result new Removed None
+abbrev pub DropsWhatIsGone : State → DocId → FollowOutcome → Type 0
+DropsWhatIsGone m id outcome =
+    (tag : ℕ) (tree : Tree) → document_in document_name m.documents id ≡ None → 1 ≤ tag
+    → tag ≤ u64_max → outcome.old ≡ Some (decimal tag, tree)
+    → Gets Removed None outcome

@@ -6,7 +6,7 @@ ghost use Rattle.client_theorem.specs.declared.fault.FollowFault.TheVariants as 
 use patch_apply::{ApplyFault, NoticeFault};
 use std::alloc::AllocError;
 use thiserror::Error;
-use xml_tree::ReadError;
+use xml_names::ReadError;
 
 /// Why a document couldn't be followed, the first reason in this order.
 #[derive(Debug, Drop, PartialEq, Eq, Error)]

@@ -1,7 +1,8 @@
 //! Requests for feeds, and the address of a feed.
 ghost use Rattle.std.specs.Prelude.{◌≡◌, ◌↔◌, IsTrue, IfOk};
 ghost use Rattle.doc_names.specs.Ids.{IsNameable};
-ghost use Rattle.client_theorem.specs.FeedRequests.{HasFeed, feed_address, feed_request, mode_text, user_field, user_fields};
+ghost use Rattle.client_theorem.specs.FeedRequests.{HasFeed, feed_address, feed_request, mode_text};
+ghost use Rattle.client_theorem.specs.FeedRequests.{user_field, user_fields};
 
 use crate::NoMemory;
 use doc_names::{DocId, Home, print_doc_id};
@@ -9,7 +10,7 @@ use http_wire::{Field, Request};
 use std::alloc::Global;
 use xcap_io::Bytes;
 use xcap_uri::{Mode, Root, roots_are_spelled_by_the_grammar};
-use xml_tree::{List, Text};
+use xml_names::{List, Text};
 
 // Whether a text can name a user or a document in an address.
 fn is_nameable(text: &Text) -> bool

@@ -26,7 +26,8 @@ use std::alloc::{AllocError, Global};
 use xcap_machine::subscribers_hold_the_document;
 use xcap_server::{Server, answer};
 use xcap_uri::{Mode, Root, numeral};
-use xml_tree::{MAX_LEVELS, depth};
+use xml_names::MAX_LEVELS;
+use xml_tree::depth;
 
 /// Whether a replica has at most `MAX_LEVELS` levels, as every document has. Does not allocate.
 pub fn is_within_levels(replica: &Replica) -> bool
@@ -75,10 +76,12 @@ fn ask(server: &mut Server, request: &Request) -> Result<MachineReply<Edit>, All
 // What a reply makes of a replica.
 fn take(alloc: Global, replica: &mut Replica, reply: &Reply) -> Result<Applied, FollowFault>
     requires height_bounded { IsWithinLevels (stored_in replica.old.held) }
-    ensures takes_reply { OrNoMemory (stored_in replica.old.held) result
-        (stored_in replica.new.held)
-        (Takes replica.old.doc (stored_in replica.old.held) result
-        (stored_in replica.new.held) reply.now) }
+    ensures takes_reply { OrNoMemory (Takes replica.old.doc reply.now)
+        (record {
+          old = stored_in replica.old.held;
+          result = result;
+          new = stored_in replica.new.held;
+        }) }
     ensures same_document { replica.new.doc ≡ replica.old.doc }
     ensures within_levels { IsWithinLevels (stored_in replica.new.held) }
     ensures stays_sound { HoldsSound (stored_in replica.old.held)
@@ -102,10 +105,20 @@ fn follow(
 ) -> Result<Applied, FollowFault>
     requires has_feed { HasFeed doc.now }
     requires height_bounded { IsWithinLevels (stored_in replica.old.held) }
-    ensures follows_machine { OrNoMemory (stored_in replica.old.held) result
-        (stored_in replica.new.held)
-        (Follows server.old.root server.old.content mode doc.now replica.old.doc
-        (stored_in replica.old.held) result (stored_in replica.new.held)) }
+    ensures follows_machine { OrNoMemory
+        (Follows
+        (record {
+          root = server.old.root;
+          content = server.old.content;
+          mode = mode;
+          doc = doc.now;
+        })
+        replica.old.doc)
+        (record {
+          old = stored_in replica.old.held;
+          result = result;
+          new = stored_in replica.new.held;
+        }) }
     ensures same_document { replica.new.doc ≡ replica.old.doc }
     ensures within_levels { IsWithinLevels (stored_in replica.new.held) }
     ensures stays_sound { HoldsSound (stored_in replica.old.held)
@@ -138,18 +151,36 @@ pub fn followed(
 ) -> Result<Applied, FollowFault>
     requires has_feed { HasFeed doc.now }
     requires height_bounded { IsWithinLevels (stored_in replica.old.held) }
-    ensures follows_machine { OrNoMemory (stored_in replica.old.held) result
-        (stored_in replica.new.held)
-        (Follows server.old.root server.old.content mode doc.now replica.old.doc
-        (stored_in replica.old.held) result (stored_in replica.new.held)) }
+    ensures follows_machine { OrNoMemory
+        (Follows
+        (record {
+          root = server.old.root;
+          content = server.old.content;
+          mode = mode;
+          doc = doc.now;
+        })
+        replica.old.doc)
+        (record {
+          old = stored_in replica.old.held;
+          result = result;
+          new = stored_in replica.new.held;
+        }) }
     ensures holds_present { (m : State) → IsValidState m → Represents server.old.content m
         → replica.old.doc ≡ doc.now
-        → HoldsThePresent m mode doc.now (stored_in replica.old.held) result
-        (stored_in replica.new.held) }
+        → HoldsThePresent m mode doc.now
+        (record {
+          old = stored_in replica.old.held;
+          result = result;
+          new = stored_in replica.new.held;
+        }) }
     ensures drops_gone { (m : State) → IsValidState m → Represents server.old.content m
         → replica.old.doc ≡ doc.now
-        → DropsWhatIsGone m doc.now (stored_in replica.old.held) result
-        (stored_in replica.new.held) }
+        → DropsWhatIsGone m doc.now
+        (record {
+          old = stored_in replica.old.held;
+          result = result;
+          new = stored_in replica.new.held;
+        }) }
     ensures same_document { replica.new.doc ≡ replica.old.doc }
     ensures within_levels { IsWithinLevels (stored_in replica.new.held) }
     ensures stays_sound { HoldsSound (stored_in replica.old.held)

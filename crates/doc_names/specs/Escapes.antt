@@ -1,12 +1,14 @@
 -- What is escaped in a printed address. RFC 3986, sections 2.1 and 3.3.
-use Rattle.std.specs.Prelude.{ℕ, Bool, ◌&&◌, ◌||◌, ◌==◌, nat_le, List, [], ◌∷◌, codes, encode_utf8_all, if◌then◌else◌, flat_map}
+use Rattle.std.specs.Prelude.{ℕ, Bool, ◌&&◌, ◌||◌, ◌==◌, nat_le, List, [], ◌∷◌, codes}
+use Rattle.std.specs.Prelude.{encode_utf8_all, if◌then◌else◌, flat_map}
 use Rattle.std.specs.List.{list_any}
 use Rattle.std.specs.Char.{is_ascii, is_ascii_alphanumeric}
 use Rattle.percent_encoding.specs.Percent.{percent_encode_byte}
 
 -- the octets that a printed part has unescaped: `pchar` of RFC 3986, section 3.3
 abbrev pub is_plain : ℕ → Bool
-is_plain b = is_ascii b && (is_ascii_alphanumeric b || list_any (λ c. b == c) (codes "-._~!$&'()*+,;=:@"))
+is_plain b =
+    is_ascii b && (is_ascii_alphanumeric b || list_any (λ c. b == c) (codes "-._~!$&'()*+,;=:@"))
 
 -- an octet unescaped, or as `%` and two upper-case digits
 abbrev pub escaped_octet : (ℕ → Bool) → ℕ → List ℕ

@@ -4,7 +4,7 @@ ghost use Rattle.std.specs.Prelude.{◌≡◌, ◌↔◌, IsTrue, IfOk};
 ghost use Rattle.doc_names.specs.Equality.{same_id};
 
 use std::alloc::{AllocError, Global};
-use xml_tree::Text;
+use xml_names::Text;
 
 /// An application usage.
 #[derive(Clone, Copy, PartialEq, Eq, Hash)]

@@ -6,7 +6,7 @@ use percent_encoding::{
     AsciiSet, CONTROLS, NON_ALPHANUMERIC, ascii_set, percent_encode, utf8_percent_encode,
 };
 use std::alloc::AllocError;
-use xml_tree::Text;
+use xml_names::Text;
 
 /// The ASCII octets that are escaped in a printed part of an address: all but those of `pchar`
 /// (RFC 3986, section 3.3).

@@ -7,7 +7,7 @@ ghost use Rattle.doc_names.specs.Usages.{auid_text};
 use crate::doc_id::{Auid, DocId, Home};
 use crate::escapes::push_part;
 use std::alloc::{AllocError, Global};
-use xml_tree::Text;
+use xml_names::Text;
 
 // Appends the AUID of a usage.
 fn push_auid(line: &mut String, auid: Auid) -> Result<(), AllocError>

@@ -38,8 +38,10 @@ AddsSome old new piece = (some : List ℕ) × IsFirstOf some piece × (new ≡ o
 
 -- The piece was appended, or at a failure a prefix of it; it failed only where the fault counter
 -- rose.
-pub record Adds {E : Type 0} (old new : JournalState) (result : Result (Unit {0}) E) (piece : List ℕ) : Type 0 where
-  pub added : MatchResult result (λ _. new.held ≡ old.held ++ piece) (λ _. AddsSome old.held new.held piece)
+pub record Adds {E : Type 0} (old new : JournalState) (result : Result (Unit {0}) E)
+    (piece : List ℕ) : Type 0 where
+  pub added : MatchResult result (λ _. new.held ≡ old.held ++ piece) (λ _.
+      AddsSome old.held new.held piece)
   pub counts : Counts old.faults new.faults result
   pub goes : IsJournalProgress old new
 
@@ -49,7 +51,9 @@ KeepsAtLeast old new len = (count : ℕ) × (len ≤ count) × (new ≡ take cou
 
 -- The first `len` bytes were kept, or at a failure more of them; it failed only where the fault
 -- counter rose.
-pub record Cuts {E : Type 0} (old new : JournalState) (result : Result (Unit {0}) E) (len : ℕ) : Type 0 where
-  pub kept : MatchResult result (λ _. new.held ≡ take len old.held) (λ _. KeepsAtLeast old.held new.held len)
+pub record Cuts {E : Type 0} (old new : JournalState) (result : Result (Unit {0}) E)
+    (len : ℕ) : Type 0 where
+  pub kept : MatchResult result (λ _. new.held ≡ take len old.held) (λ _.
+      KeepsAtLeast old.held new.held len)
   pub counts : Counts old.faults new.faults result
   pub goes : IsJournalProgress old new

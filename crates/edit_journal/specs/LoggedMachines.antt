@@ -13,12 +13,16 @@ use Rattle.edit_journal.specs.LoggedRequests.{Accepts}
 -- The bytes are the records of the requests, which have the log's length; and after them, only
 -- where the log is torn, a prefix of the record of a request that would be accepted now, or all of
 -- it.
-pub record HoldsLog (Accepted : Request → Type 0) (log : LogState) (requests : List Request) (bytes : List ℕ) : Type 0 where
+pub record HoldsLog (Accepted : Request → Type 0) (log : LogState) (requests : List Request)
+    (bytes : List ℕ) : Type 0 where
   pub rest : List ℕ
   pub told : All IsRecordedRequest requests
   pub split : bytes ≡ text requests ++ rest
   pub len : length (text requests) ≡ log.len
-  pub behind : MatchBool log.is_torn ((request : Request) × IsRecordable request × Accepted request × IsFirstOf rest (record_of request)) (rest ≡ [])
+  pub behind : MatchBool log.is_torn
+      ((request : Request) × IsRecordable request × Accepted request
+      × IsFirstOf rest (record_of request))
+      (rest ≡ [])
 
 -- A machine, the requests accepted so far, as their records give them, and how many requests got
 -- the 500 because they couldn't be recorded.
@@ -35,8 +39,11 @@ accepted request (Some edit) = recorded request ∷ []
 module _ {M E : Type 0} (Step : M → Request → SentReply → M → Option E → Type 0) where
   -- A request is answered by the machine; or, where the machine would make a change, by the 500,
   -- and the machine is unchanged.
-  pub data LoggedStep (old : Booked M) (request : Request) (reply : SentReply) (new : Booked M) (edit : Option E) : Type 0 where
-    answered : Step old.machine request reply new.machine edit → new.requests ≡ old.requests ++ accepted request edit
+  pub data LoggedStep (old : Booked M) (request : Request) (reply : SentReply) (new : Booked M)
+      (edit : Option E) : Type 0 where
+    answered : Step old.machine request reply new.machine edit
+        → new.requests ≡ old.requests ++ accepted request edit
         → new.failures ≡ old.failures → LoggedStep old request reply new edit
-    not_logged : Accepts Step old.machine request → reply ≡ plain 500 request.closes → new ≡ record old { failures = old.failures + 1 }
+    not_logged : Accepts Step old.machine request → reply ≡ plain 500 request.closes
+        → new ≡ record old { failures = old.failures + 1 }
         → edit ≡ None → LoggedStep old request reply new edit

@@ -16,16 +16,24 @@ IsLoggable request = 0 < method_number request.method → IsRecordable request
 module _ {M E : Type 0} (Step : M → Request → SentReply → M → Option E → Type 0) where
   -- the machine makes a change on this request
   abbrev pub Accepts : M → Request → Type 0
-  Accepts machine request = (reply : SentReply) × (next : M) × (edit : E) × Step machine request reply next (Some edit)
+  Accepts machine request =
+      (reply : SentReply) × (next : M) × (edit : E) × Step machine request reply next (Some edit)
 
   -- How a request was answered, by the edit, if there was one. A request that makes no change is
   -- answered as the machine answers it. One that makes a change was recorded in the log, and is
   -- answered so, too; or it couldn't be recorded, is answered the 500, and nothing changed except
   -- the journal after the complete records.
-  pub data Answers (old : M) (log : LogState) (journal : JournalState) (request : Request) (reply : SentReply) (edit : Option E) (new : M) (log' : LogState) (journal' : JournalState) : Type 0 where
-    stays : edit ≡ None → Step old request reply new None → new ≡ old → log' ≡ log → journal' ≡ journal
+  pub data Answers (old : M) (log : LogState) (journal : JournalState) (request : Request)
+      (reply : SentReply) (edit : Option E) (new : M) (log' : LogState)
+      (journal' : JournalState) : Type 0 where
+    stays : edit ≡ None → Step old request reply new None → new ≡ old → log' ≡ log
+        → journal' ≡ journal
         → Answers old log journal request reply edit new log' journal'
-    entered : (made : E) → edit ≡ Some made → Step old request reply new (Some made) → IsRecordable request
-        → AddsRecord log journal (record_of request) (Ok tt) log' journal' → Answers old log journal request reply edit new log' journal'
-    not_entered : edit ≡ None → Accepts old request → reply ≡ plain 500 request.closes → new ≡ old → IsRecordable request
-        → AddsRecord log journal (record_of request) (Err Failed) log' journal' → Answers old log journal request reply edit new log' journal'
+    entered : (made : E) → edit ≡ Some made → Step old request reply new (Some made)
+        → IsRecordable request
+        → AddsRecord log journal (record_of request) (Ok tt) log' journal'
+        → Answers old log journal request reply edit new log' journal'
+    not_entered : edit ≡ None → Accepts old request → reply ≡ plain 500 request.closes → new ≡ old
+        → IsRecordable request
+        → AddsRecord log journal (record_of request) (Err Failed) log' journal'
+        → Answers old log journal request reply edit new log' journal'

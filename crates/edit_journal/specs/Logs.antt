@@ -1,5 +1,6 @@
 -- What is known of a journal while records are added to it. This is the project's own.
-use Rattle.std.specs.Prelude.{◌≡◌, ℕ, ◌+◌, ◌<◌, ◌≤◌, ◌⊎◌, Bool, true, false, List, [], ◌∷◌, ◌++◌, length, take, drop, All, Result, Ok, Err}
+use Rattle.std.specs.Prelude.{◌≡◌, ℕ, ◌+◌, ◌<◌, ◌≤◌, ◌⊎◌, Bool, true, false, List, [], ◌∷◌, ◌++◌}
+use Rattle.std.specs.Prelude.{length, take, drop, All, Result, Ok, Err}
 use Rattle.std.specs.Bool.{MatchBool}
 use Rattle.http_wire.specs.declared.request.Request.{Request}
 use Rattle.xcap_io.specs.Causes.{CountRises}
@@ -18,7 +19,9 @@ pub record LogState : Type 0 where
 -- The journal has as many bytes as the complete records, or more where the log is torn, which it
 -- is only after a fault.
 abbrev pub Fits : LogState → JournalState → Type 0
-Fits log journal = MatchBool log.is_torn ((log.len ≤ length journal.held) × (0 < journal.faults)) (length journal.held ≡ log.len)
+Fits log journal =
+    MatchBool log.is_torn ((log.len ≤ length journal.held) × (0 < journal.faults))
+    (length journal.held ≡ log.len)
 
 -- The bytes are the records of the requests, which have the log's length; and after them, only
 -- where the log is torn, a prefix of a record, or all of it.
@@ -27,7 +30,9 @@ pub record HoldsRecords (log : LogState) (requests : List Request) (bytes : List
   pub told : All IsRecordedRequest requests
   pub split : bytes ≡ text requests ++ rest
   pub len : length (text requests) ≡ log.len
-  pub behind : MatchBool log.is_torn ((request : Request) × IsRecordedRequest request × IsFirstOf rest (record_of request)) (rest ≡ [])
+  pub behind : MatchBool log.is_torn
+      ((request : Request) × IsRecordedRequest request × IsFirstOf rest (record_of request))
+      (rest ≡ [])
 
 -- the log with a record of these bytes added
 abbrev pub log_with : LogState → List ℕ → LogState
@@ -35,16 +40,21 @@ log_with log bytes = record { len = log.len + length bytes; is_torn = false }
 
 -- after the first `len` bytes comes a prefix of the record, or of what was there
 abbrev pub KeepsWhole : ℕ → List ℕ → List ℕ → List ℕ → Type 0
-KeepsWhole len bytes old new = (rest : List ℕ) × (new ≡ take len old ++ rest) × (IsFirstOf rest bytes ⊎ IsFirstOf rest (drop len old))
+KeepsWhole len bytes old new =
+    (rest : List ℕ) × (new ≡ take len old ++ rest)
+    × (IsFirstOf rest bytes ⊎ IsFirstOf rest (drop len old))
 
 -- What adding a record did. At `Ok` it follows the complete ones, and nothing follows it. At
 -- `Failed` the complete records are unchanged, the journal's fault counter rose, and the log is
 -- torn. At `NoMemory` nothing has changed.
-abbrev pub AddsRecord : LogState → JournalState → List ℕ → Result (Unit {0}) AppendFault → LogState → JournalState → Type 0
+abbrev pub AddsRecord : LogState → JournalState → List ℕ → Result (Unit {0}) AppendFault → LogState
+    → JournalState → Type 0
 AddsRecord log journal bytes (Ok x) log' journal' =
-    (log' ≡ log_with log bytes) × (journal'.held ≡ take log.len journal.held ++ bytes) × (journal'.faults ≡ journal.faults)
+    (log' ≡ log_with log bytes) × (journal'.held ≡ take log.len journal.held ++ bytes)
+    × (journal'.faults ≡ journal.faults)
 AddsRecord log journal bytes (Err Failed) log' journal' =
-    (log' ≡ record log { is_torn = true }) × KeepsWhole log.len bytes journal.held journal'.held × CountRises journal.faults journal'.faults
+    (log' ≡ record log { is_torn = true }) × KeepsWhole log.len bytes journal.held journal'.held
+    × CountRises journal.faults journal'.faults
 AddsRecord log journal bytes (Err NoMemory) log' journal' = (log' ≡ log) × (journal' ≡ journal)
 
 -- the requests whose records are complete in a journal, after one more was to be added

@@ -1,5 +1,6 @@
 -- A journal in memory, as its callers see it. This is the project's own.
-use Rattle.std.specs.Prelude.{◌≡◌, ℕ, ◌+◌, ◌/◌, ◌<◌, ◌≤◌, ◌⊎◌, nat_le, if◌then◌else◌, List, [], ◌++◌, length, take, Contains, Result, Ok, Err}
+use Rattle.std.specs.Prelude.{◌≡◌, ℕ, ◌+◌, ◌/◌, ◌<◌, ◌≤◌, ◌⊎◌, nat_le, if◌then◌else◌, List, []}
+use Rattle.std.specs.Prelude.{◌++◌, length, take, Contains, Result, Ok, Err}
 use Rattle.xcap_io.specs.Memory.{one_more}
 use Rattle.edit_journal.specs.Journals.{JournalState}
 
@@ -21,19 +22,29 @@ FailsNow journal = Contains journal.fails (one_more journal.calls)
 -- how many bytes of the piece a failing `append` keeps: half, or none where the piece would exceed
 -- the capacity
 abbrev pub kept_of : MemoryJournal → List ℕ → ℕ
-kept_of journal piece = if nat_le (length journal.held + length piece) journal.room then length piece / 2 else 0
+kept_of journal piece =
+    if nat_le (length journal.held + length piece) journal.room then length piece / 2 else 0
 
 -- `append` fails exactly at the calls that are to fail, and where the capacity would be exceeded
-abbrev pub MemoryAppend : {E : Type 0} → MemoryJournal → MemoryJournal → Result (Unit {0}) E → List ℕ → Type 0
+abbrev pub MemoryAppend : {E : Type 0} → MemoryJournal → MemoryJournal → Result (Unit {0}) E
+    → List ℕ → Type 0
 MemoryAppend old new (Ok x) piece = ¬ (FailsNow old) × (length old.held + length piece ≤ old.room)
     × (new ≡ record old { held = old.held ++ piece; calls = one_more old.calls })
-MemoryAppend old new (Err e) piece = (FailsNow old ⊎ (old.room < length old.held + length piece))
-    × (new ≡ record old { held = old.held ++ take (kept_of old piece) piece; calls = one_more old.calls; faults = one_more old.faults })
+MemoryAppend old new (Err e) piece =
+    (FailsNow old ⊎ (old.room < length old.held + length piece))
+    × (new ≡ record old {
+      held = old.held ++ take (kept_of old piece) piece;
+      calls = one_more old.calls;
+      faults = one_more old.faults;
+    })
 
 -- `cut` fails exactly at the calls that are to fail, and then changes nothing
-abbrev pub MemoryCut : {E : Type 0} → MemoryJournal → MemoryJournal → Result (Unit {0}) E → ℕ → Type 0
-MemoryCut old new (Ok x) len = ¬ (FailsNow old) × (new ≡ record old { held = take len old.held; calls = one_more old.calls })
-MemoryCut old new (Err e) len = FailsNow old × (new ≡ record old { calls = one_more old.calls; faults = one_more old.faults })
+abbrev pub MemoryCut : {E : Type 0} → MemoryJournal → MemoryJournal → Result (Unit {0}) E → ℕ
+    → Type 0
+MemoryCut old new (Ok x) len =
+    ¬ (FailsNow old) × (new ≡ record old { held = take len old.held; calls = one_more old.calls })
+MemoryCut old new (Err e) len =
+    FailsNow old × (new ≡ record old { calls = one_more old.calls; faults = one_more old.faults })
 
 -- a journal in memory as a journal, without an underlying object
 abbrev pub memory_state : MemoryJournal → JournalState

@@ -1,6 +1,7 @@
 -- The record of a request: what a journal keeps of a PUT or DELETE, so that it can be replayed.
 -- This is the project's own.
-use Rattle.std.specs.Prelude.{ℕ, ◌<◌, ◌≤◌, if◌then◌else◌, false, List, ◌∷◌, ◌++◌, flat_map, length, All, chars, codes}
+use Rattle.std.specs.Prelude.{ℕ, ◌<◌, ◌≤◌, if◌then◌else◌, false, List, ◌∷◌, ◌++◌, flat_map, length}
+use Rattle.std.specs.Prelude.{All, chars, codes}
 use Rattle.std.specs.Int.{w16, w32, to_be_bytes}
 use Rattle.std.specs.Str.{bytes_eq}
 use Rattle.httparse.specs.Grammar.{IsToken}
@@ -26,7 +27,10 @@ field_text field = block field.name ++ block field.value
 -- the method, the target, the number of fields in two bytes, the fields and the body
 abbrev pub record_content : Request → List ℕ
 record_content request =
-    method_number request.method ∷ (block request.target ++ (to_be_bytes w16 (length request.fields) ++ (flat_map field_text request.fields ++ block request.body)))
+    method_number request.method
+    ∷ (block request.target
+    ++ (to_be_bytes w16 (length request.fields)
+    ++ (flat_map field_text request.fields ++ block request.body)))
 
 -- The record of a request. Whether the connection ends after it isn't recorded.
 abbrev pub record_of : Request → List ℕ

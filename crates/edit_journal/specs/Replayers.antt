@@ -16,11 +16,14 @@ module _ {S : Type 0} (stands : S → List Request → Type 0) (refuses : S → 
   -- the end. `Refused` comes where it refuses the request, and `Done` only where it doesn't. After
   -- the other results its meaning is unchanged.
   abbrev pub Redoes : S → Request → ReplayStep → S → Type 0
-  Redoes old request Done new = ¬ (refuses old request) × ((requests : List Request) → stands old requests → stands new (requests ++ request ∷ []))
+  Redoes old request Done new =
+      ¬ (refuses old request)
+      × ((requests : List Request) → stands old requests → stands new (requests ++ request ∷ []))
   Redoes old request Refused new = refuses old request × MeansTheSame old new
   Redoes old request NoMemory new = MeansTheSame old new
 
   -- the requests were replayed one after the other, and none was refused
   abbrev pub RedoesAll : S → List Request → S → Type 0
   RedoesAll old [] new = MeansTheSame old new
-  RedoesAll old (request ∷ requests) new = (next : S) × Redoes old request Done next × RedoesAll next requests new
+  RedoesAll old (request ∷ requests) new =
+      (next : S) × Redoes old request Done next × RedoesAll next requests new

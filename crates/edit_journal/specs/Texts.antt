@@ -23,7 +23,9 @@ HasNoRecord bytes = (request : Request) (rest : List ℕ) → ¬ (BeginsWith byt
 
 -- The bytes are torn: a proper prefix of a record, or nothing.
 abbrev pub IsTorn : List ℕ → Type 0
-IsTorn bytes = (request : Request) × IsRecordedRequest request × (length bytes < length (record_of request)) × IsFirstOf bytes (record_of request)
+IsTorn bytes =
+    (request : Request) × IsRecordedRequest request × (length bytes < length (record_of request))
+    × IsFirstOf bytes (record_of request)
 
 -- the bytes begin no record, whatever may follow them
 abbrev pub IsDamaged : List ℕ → Type 0
@@ -39,11 +41,16 @@ pub record Whole (bytes : List ℕ) (requests : List Request) (rest : List ℕ) 
 -- A record is determined by its bytes, so the requests complete in some bytes are one list, and
 -- the rest is one, too.
 abbrev pub OneWhole : Type 0
-OneWhole = (bytes : List ℕ) (requests requests' : List Request) (rest rest' : List ℕ)
-    → Whole bytes requests rest → Whole bytes requests' rest' → (requests ≡ requests') × (rest ≡ rest')
+OneWhole =
+    (bytes : List ℕ) (requests requests' : List Request) (rest rest' : List ℕ)
+    → Whole bytes requests rest → Whole bytes requests' rest'
+    → (requests ≡ requests') × (rest ≡ rest')
 
 -- In a prefix of a text the records of its first requests are complete, and after them comes a
 -- torn rest.
 abbrev pub PrefixesHoldFirstOnes : Type 0
-PrefixesHoldFirstOnes = (requests : List Request) (bytes : List ℕ) → All IsRecordedRequest requests → IsFirstOf bytes (text requests)
-    → (first more : List Request) × (rest : List ℕ) × (requests ≡ first ++ more) × Whole bytes first rest × IsTorn rest
+PrefixesHoldFirstOnes =
+    (requests : List Request) (bytes : List ℕ) → All IsRecordedRequest requests
+    → IsFirstOf bytes (text requests)
+    → (first more : List Request) × (rest : List ℕ)
+    × (requests ≡ first ++ more) × Whole bytes first rest × IsTorn rest

@@ -1,7 +1,9 @@
 // Parsers of the parts of a record: numbers, lengths and blocks, in bytes that may break off.
-ghost use Rattle.std.specs.Prelude.{◌≡◌, ◌+◌, ◌≤◌, ◌<◌, ◌^◌, slice_index_or, length, take, drop, IsTrue, ◌↔◌};
+ghost use Rattle.std.specs.Prelude.{◌≡◌, ◌+◌, ◌≤◌, ◌<◌, ◌^◌, slice_index_or, length, take, drop};
+ghost use Rattle.std.specs.Prelude.{IsTrue, ◌↔◌};
 ghost use Rattle.httparse.specs.Grammar.{is_token_byte, AllPass};
-ghost use Rattle.edit_journal.specs.inner.Reading.{Reads, Number, Short, Block, Name, padded_u32, padded_u16};
+ghost use Rattle.edit_journal.specs.inner.Reading.{Reads, Number, Short, Block, Name, padded_u32};
+ghost use Rattle.edit_journal.specs.inner.Reading.{padded_u16};
 
 /// Why no part was read.
 #[derive(Clone, Copy, PartialEq, Eq)]

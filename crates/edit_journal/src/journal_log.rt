@@ -1,8 +1,9 @@
 // Adds records to a journal.
-ghost use Rattle.std.specs.Prelude.{◌≡◌, ◌≤◌, ◌<◌, ◌+◌, ◌-◌, ◌^◌, List, [], length, false, Err, OnOk, OnErr};
+ghost use Rattle.std.specs.Prelude.{◌≡◌, ◌≤◌, ◌<◌, ◌+◌, ◌-◌, ◌^◌, List, [], length, false, Err};
+ghost use Rattle.std.specs.Prelude.{OnOk, OnErr};
 ghost use Rattle.http_wire.specs.declared.request.Request.{Request as TheRequest};
 ghost use Rattle.edit_journal.specs.declared.journal_log.AppendFault.{AppendFault};
-ghost use Rattle.xml_tree.specs.Limits.{u64_max};
+ghost use Rattle.xml_names.specs.Limits.{u64_max};
 ghost use Rattle.edit_journal.specs.Journals.{IsJournalProgress};
 ghost use Rattle.edit_journal.specs.Limits.{max_record_bytes};
 ghost use Rattle.edit_journal.specs.Records.{IsRecordable, record_of};

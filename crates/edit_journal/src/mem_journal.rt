@@ -1,5 +1,6 @@
 // A journal in memory, for tests and for programs over known bytes.
-ghost use Rattle.std.specs.Prelude.{◌≡◌, ◌<◌, ◌≤◌, ◌+◌, ◌^◌, ◌↔◌, ◌++◌, length, nat_le, IfOk, IsTrue};
+ghost use Rattle.std.specs.Prelude.{◌≡◌, ◌<◌, ◌≤◌, ◌+◌, ◌^◌, ◌↔◌, ◌++◌, length, nat_le, IfOk};
+ghost use Rattle.std.specs.Prelude.{IsTrue};
 ghost use Rattle.xcap_io.specs.Causes.{CountRises};
 ghost use Rattle.xcap_io.specs.Memory.{one_more};
 ghost use Rattle.edit_journal.specs.Journals.{Adds, Cuts};

@@ -39,9 +39,13 @@ impl Model for ReadBuffer {
 
     ghost Value = { InflowState };
 
-    ghost view = { λ i. record { held = slice_range i.buffer.items i.start i.end; taken = i.taken } };
+    ghost view = { λ i. record {
+      held = slice_range i.buffer.items i.start i.end;
+      taken = i.taken;
+    } };
 
-    ghost invariant = { λ i. (i.start ≤ i.end) × (i.end ≤ MAX_RECORD) × (length i.buffer.items ≡ MAX_RECORD)
+    ghost invariant = { λ i.
+        (i.start ≤ i.end) × (i.end ≤ MAX_RECORD) × (length i.buffer.items ≡ MAX_RECORD)
         × (i.taken ≤ MAX_JOURNAL) };
 }
 

@@ -1,5 +1,6 @@
 // Parses the header fields and the body of a record, in bytes that may break off.
-ghost use Rattle.std.specs.Prelude.{◌≡◌, ◌≤◌, ◌<◌, ◌+◌, ◌-◌, ◌*◌, drop, take, length, IfOk, OnOk, if◌then◌else◌, ◌==◌};
+ghost use Rattle.std.specs.Prelude.{◌≡◌, ◌≤◌, ◌<◌, ◌+◌, ◌-◌, ◌*◌, drop, take, length, IfOk, OnOk};
+ghost use Rattle.std.specs.Prelude.{if◌then◌else◌, ◌==◌};
 ghost use Rattle.http_wire.specs.Limits.{max_body_bytes, max_field_lines};
 ghost use Rattle.edit_journal.specs.inner.Reading.{Reads, Value, FieldPart, FieldsAndBody, HasRoom};
 
@@ -8,7 +9,7 @@ use crate::limits::MAX_CONTENT;
 use http_wire::{Field, MAX_BODY, token_text};
 use std::alloc::Global;
 use xcap_io::{Bytes, NoMemory};
-use xml_tree::List;
+use xml_names::List;
 
 impl From<NoMemory> for FieldError {
     ghost use Rattle.edit_journal.specs.declared.field_parsers.FieldError.{FieldError};

@@ -9,7 +9,7 @@ use crate::record_fields::fields_and_body;
 use http_wire::{Field, MAX_BODY, MAX_FIELDS, Request};
 use std::alloc::Global;
 use xcap_io::Bytes;
-use xml_tree::{List, Text};
+use xml_names::{List, Text};
 
 // The least number of fields: one, where the rest is longer than a body may be.
 fn least_count(left: usize) -> usize

@@ -1,13 +1,14 @@
 // Writes the records of requests.
 ghost use Rattle.std.specs.Prelude.{◌≡◌, ◌<◌, ◌^◌, ◌++◌, length, All, IfOk, OnOk, flat_map};
 ghost use Rattle.std.specs.Int.{to_be_bytes};
-ghost use Rattle.edit_journal.specs.Records.{method_number, block, field_text, record_content, record_of, IsRecordable};
+ghost use Rattle.edit_journal.specs.Records.{method_number, block, field_text, record_content};
+ghost use Rattle.edit_journal.specs.Records.{record_of, IsRecordable};
 ghost use Rattle.edit_journal.specs.inner.Writing.{IsWritable};
 
 use http_wire::{Field, Request};
 use std::alloc::Global;
 use xcap_io::{Bytes, NoMemory};
-use xml_tree::Text;
+use xml_names::Text;
 
 // The number of a recorded method, and 0 for any other.
 #[tactic(auto, unfolding(crate::specs::Records::method_number))]

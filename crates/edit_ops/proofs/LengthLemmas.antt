@@ -2,13 +2,14 @@
 use Rattle.std.proofs.Common.{◌≡◌, ℕ, zero, suc, ◌+◌, ◌<◌, ◌≤◌, Bool, true, false, cond, List, [], ◌∷◌, ◌++◌, length, flat_map, option_to_list, Some, refl, ap, ◌∙◌, arith}
 use Rattle.std.specs.List.{slice_get}
 use Rattle.xml_tree.specs.Tree.{Content, last, more, comment_node, Tree, tree_of, at, child_elements, child_elements_of}
-use Rattle.xml_tree.specs.Attributes.{with_attr, without_attr}
+use Rattle.xml_names.specs.Attributes.{with_attr, without_attr}
 use Rattle.xml_tree.specs.Edits.{cut, cut_child, own_number, put_kid}
 use Rattle.xml_tree.specs.Nodes.{nodes_of, text_node}
-use Rattle.xml_tree.specs.Print.{byte_len, is_empty, print}
+use Rattle.xml_names.specs.Markup.{byte_len}
+use Rattle.xml_tree.specs.Print.{is_empty, print}
 use Rattle.xml_tree.specs.declared.tree.Node.{Node}
 use Rattle.xml_tree.specs.declared.tree.Node.TheVariants.{Elem, Comment}
-use Rattle.xml_tree.proofs.PrintLengths.{byte_len-append, byte_len-opening}
+use Rattle.xml_names.proofs.PrintLengths.{byte_len-append, byte_len-opening}
 use Rattle.xml_tree.proofs.PrintEdits.{attrs-dropped, attrs-written, content-cut, content-put, ending_len, full-put, full-there, print-at, print-attrs, print-change_at, print-parts}
 use Rattle.edit_ops.specs.declared.change.Change.{Change}
 use Rattle.edit_ops.specs.declared.change.Change.TheVariants.{CreateDocument, Insert, Replace, Remove, SetAttr, DropAttr, RemoveDocument}

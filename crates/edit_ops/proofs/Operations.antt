@@ -2,14 +2,15 @@
 use Rattle.std.proofs.Common.{◌≡◌, ℕ, zero, suc, ◌+◌, ◌-◌, Bool, true, false, codes, List, [], ◌∷◌, ◌++◌, flat_map, refl, ap, ◌∙◌, append-nil, min, arith}
 use lib.Utf8.{encode}
 use Rattle.xml_tree.specs.Tree.{last, Tree, of_children}
-use Rattle.xml_tree.specs.declared.names.Name.{Name}
-use Rattle.xml_tree.specs.declared.names.Decl.{Decl}
-use Rattle.xml_tree.specs.declared.names.Attr.{Attr}
-use Rattle.xml_tree.specs.Print.{byte_len, print, print_attr, print_content, print_decl, print_name}
-use Rattle.xml_tree.proofs.PrintLengths.{ascii, byte_len-append, byte_len-attr, byte_len-closing, byte_len-opening}
+use Rattle.xml_names.specs.declared.names.Name.{Name}
+use Rattle.xml_names.specs.declared.names.Decl.{Decl}
+use Rattle.xml_names.specs.declared.names.Attr.{Attr}
+use Rattle.xml_names.specs.Markup.{byte_len, print_attr, print_decl, print_name}
+use Rattle.xml_tree.specs.Print.{print, print_content}
+use Rattle.xml_names.proofs.PrintLengths.{ascii, byte_len-append, byte_len-attr, byte_len-closing, byte_len-opening}
 use Rattle.xml_tree.proofs.PrintedNodes.{byte_len-bare, byte_len-whole}
 use Rattle.xml_tree.specs.PathTexts.{path_text, steps_text}
-use Rattle.xml_tree.specs.Expanded.{name_of as in_diff}
+use Rattle.xml_names.specs.Expanded.{name_of as in_diff}
 use Rattle.edit_ops.specs.declared.change.Change.{Change}
 use Rattle.edit_ops.specs.declared.change.Change.TheVariants.{CreateDocument, Insert, Replace, Remove, SetAttr, DropAttr, RemoveDocument}
 use Rattle.edit_ops.specs.Operations.{attr_name_text, attr_path_text, gap_attrs, operation_of, sel_attr, weight_of, change_operation as told, plain_attr as plain}

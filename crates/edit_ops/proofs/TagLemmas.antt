@@ -1,9 +1,9 @@
 -- A tag whose attributes are written one after the other.
 use Rattle.std.proofs.Common.{◌≡◌, ℕ, true, cond, List, [], ◌∷◌, ◌++◌, sym, ap, ◌∙◌, append_assoc}
 use Rattle.xml_tree.specs.Tree.{Tree}
-use Rattle.xml_tree.specs.Attributes.{with_new_value, with_attr, is_written_so as is_named}
-use Rattle.xml_tree.specs.declared.names.Name.{Name}
-use Rattle.xml_tree.specs.declared.names.Attr.{Attr}
+use Rattle.xml_names.specs.Attributes.{with_new_value, with_attr, is_written_so as is_named}
+use Rattle.xml_names.specs.declared.names.Name.{Name}
+use Rattle.xml_names.specs.declared.names.Attr.{Attr}
 
 -- the attribute of the name is first
 first_written : (n : Name) (v : List ℕ) (a : Attr) (xs : List Attr) → is_named n a ≡ true → with_attr n v (a ∷ xs) ≡ with_new_value v a ∷ xs

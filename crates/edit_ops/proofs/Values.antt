@@ -6,10 +6,10 @@ use Rattle.std.proofs.lemmas.Fmt.{decimal_step_wide, decimal_digit}
 use Rattle.std.proofs.lemmas.Grind.{flat_map-append}
 use Rattle.std.specs.Cmp.Lexicographic.{bytes_decides}
 use Rattle.std.specs.Fmt.{decimal}
-use Rattle.xml_tree.specs.declared.names.Name.{Name}
-use Rattle.xml_tree.specs.Print.{byte_len, print_name, value_escape, quoted_text as quoted}
-use Rattle.xml_tree.proofs.Escapes.{encode-value}
-use Rattle.xml_tree.proofs.PrintLengths.{ascii, byte_len-append, byte_len-quoted}
+use Rattle.xml_names.specs.declared.names.Name.{Name}
+use Rattle.xml_names.specs.Markup.{byte_len, print_name, value_escape, quoted_text as quoted}
+use Rattle.xml_names.proofs.Escapes.{encode-value}
+use Rattle.xml_names.proofs.PrintLengths.{ascii, byte_len-append, byte_len-quoted}
 use Rattle.xml_tree.specs.PathTexts.{path_text, steps_text}
 use Rattle.edit_ops.specs.inner.RecordLengths.{written_len}
 

@@ -4,7 +4,9 @@ use Rattle.std.specs.Prelude.{ℕ, ◌<◌, ◌≤◌, List, [], length, IsSome,
 use Rattle.xml_tree.specs.Tree.{Tree, at, child_elements_of}
 use Rattle.xml_tree.specs.Edits.{put_in, put_over, cut_out, set_at, drop_at, attr_at, TextsMeetAt}
 use Rattle.edit_ops.specs.declared.change.Change.{Change}
-use Rattle.edit_ops.specs.declared.change.Change.TheVariants.{CreateDocument, Insert, Replace, Remove, SetAttr, DropAttr, RemoveDocument}
+use Rattle.edit_ops.specs.declared.change.Change.TheVariants.{CreateDocument, Insert, Replace}
+use Rattle.edit_ops.specs.declared.change.Change.TheVariants.{Remove, SetAttr, DropAttr}
+use Rattle.edit_ops.specs.declared.change.Change.TheVariants.{RemoveDocument}
 
 -- the tree after the change; creating or removing a document has no tree before or after it, and
 -- leaves the given tree
@@ -21,7 +23,8 @@ edited t RemoveDocument = t
 -- the root
 abbrev pub Fits : Tree → Change → Type 0
 Fits t (CreateDocument root) = ⊥
-Fits t (Insert parent gap element) = IsSomeAnd (at parent t) (λ e. gap ≤ length (child_elements_of e))
+Fits t (Insert parent gap element) =
+    IsSomeAnd (at parent t) (λ e. gap ≤ length (child_elements_of e))
 Fits t (Replace p element) = IsSome (at p t)
 Fits t (Remove p) = (0 < length p) × IsSome (at p t)
 Fits t (SetAttr p name value) = IsSome (at p t)

@@ -2,7 +2,9 @@
 use Rattle.std.specs.Prelude.{ℕ, List, []}
 use Rattle.xml_tree.specs.Edits.{parent_path}
 use Rattle.edit_ops.specs.declared.change.Change.{Change}
-use Rattle.edit_ops.specs.declared.change.Change.TheVariants.{CreateDocument, Insert, Replace, Remove, SetAttr, DropAttr, RemoveDocument}
+use Rattle.edit_ops.specs.declared.change.Change.TheVariants.{CreateDocument, Insert, Replace}
+use Rattle.edit_ops.specs.declared.change.Change.TheVariants.{Remove, SetAttr, DropAttr}
+use Rattle.edit_ops.specs.declared.change.Change.TheVariants.{RemoveDocument}
 
 -- where the element is that gets or loses a child or an attribute, or is replaced
 abbrev pub site : Change → List ℕ

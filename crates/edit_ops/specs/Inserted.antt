@@ -3,7 +3,9 @@
 use Rattle.std.specs.Prelude.{[]}
 use Rattle.xml_tree.specs.Tree.{Tree, last, tree_of}
 use Rattle.edit_ops.specs.declared.change.Change.{Change}
-use Rattle.edit_ops.specs.declared.change.Change.TheVariants.{CreateDocument, Insert, Replace, Remove, SetAttr, DropAttr, RemoveDocument}
+use Rattle.edit_ops.specs.declared.change.Change.TheVariants.{CreateDocument, Insert, Replace}
+use Rattle.edit_ops.specs.declared.change.Change.TheVariants.{Remove, SetAttr, DropAttr}
+use Rattle.edit_ops.specs.declared.change.Change.TheVariants.{RemoveDocument}
 
 -- the change inserts an element
 abbrev pub BringsElement : Change → Type 0

@@ -1,8 +1,11 @@
 -- The length of the print of the element that a change inserts, in bytes as UTF-8.
 use Rattle.std.specs.Prelude.{ℕ}
-use Rattle.xml_tree.specs.Print.{byte_len, print}
+use Rattle.xml_names.specs.Markup.{byte_len}
+use Rattle.xml_tree.specs.Print.{print}
 use Rattle.edit_ops.specs.declared.change.Change.{Change}
-use Rattle.edit_ops.specs.declared.change.Change.TheVariants.{CreateDocument, Insert, Replace, Remove, SetAttr, DropAttr, RemoveDocument}
+use Rattle.edit_ops.specs.declared.change.Change.TheVariants.{CreateDocument, Insert, Replace}
+use Rattle.edit_ops.specs.declared.change.Change.TheVariants.{Remove, SetAttr, DropAttr}
+use Rattle.edit_ops.specs.declared.change.Change.TheVariants.{RemoveDocument}
 
 -- the printed length of the created root, the inserted element or the replacement; 0 if there is
 -- none

@@ -1,10 +1,13 @@
 -- Where an element is after a change, by its path before.
-use Rattle.std.specs.Prelude.{◌≡◌, ℕ, suc, ◌-◌, ◌==◌, nat_le, List, [], ◌∷◌, ◌++◌, Option, Some, None, if◌then◌else◌}
+use Rattle.std.specs.Prelude.{◌≡◌, ℕ, suc, ◌-◌, ◌==◌, nat_le, List, [], ◌∷◌, ◌++◌, Option, Some}
+use Rattle.std.specs.Prelude.{None, if◌then◌else◌}
 use Rattle.xml_tree.specs.Tree.{Tree, at}
 use Rattle.xml_tree.specs.Edits.{parent_path, own_number}
 use Rattle.edit_ops.specs.Changes.{place}
 use Rattle.edit_ops.specs.declared.change.Change.{Change}
-use Rattle.edit_ops.specs.declared.change.Change.TheVariants.{CreateDocument, Insert, Replace, Remove, SetAttr, DropAttr, RemoveDocument}
+use Rattle.edit_ops.specs.declared.change.Change.TheVariants.{CreateDocument, Insert, Replace}
+use Rattle.edit_ops.specs.declared.change.Change.TheVariants.{Remove, SetAttr, DropAttr}
+use Rattle.edit_ops.specs.declared.change.Change.TheVariants.{RemoveDocument}
 
 -- the rest of p after q, where p begins with q: the path from the element at q to the one at p
 abbrev pub behind : List ℕ → List ℕ → Option (List ℕ)
@@ -50,4 +53,5 @@ moved p RemoveDocument = None
 -- each element that the change isn't at or inside, and that still exists, is found unchanged
 -- where `moved` says
 abbrev pub KeepsTheOthers : Tree → Change → Tree → Type 0
-KeepsTheOthers t change new = (p q : List ℕ) → behind p (place change) ≡ None → moved p change ≡ Some q → at q new ≡ at p t
+KeepsTheOthers t change new =
+    (p q : List ℕ) → behind p (place change) ≡ None → moved p change ≡ Some q → at q new ≡ at p t

@@ -3,10 +3,12 @@
 use Rattle.std.specs.Prelude.{◌≡◌, ℕ, Bool, false, List, [], ◌∷◌, is_none}
 use Rattle.xml_tree.specs.Tree.{Tree}
 use Rattle.xml_tree.specs.Edits.{attr_at}
-use Rattle.xml_tree.specs.Scopes.{scope_at, scope_around, bindings_in}
-use Rattle.xml_tree.specs.declared.names.Decl.{Decl}
+use Rattle.xml_names.specs.Scopes.{bindings_in}
+use Rattle.xml_tree.specs.TreeScopes.{scope_at, scope_around}
+use Rattle.xml_names.specs.declared.names.Decl.{Decl}
 use Rattle.edit_ops.specs.declared.change.Change.{Change}
-use Rattle.edit_ops.specs.declared.change.Change.TheVariants.{Insert, Replace, Remove, SetAttr, DropAttr}
+use Rattle.edit_ops.specs.declared.change.Change.TheVariants.{Insert, Replace, Remove, SetAttr}
+use Rattle.edit_ops.specs.declared.change.Change.TheVariants.{DropAttr}
 use Rattle.edit_ops.specs.Changes.{Fits, edited}
 
 -- a change record: the tags before and after the change, all bindings in scope at its place, the
@@ -36,13 +38,21 @@ is_fresh t _ = false
 -- the record of a change of the tree t with the first tag, where the tree after it gets the
 -- second tag
 abbrev pub note_of : ℕ → ℕ → Tree → Change → Note
-note_of previous next t change = record { previous = previous; next = next; bindings = bindings_in (scope_of_place t change); change = change; fresh = is_fresh t change }
+note_of previous next t change =
+    record {
+      previous = previous;
+      next = next;
+      bindings = bindings_in (scope_of_place t change);
+      change = change;
+      fresh = is_fresh t change;
+    }
 
 -- the records of successive changes, from a tree and its tag on; each change fits the tree that
 -- the changes before it left
 abbrev pub AreNotesOf : ℕ → Tree → List Note → Type 0
 AreNotesOf tag t [] = Unit {0}
-AreNotesOf tag t (n ∷ ns) = Fits t n.change × (n ≡ note_of tag n.next t n.change) × AreNotesOf n.next (edited t n.change) ns
+AreNotesOf tag t (n ∷ ns) =
+    Fits t n.change × (n ≡ note_of tag n.next t n.change) × AreNotesOf n.next (edited t n.change) ns
 
 -- the tree and the tag after them
 abbrev pub tree_after : Tree → List Note → Tree

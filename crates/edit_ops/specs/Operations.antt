@@ -2,14 +2,17 @@
 -- section 3 has `add`, `replace` and `remove` in its namespace.
 use Rattle.std.specs.Prelude.{ℕ, zero, suc, Bool, true, false, codes, List, [], ◌∷◌, ◌++◌}
 use Rattle.xml_tree.specs.Tree.{Content, last, Tree, tree_of, of_children}
-use Rattle.xml_tree.specs.Print.{print, print_name, byte_len}
-use Rattle.xml_tree.specs.declared.names.Name.{Name}
-use Rattle.xml_tree.specs.declared.names.Decl.{Decl}
-use Rattle.xml_tree.specs.declared.names.Attr.{Attr}
+use Rattle.xml_names.specs.Markup.{print_name, byte_len}
+use Rattle.xml_tree.specs.Print.{print}
+use Rattle.xml_names.specs.declared.names.Name.{Name}
+use Rattle.xml_names.specs.declared.names.Decl.{Decl}
+use Rattle.xml_names.specs.declared.names.Attr.{Attr}
 use Rattle.xml_tree.specs.PathTexts.{path_text}
-use Rattle.xml_tree.specs.Expanded.{name_of}
+use Rattle.xml_names.specs.Expanded.{name_of}
 use Rattle.edit_ops.specs.declared.change.Change.{Change}
-use Rattle.edit_ops.specs.declared.change.Change.TheVariants.{CreateDocument, Insert, Replace, Remove, SetAttr, DropAttr, RemoveDocument}
+use Rattle.edit_ops.specs.declared.change.Change.TheVariants.{CreateDocument, Insert, Replace}
+use Rattle.edit_ops.specs.declared.change.Change.TheVariants.{Remove, SetAttr, DropAttr}
+use Rattle.edit_ops.specs.declared.change.Change.TheVariants.{RemoveDocument}
 use Rattle.edit_ops.specs.Notes.{Note}
 
 -- ---- the parts of an operation
@@ -31,31 +34,46 @@ attr_path_text p name = path_text p ++ (codes "/" ++ attr_name_text name)
 -- an operation: an element name in the diff's namespace, the record's bindings as declarations,
 -- attributes and content
 abbrev pub operation_of : List ℕ → List Decl → List ℕ → List Attr → Content → Tree
-operation_of prefix bindings word attrs content = tree_of (name_of prefix word) bindings attrs content
+operation_of prefix bindings word attrs content =
+    tree_of (name_of prefix word) bindings attrs content
 
 -- ---- the operation of a change
 
 -- where an element is inserted: in gap 0 before all nodes of its parent, in another directly
 -- after the child element before it
 abbrev pub gap_attrs : List ℕ → ℕ → List Attr
-gap_attrs parent zero = sel_attr (path_text parent) ∷ plain_attr (codes "pos") (codes "prepend") ∷ []
-gap_attrs parent (suc j) = sel_attr (path_text (parent ++ j ∷ [])) ∷ plain_attr (codes "pos") (codes "after") ∷ []
+gap_attrs parent zero =
+    sel_attr (path_text parent) ∷ plain_attr (codes "pos") (codes "prepend") ∷ []
+gap_attrs parent (suc j) =
+    sel_attr (path_text (parent ++ j ∷ [])) ∷ plain_attr (codes "pos") (codes "after") ∷ []
 
 -- an attribute that is written: added if it is new, else replaced
 abbrev pub writing : List ℕ → List Decl → List ℕ → Name → List ℕ → Bool → Tree
-writing prefix bindings p name value true = operation_of prefix bindings (codes "add") (sel_attr (path_text p) ∷ plain_attr (codes "type") (attr_name_text name) ∷ []) (last value)
-writing prefix bindings p name value false = operation_of prefix bindings (codes "replace") (sel_attr (attr_path_text p name) ∷ []) (last value)
+writing prefix bindings p name value true =
+    operation_of prefix bindings (codes "add")
+    (sel_attr (path_text p) ∷ plain_attr (codes "type") (attr_name_text name) ∷ []) (last value)
+writing prefix bindings p name value false =
+    operation_of prefix bindings (codes "replace") (sel_attr (attr_path_text p name) ∷ [])
+    (last value)
 
 -- the operation of a change, with the bindings of its place; creating or removing a document has
 -- none, and an empty `remove` takes its place here
 abbrev pub change_operation : List ℕ → List Decl → Bool → Change → Tree
-change_operation prefix bindings fresh (CreateDocument root) = operation_of prefix bindings (codes "remove") [] (last [])
-change_operation prefix bindings fresh (Insert parent gap element) = operation_of prefix bindings (codes "add") (gap_attrs parent gap) (of_children (element ∷ []))
-change_operation prefix bindings fresh (Replace p element) = operation_of prefix bindings (codes "replace") (sel_attr (path_text p) ∷ []) (of_children (element ∷ []))
-change_operation prefix bindings fresh (Remove p) = operation_of prefix bindings (codes "remove") (sel_attr (path_text p) ∷ []) (last [])
-change_operation prefix bindings fresh (SetAttr p name value) = writing prefix bindings p name value fresh
-change_operation prefix bindings fresh (DropAttr p name) = operation_of prefix bindings (codes "remove") (sel_attr (attr_path_text p name) ∷ []) (last [])
-change_operation prefix bindings fresh RemoveDocument = operation_of prefix bindings (codes "remove") [] (last [])
+change_operation prefix bindings fresh (CreateDocument root) =
+    operation_of prefix bindings (codes "remove") [] (last [])
+change_operation prefix bindings fresh (Insert parent gap element) =
+    operation_of prefix bindings (codes "add") (gap_attrs parent gap) (of_children (element ∷ []))
+change_operation prefix bindings fresh (Replace p element) =
+    operation_of prefix bindings (codes "replace") (sel_attr (path_text p) ∷ [])
+    (of_children (element ∷ []))
+change_operation prefix bindings fresh (Remove p) =
+    operation_of prefix bindings (codes "remove") (sel_attr (path_text p) ∷ []) (last [])
+change_operation prefix bindings fresh (SetAttr p name value) =
+    writing prefix bindings p name value fresh
+change_operation prefix bindings fresh (DropAttr p name) =
+    operation_of prefix bindings (codes "remove") (sel_attr (attr_path_text p name) ∷ []) (last [])
+change_operation prefix bindings fresh RemoveDocument =
+    operation_of prefix bindings (codes "remove") [] (last [])
 
 -- the operation of a change record, where the diff's namespace has this prefix
 abbrev pub operation : List ℕ → Note → Tree
@@ -68,7 +86,8 @@ operation prefix n = change_operation prefix n.bindings n.fresh n.change
 abbrev pub weight_of : List Decl → Bool → Change → ℕ
 weight_of bindings fresh (CreateDocument root) = 0
 weight_of bindings fresh RemoveDocument = 0
-weight_of bindings fresh change = byte_len (print (change_operation (codes "d") bindings fresh change))
+weight_of bindings fresh change =
+    byte_len (print (change_operation (codes "d") bindings fresh change))
 
 abbrev pub weight : Note → ℕ
 weight n = weight_of n.bindings n.fresh n.change

@@ -1,12 +1,13 @@
 -- Change records in two pieces, and changes of whole documents.
 use Rattle.std.specs.Prelude.{ℕ, Bool, List, ◌++◌}
-use Rattle.xml_tree.specs.declared.names.Decl.{Decl}
+use Rattle.xml_names.specs.declared.names.Decl.{Decl}
 use Rattle.edit_ops.specs.declared.change.Change.{Change}
 use Rattle.edit_ops.specs.declared.change.Change.TheVariants.{CreateDocument, RemoveDocument}
 use Rattle.edit_ops.specs.Notes.{Note}
 
 abbrev pub made_note : ℕ → ℕ → List Decl → Change → Bool → Note
-made_note previous next bindings change fresh = record { previous = previous; next = next; bindings = bindings; change = change; fresh = fresh }
+made_note previous next bindings change fresh =
+    record { previous = previous; next = next; bindings = bindings; change = change; fresh = fresh }
 
 -- two pieces of a list of change records as one list
 abbrev pub all_notes : List Note → List Note → List Note

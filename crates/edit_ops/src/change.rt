@@ -3,7 +3,8 @@ ghost use Rattle.std.specs.Prelude.{◌≡◌, IfOk};
 ghost use Rattle.edit_ops.specs.ElementChanges.{site};
 
 use std::alloc::{AllocError, Global};
-use xml_tree::{Element, Name, Path, Text, copy_tree};
+use xml_names::{Name, Text};
+use xml_tree::{Element, Path, copy_tree};
 
 /// A change of a document.
 #[derive(Drop)]

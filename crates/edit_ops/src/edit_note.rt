@@ -14,7 +14,8 @@ use crate::{Change, NoMemory};
 use std::alloc::Global;
 use std::marker::Model;
 use std::rc::Rc;
-use xml_tree::{Decl, Element, List};
+use xml_names::{Decl, List};
+use xml_tree::Element;
 
 /// A change record: what is stored of a change of a document. A copy shares it, so an inserted
 /// element is in memory once for the retained records and for the reported ones, and a whole

@@ -1,18 +1,21 @@
 //! The printed length of a tree after a change, from its length before: only what the change
 //! removes and adds is counted.
-ghost use Rattle.std.specs.Prelude.{◌≡◌, ◌<◌, ◌+◌, flat_map, length, min, option_to_list, slice_get, true, if◌then◌else◌};
-ghost use Rattle.xml_tree.specs.Attributes.{is_written_so};
+ghost use Rattle.std.specs.Prelude.{◌≡◌, ◌<◌, ◌+◌, flat_map, length, min, option_to_list};
+ghost use Rattle.std.specs.Prelude.{slice_get, true, if◌then◌else◌};
+ghost use Rattle.xml_names.specs.Attributes.{is_written_so};
 ghost use Rattle.std.specs.List.{find};
 ghost use Rattle.xml_tree.specs.Tree.{Tree, child_elements_of};
 ghost use Rattle.xml_tree.specs.Edits.{cut};
-ghost use Rattle.xml_tree.specs.Print.{byte_len, is_empty, print, print_attr};
+ghost use Rattle.xml_names.specs.Markup.{byte_len, print_attr};
+ghost use Rattle.xml_tree.specs.Print.{is_empty, print};
 ghost use Rattle.edit_ops.specs.Changes.{Fits, edited};
 ghost use Rattle.edit_ops.specs.Lengths.{element_len};
 ghost use Rattle.edit_ops.specs.inner.Lengths.{inserted_part, end_tag_len, lost};
 ghost use Rattle.edit_ops.specs.inner.LocalChanges.{FitsHere};
 
 use crate::change::{Change, site_of};
-use xml_tree::{Element, Name, attr_len, element_at, name_len, printed_len};
+use xml_names::{Name, attr_len, name_len};
+use xml_tree::{Element, element_at, printed_len};
 
 // By how much `>` and the end tag of an element are longer than `/>`.
 fn end_tag_len(element: &Element) -> usize

@@ -1,8 +1,9 @@
 //! The tree after a change as a new one, built from the nodes up: the plain program for `edited`.
 ghost use Rattle.std.specs.Prelude.{◌≡◌, ◌<◌, ◌≤◌, ◌++◌, [], ◌∷◌, length, IfOk, IsSomeAnd, OnOk};
 ghost use Rattle.xml_tree.specs.Tree.{at, child_elements_of, last, tree_of};
-ghost use Rattle.xml_tree.specs.Attributes.{with_attr, without_attr};
-ghost use Rattle.xml_tree.specs.Edits.{change_at, change_child, cut_child, drop_attr, put_kid, write_attr};
+ghost use Rattle.xml_names.specs.Attributes.{with_attr, without_attr};
+ghost use Rattle.xml_tree.specs.Edits.{change_at, change_child, cut_child, drop_attr, put_kid};
+ghost use Rattle.xml_tree.specs.Edits.{write_attr};
 ghost use Rattle.xml_tree.specs.Nodes.{content_of};
 ghost use Rattle.xml_tree.specs.declared.tree.Node.TheVariants as node;
 ghost use Rattle.edit_ops.specs.Changes.{Fits, edited};
@@ -10,9 +11,8 @@ ghost use Rattle.edit_ops.specs.inner.LocalChanges.{FitsHere, made_here};
 
 use crate::change::{Change, site_of};
 use std::alloc::{AllocError, Global};
-use xml_tree::{
-    Attr, Decl, Element, Name, Node, Text, copy_nodes, copy_tree, place_of, place_of_gap,
-};
+use xml_names::{Attr, Decl, Name, Text};
+use xml_tree::{Element, Node, copy_nodes, copy_tree, place_of, place_of_gap};
 
 // ---- an element, part by part
 
@@ -63,7 +63,9 @@ fn push_new_attr(
     value: &Text,
 ) -> Result<(), AllocError>
     ensures appended { OnOk result
-        (made.new ≡ record made.old { attrs = made.old.attrs ++ record { name = name.now; value = value.now } ∷ [] }) }
+        (made.new ≡ record made.old {
+          attrs = made.old.attrs ++ record { name = name.now; value = value.now } ∷ [];
+        }) }
 {
     let name = name.copy(alloc)?;
     let value = value.copy(alloc)?;
@@ -79,7 +81,9 @@ fn push_attrs_written(
     value: &Text,
 ) -> Result<(), AllocError>
     ensures appended { OnOk result
-        (made.new ≡ record made.old { attrs = made.old.attrs ++ with_attr name.now value.now attrs.now }) }
+        (made.new ≡ record made.old {
+          attrs = made.old.attrs ++ with_attr name.now value.now attrs.now;
+        }) }
 {
     for (i, attr) in attrs.iter().enumerate() {
         if attr.name.same(name) {

@@ -1,16 +1,18 @@
 //! What a change record has of the tree that its change was made in.
 ghost use Rattle.std.specs.Prelude.{◌≡◌, is_none, IfOk, IsSome};
-ghost use Rattle.xml_tree.specs.Attributes.{is_written_so};
+ghost use Rattle.xml_names.specs.Attributes.{is_written_so};
 ghost use Rattle.xml_tree.specs.Tree.{at};
 ghost use Rattle.std.specs.List.{find, list_any};
 ghost use Rattle.xml_tree.specs.Edits.{attr_at};
-ghost use Rattle.xml_tree.specs.Scopes.{bindings_in, scope_around, scope_at};
+ghost use Rattle.xml_names.specs.Scopes.{bindings_in};
+ghost use Rattle.xml_tree.specs.TreeScopes.{scope_around, scope_at};
 ghost use Rattle.edit_ops.specs.Changes.{Fits};
 ghost use Rattle.edit_ops.specs.Notes.{is_fresh, scope_of_place};
 
 use crate::Change;
 use std::alloc::{AllocError, Global};
-use xml_tree::{Decl, Element, Name, Path, Scope, element_at};
+use xml_names::{Decl, Name};
+use xml_tree::{Element, Path, Scope, element_at};
 
 // ---- bindings
 

@@ -1,20 +1,21 @@
 //! The lengths of the parts of an operation's text, in bytes. They are counted, and nothing is
 //! printed. Each is `usize::MAX` if the part is longer.
 ghost use Rattle.std.specs.Prelude.{◌≡◌, [], ◌∷◌, min};
-ghost use Rattle.xml_tree.specs.Print.{byte_len, print_name, print_text};
+ghost use Rattle.xml_names.specs.Markup.{byte_len, print_name, print_text};
 ghost use Rattle.xml_tree.specs.PathTexts.{path_text, steps_text};
 ghost use Rattle.edit_ops.specs.inner.RecordLengths.{written_len};
 
-use xml_tree::{Name, Path, SmallText, Text};
+use xml_names::{Name, SmallText, Text};
+use xml_tree::Path;
 
 // ---- texts and values
 
 // A text between tags.
-#[tactic(auto, using(xml_tree::proofs::PrintLengths::lengths))]
+#[tactic(auto, using(xml_names::proofs::PrintLengths::lengths))]
 pub(crate) fn text_len(text: &Text) -> usize
     ensures exact { result ≡ min (byte_len (print_text text.now)) usize.MAX }
 {
-    xml_tree::text_len(text.as_str().as_bytes())
+    xml_names::text_len(text.as_str().as_bytes())
 }
 
 // A value, without its quotes.
@@ -22,7 +23,7 @@ pub(crate) fn text_len(text: &Text) -> usize
 pub(crate) fn value_len(value: &Text) -> usize
     ensures exact { result ≡ min (written_len value.now) usize.MAX }
 {
-    xml_tree::value_len(value.as_str().as_bytes())
+    xml_names::value_len(value.as_str().as_bytes())
 }
 
 // A part of a name, within a value.
@@ -30,7 +31,7 @@ pub(crate) fn value_len(value: &Text) -> usize
 fn part_len<const N: usize>(part: &SmallText<N>) -> usize
     ensures exact { result ≡ min (written_len part.now) usize.MAX }
 {
-    xml_tree::value_len(part.as_str().as_bytes())
+    xml_names::value_len(part.as_str().as_bytes())
 }
 
 // A name within a value.

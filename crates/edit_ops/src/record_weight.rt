@@ -1,15 +1,19 @@
 //! The weight of a change record: the length of its operation, computed without printing it.
 ghost use Rattle.std.specs.Prelude.{◌≡◌, ◌+◌, true, false, codes, flat_map, min};
 ghost use Rattle.xml_tree.specs.Tree.{Tree};
-ghost use Rattle.xml_tree.specs.Print.{byte_len, print, print_attr, print_decl};
+ghost use Rattle.xml_names.specs.Markup.{byte_len, print_attr, print_decl};
+ghost use Rattle.xml_tree.specs.Print.{print};
 ghost use Rattle.edit_ops.specs.declared.change.Change.TheVariants as change;
 ghost use Rattle.edit_ops.specs.Lengths.{element_len};
 ghost use Rattle.edit_ops.specs.Operations.{attr_path_text, gap_attrs, weight_of, change_operation};
-ghost use Rattle.edit_ops.specs.inner.RecordLengths.{bare_len as bare_sum, filled_len as filled_sum, valued_len as valued_sum, written_len};
+ghost use Rattle.edit_ops.specs.inner.RecordLengths.{bare_len as bare_sum};
+ghost use Rattle.edit_ops.specs.inner.RecordLengths.{filled_len as filled_sum};
+ghost use Rattle.edit_ops.specs.inner.RecordLengths.{valued_len as valued_sum, written_len};
 
 use crate::Change;
 use crate::record_lengths::{name_len, path_len, step_len, text_len};
-use xml_tree::{Decl, Name, Path, Text, decls_len};
+use xml_names::{Decl, Name, Text, decls_len};
+use xml_tree::Path;
 
 // ---- the names of operations and their attributes
 
@@ -96,8 +100,10 @@ fn insertion_len(bindings: &[Decl], parent: &Path, gap: usize, put: usize) -> us
 // A replacement by an element of `put` bytes.
 fn replacement_len(bindings: &[Decl], at: &Path, put: usize) -> usize
     ensures exact { (e : Tree) → put ≡ min (byte_len (print e)) usize.MAX
-        → result ≡ min (byte_len
-        (print (change_operation (codes "d") bindings.now false (change.Replace at.now e)))) usize.MAX }
+        → result
+        ≡ min (byte_len
+        (print (change_operation (codes "d") bindings.now false (change.Replace at.now e))))
+        usize.MAX }
 {
     let attrs = path_len(at).saturating_add(SEL);
     filled_len(REPLACE, bindings, attrs, put)
@@ -105,7 +111,8 @@ fn replacement_len(bindings: &[Decl], at: &Path, put: usize) -> usize
 
 fn removal_len(bindings: &[Decl], at: &Path) -> usize
     ensures exact { result
-        ≡ min (byte_len (print (change_operation (codes "d") bindings.now false (change.Remove at.now))))
+        ≡ min
+        (byte_len (print (change_operation (codes "d") bindings.now false (change.Remove at.now))))
         usize.MAX }
 {
     let attrs = path_len(at).saturating_add(SEL);
@@ -124,7 +131,8 @@ fn attr_len(at: &Path, name: &Name) -> usize
 fn drop_len(bindings: &[Decl], at: &Path, name: &Name) -> usize
     ensures exact { result
         ≡ min (byte_len (print
-        (change_operation (codes "d") bindings.now false (change.DropAttr at.now name.now)))) usize.MAX }
+        (change_operation (codes "d") bindings.now false (change.DropAttr at.now name.now))))
+        usize.MAX }
 {
     bare_len(REMOVE, bindings, attr_len(at, name))
 }
@@ -133,7 +141,8 @@ fn drop_len(bindings: &[Decl], at: &Path, name: &Name) -> usize
 fn addition_len(bindings: &[Decl], at: &Path, name: &Name, value: &Text) -> usize
     ensures exact { result
         ≡ min (byte_len (print
-        (change_operation (codes "d") bindings.now true (change.SetAttr at.now name.now value.now))))
+        (change_operation (codes "d") bindings.now true
+        (change.SetAttr at.now name.now value.now))))
         usize.MAX }
 {
     let attrs = path_len(at)
@@ -146,7 +155,8 @@ fn addition_len(bindings: &[Decl], at: &Path, name: &Name, value: &Text) -> usiz
 fn rewriting_len(bindings: &[Decl], at: &Path, name: &Name, value: &Text) -> usize
     ensures exact { result
         ≡ min (byte_len (print
-        (change_operation (codes "d") bindings.now false (change.SetAttr at.now name.now value.now))))
+        (change_operation (codes "d") bindings.now false
+        (change.SetAttr at.now name.now value.now))))
         usize.MAX }
 {
     valued_len(REPLACE, bindings, attr_len(at, name), value)
@@ -155,7 +165,8 @@ fn rewriting_len(bindings: &[Decl], at: &Path, name: &Name, value: &Text) -> usi
 fn writing_len(bindings: &[Decl], at: &Path, name: &Name, value: &Text, fresh: bool) -> usize
     ensures exact { result
         ≡ min (byte_len (print
-        (change_operation (codes "d") bindings.now fresh (change.SetAttr at.now name.now value.now))))
+        (change_operation (codes "d") bindings.now fresh
+        (change.SetAttr at.now name.now value.now))))
         usize.MAX }
 {
     if fresh {

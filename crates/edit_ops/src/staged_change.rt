@@ -5,7 +5,7 @@ ghost use Rattle.std.specs.declared.alloc.Global.{Global as AnyMemory};
 ghost use Rattle.xml_tree.specs.Tree.{child_elements_of};
 ghost use Rattle.xml_tree.specs.Edits.{TextsMeet, cut_child, own_number};
 ghost use Rattle.xml_tree.specs.Reservations.{HasAttrRoom, HasNodeRoom, joined_around};
-ghost use Rattle.xml_tree.specs.declared.names.Attr.{Attr as AnAttr};
+ghost use Rattle.xml_names.specs.declared.names.Attr.{Attr as AnAttr};
 ghost use Rattle.xml_tree.specs.declared.tree.Node.{Node as ANode};
 ghost use Rattle.edit_ops.specs.Changes.{Fits, WantsMemory, edited};
 ghost use Rattle.edit_ops.specs.MovedPaths.{KeepsTheOthers};
@@ -16,7 +16,8 @@ ghost use Rattle.edit_ops.specs.declared.staged_change.Staged.TheVariants as sta
 
 use crate::change::{Change, site_of};
 use std::alloc::{AllocError, Global};
-use xml_tree::{Attr, Element, Name, Node, Path, Text, copy_tree, element_at};
+use xml_names::{Attr, Name, Text};
+use xml_tree::{Element, Node, Path, copy_tree, element_at};
 
 /// What a change inserts into a tree, with all memory reserved that it needs there.
 #[derive(Drop)]

@@ -5,11 +5,11 @@ use Rattle.std.specs.Option.{option_copied}
 use Rattle.std.proofs.lemmas.Option.{same_Some}
 use Rattle.doc_names.specs.declared.usages.Usage.{Usage}
 use Rattle.xml_tree.specs.Tree.{Tree, at}
-use Rattle.xml_tree.specs.Attributes.{without_attr}
+use Rattle.xml_names.specs.Attributes.{without_attr}
 use Rattle.xml_tree.specs.Edits.{put_over}
-use Rattle.xml_tree.specs.Scopes.{scope_at}
-use Rattle.xml_tree.specs.declared.names.Attr.{Attr}
-use Rattle.xml_tree.specs.declared.names.Name.{Name}
+use Rattle.xml_tree.specs.TreeScopes.{scope_at}
+use Rattle.xml_names.specs.declared.names.Attr.{Attr}
+use Rattle.xml_names.specs.declared.names.Name.{Name}
 use Rattle.node_select.specs.declared.selector.End.TheVariants as ends
 use Rattle.node_select.specs.declared.selector.Selector.{Selector}
 use Rattle.node_select.specs.Selection.{Found, SelectsPath, is_attr}
@@ -19,7 +19,7 @@ use Rattle.edit_ops.specs.declared.change.Change.TheVariants.{DropAttr}
 use Rattle.edit_rules.specs.declared.refusal.EditRefusal.{EditRefusal}
 use Rattle.edit_rules.specs.declared.refusal.EditRefusal.TheVariants.{CannotDelete}
 use Rattle.edit_rules.specs.Deletions.{FindsNothingAfter, IsDeletePlan}
-use Rattle.edit_rules.specs.Plans.{IsTested}
+use Rattle.edit_rules.specs.Plans.{IsJudged, IsTested}
 use Rattle.edit_rules.specs.Tags.{with_attrs}
 use Rattle.edit_plans.specs.declared.child_attributes.AttributeEdit.{AttributeEdit}
 use Rattle.edit_plans.specs.inner.ChildChanges.{not_found_refusal}
@@ -54,12 +54,12 @@ pub dropped_by : (u : Usage) (t e : Tree) (selector : Selector) (p : List ℕ) (
     → selector.end ≡ ends.Attribute uri local → SelectsPath selector.steps t p → at p t ≡ Some e
     → find (is_attr (scope_at p t) uri local) e.attrs ≡ Some attr → name ≡ attr.name
     → ats ≡ without_attr name e.attrs → option_copied sought.value ≡ None
-    → IsRetaggedAt u t selector p e ats sought found → result ≡ allowed_change (DropAttr p name) found → IsDeletePlan u t selector result
+    → IsRetaggedAt (record { usage = u; document = t; selector = selector }) p (with_attrs ats e) sought found → result ≡ allowed_change (DropAttr p name) found → IsDeletePlan u t selector result
 dropped_by u t e selector p uri local attr name ats sought found result ends_so sel there that named without wanted h is =
     let after : List Attr → Tree = λ l. put_over p (with_attrs l e) t in
-    let as_none = subst (λ (w : Option (List ℕ)). IsTestedAs (not_found_refusal w) (AsSought selector sought.uri.now sought.local.now (after ats) p w) u (after ats) found) wanted h in
+    let as_none = subst (λ (w : Option (List ℕ)). IsTestedAs (not_found_refusal w) (AsSought selector (record { path = p; uri = sought.uri.now; local = sought.local.now }) (after ats) w) u (after ats) found) wanted h in
     let tested = subst (λ (l : List Attr). IsTestedAs CannotDelete (Found (after l) selector → ⊥) u (after l) found) without as_none in
-    let of_name : Name → Type 0 = λ n. IsTested CannotDelete (FindsNothingAfter selector t (DropAttr p n)) u t (DropAttr p n) (allowed_change (DropAttr p n) found) in
+    let of_name : Name → Type 0 = λ n. IsTested CannotDelete (FindsNothingAfter selector t (DropAttr p n)) (IsJudged u t (DropAttr p n)) (allowed_change (DropAttr p n) found) in
     let plan = drop_plan u t e selector p uri local attr (allowed_change (DropAttr p attr.name) found) ends_so sel there that
     (subst of_name named (dropping_is u t e selector p name found there tested)) in
     subst (λ (r : Result Change EditRefusal). IsDeletePlan u t selector r) (sym (is ∙ ap (λ (n : Name). allowed_change (DropAttr p n) found) named)) plan

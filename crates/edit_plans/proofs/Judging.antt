@@ -23,7 +23,7 @@ use Rattle.edit_ops.specs.declared.change.Change.{Change}
 use Rattle.edit_rules.specs.declared.refusal.EditRefusal.{EditRefusal}
 use Rattle.edit_rules.specs.declared.refusal.EditRefusal.TheVariants as refusals
 use Rattle.edit_rules.specs.NewElements.{ClashesBeside}
-use Rattle.edit_rules.specs.Plans.{IsTested, by_fault}
+use Rattle.edit_rules.specs.Plans.{by_fault, IsJudged, IsTested}
 use Rattle.edit_plans.specs.declared.insertion_points.NoInsertionPoint.{NoInsertionPoint}
 use Rattle.edit_plans.specs.declared.insertion_points.NoInsertionPoint.TheVariants.{Unlawful, Invalid}
 use Rattle.edit_plans.specs.inner.ChildChanges.{FormedIn, IsJudgedIn, IsPlacedIn}
@@ -36,20 +36,20 @@ true_false b t f = cc
 -- ---- a new element at an insertion point
 
 module _ (formed : Type 0) (row : Option ElementKind) (c : Scope) (child_elements : List Tree) (new : Tree) (q : List ℕ) (gap : ℕ) where
-  pub judged_unformed : (formed → ⊥) → IsJudgedIn formed row c child_elements new q gap (Err (refusals.Faulty Unformed))
+  pub judged_unformed : (formed → ⊥) → IsJudgedIn formed (record { kind = row; scope = c; elements = child_elements; path = q }) new gap (Err (refusals.Faulty Unformed))
   judged_unformed fails = inl (refl, fails)
 
-  pub judged_clash : (kind : ElementKind) (clash : Clash) → row ≡ Some kind → formed → IsFirst (ClashesBeside kind c child_elements new gap) q (Some clash) → IsJudgedIn formed row c child_elements new q gap (Err (refusals.Faulty (Repeated clash)))
+  pub judged_clash : (kind : ElementKind) (clash : Clash) → row ≡ Some kind → formed → IsFirst (ClashesBeside (record { kind = kind; scope = c; elements = child_elements }) new gap) q (Some clash) → IsJudgedIn formed (record { kind = row; scope = c; elements = child_elements; path = q }) new gap (Err (refusals.Faulty (Repeated clash)))
   judged_clash kind clash is h first = inr (inl (clash, (refl, h, (kind, (is, first)))))
 
-  pub judged_ok : (kind : ElementKind) → row ≡ Some kind → formed → IsFirst (ClashesBeside kind c child_elements new gap) q None → IsJudgedIn formed row c child_elements new q gap (Ok gap)
-  judged_ok kind is h first = inr (inr (refl, h, λ k at. subst (λ (x : ElementKind). IsFirst (ClashesBeside x c child_elements new gap) q None) (same_Some kind k (sym is ∙ at)) first))
+  pub judged_ok : (kind : ElementKind) → row ≡ Some kind → formed → IsFirst (ClashesBeside (record { kind = kind; scope = c; elements = child_elements }) new gap) q None → IsJudgedIn formed (record { kind = row; scope = c; elements = child_elements; path = q }) new gap (Ok gap)
+  judged_ok kind is h first = inr (inr (refl, h, λ k at. subst (λ (x : ElementKind). IsFirst (ClashesBeside (record { kind = x; scope = c; elements = child_elements }) new gap) q None) (same_Some kind k (sym is ∙ at)) first))
 
-  pub judged_foreign : row ≡ None → formed → IsJudgedIn formed row c child_elements new q gap (Ok gap)
+  pub judged_foreign : row ≡ None → formed → IsJudgedIn formed (record { kind = row; scope = c; elements = child_elements; path = q }) new gap (Ok gap)
   judged_foreign none h = inr (inr (refl, h, λ k at. absurd (none-some k (sym none ∙ at))))
 
 -- by another property of the form of references
-pub judged_by : (F G : Type 0) (row : Option ElementKind) (c : Scope) (child_elements : List Tree) (new : Tree) (q : List ℕ) (gap : ℕ) (r : Result ℕ EditRefusal) → F ↔ G → IsJudgedIn F row c child_elements new q gap r → IsJudgedIn G row c child_elements new q gap r
+pub judged_by : (F G : Type 0) (row : Option ElementKind) (c : Scope) (child_elements : List Tree) (new : Tree) (q : List ℕ) (gap : ℕ) (r : Result ℕ EditRefusal) → F ↔ G → IsJudgedIn F (record { kind = row; scope = c; elements = child_elements; path = q }) new gap r → IsJudgedIn G (record { kind = row; scope = c; elements = child_elements; path = q }) new gap r
 judged_by F G row c child_elements new q gap r same (inl h) = inl (h.0, λ g. h.1 (same.1 g))
 judged_by F G row c child_elements new q gap r same (inr (inl h)) = inr (inl (h.0, (h.1.0, same.0 h.1.1, h.1.2)))
 judged_by F G row c child_elements new q gap r same (inr (inr h)) = inr (inr (h.0, same.0 h.1, h.2))
@@ -76,14 +76,14 @@ module _ (row : Option ElementKind) (c : Scope) (step : Step) (parent new : Tree
   abbrev pub Chosen : Result ℕ NoInsertionPoint → Type 0
   Chosen r = PlanIs Unlawful Invalid (IsLawfulInsertion (is_named c step) (is_tested c step) step.position (child_elements_of parent) new) V (length (child_elements_of parent) + 1) r
 
-  pub placed_ok : (gap : ℕ) (result : Result ℕ EditRefusal) → Chosen (Ok gap) → IsJudgedIn (FormedIn row c new) row c (child_elements_of parent) new q gap result → IsPlacedIn row c step parent new q result
+  pub placed_ok : (gap : ℕ) (result : Result ℕ EditRefusal) → Chosen (Ok gap) → IsJudgedIn (FormedIn row c new) (record { kind = row; scope = c; elements = child_elements_of parent; path = q }) new gap result → IsPlacedIn (record { kind = row; scope = c; step = step; element = parent }) new q result
   placed_ok gap result chosen check_insertion = record { gap = Ok gap; is_chosen = chosen; then = check_insertion }
 
-  pub placed_unlawful : Chosen (Err Unlawful) → IsPlacedIn row c step parent new q (Err refusals.CannotInsert)
+  pub placed_unlawful : Chosen (Err Unlawful) → IsPlacedIn (record { kind = row; scope = c; step = step; element = parent }) new q (Err refusals.CannotInsert)
   placed_unlawful (inl h) = record { gap = Err refusals.CannotInsert; is_chosen = inl (refl, h.1); then = refl }
   placed_unlawful (inr h) = absurd (unlawful_is_not h.0)
 
-  pub placed_invalid : Chosen (Err Invalid) → IsPlacedIn row c step parent new q (Err (refusals.Faulty faults.Invalid))
+  pub placed_invalid : Chosen (Err Invalid) → IsPlacedIn (record { kind = row; scope = c; step = step; element = parent }) new q (Err (refusals.Faulty faults.Invalid))
   placed_invalid (inl h) = absurd (invalid_is_not h.0)
   placed_invalid (inr h) = record { gap = Err (refusals.Faulty faults.Invalid); is_chosen = inr (refl, h.1); then = refl }
 
@@ -92,13 +92,13 @@ module _ (row : Option ElementKind) (c : Scope) (step : Step) (parent new : Tree
 -- the first fault found from the change of a document without a fault is the new document's first
 -- fault
 pub judged_from : (formed : Type 0) (row : Option ElementKind) (c : Scope) (child_elements : List Tree) (new : Tree) (q : List ℕ) (gap : ℕ) (u : Usage) (after : Tree) (r : Result ℕ EditRefusal) → IsValidDocument u after
-    → (MeetsConstraints u after ↔ formed) → ((kind : ElementKind) → row ≡ Some kind → (found : Option Clash) → IsFirst (ClashesBeside kind c child_elements new gap) q found → IsFirstClash u after found) → (row ≡ None → HasUniqueKeys u after)
-    → IsJudgedIn formed row c child_elements new q gap r → IsJudgedAs u after r
+    → (MeetsConstraints u after ↔ formed) → ((kind : ElementKind) → row ≡ Some kind → (found : Option Clash) → IsFirst (ClashesBeside (record { kind = kind; scope = c; elements = child_elements }) new gap) q found → IsFirstClash u after found) → (row ≡ None → HasUniqueKeys u after)
+    → IsJudgedIn formed (record { kind = row; scope = c; elements = child_elements; path = q }) new gap r → IsJudgedAs u after r
 judged_from formed row c child_elements new q gap u after r valid forms first foreign (inl h) = (Some Unformed, ((valid, λ k. h.1 (forms.0 k)), h.0))
 judged_from formed row c child_elements new q gap u after r valid forms first foreign (inr (inl h)) = (Some (Repeated h.0), ((valid, forms.1 h.1.1, first h.1.2.0 h.1.2.1.0 (Some h.0) h.1.2.1.1), h.1.0))
 judged_from formed row c child_elements new q gap u after r valid forms first foreign (inr (inr h)) = (None, ((valid, forms.1 h.1, by row refl h.2), (gap, h.0)))
   where
-    by : (o : Option ElementKind) → row ≡ o → ForSome o (λ kind. IsFirst (ClashesBeside kind c child_elements new gap) q None) → HasUniqueKeys u after
+    by : (o : Option ElementKind) → row ≡ o → ForSome o (λ kind. IsFirst (ClashesBeside (record { kind = kind; scope = c; elements = child_elements }) new gap) q None) → HasUniqueKeys u after
     by None is f = foreign is
     by (Some kind) is f = first kind is None (f kind refl)
 
@@ -107,6 +107,6 @@ made_told : (change : Change) (fault : Option Fault) (found : Result ℕ EditRef
 made_told change None found h = ap (allowed_change change) h.1
 made_told change (Some fault) found h = ap (allowed_change change) h
 
-pub made_tested : (unlawful : EditRefusal) (lawful : Type 0) (u : Usage) (t : Tree) (change : Change) (found : Result ℕ EditRefusal) → IsTestedAs unlawful lawful u (edited t change) found → IsTested unlawful lawful u t change (allowed_change change found)
+pub made_tested : (unlawful : EditRefusal) (lawful : Type 0) (u : Usage) (t : Tree) (change : Change) (found : Result ℕ EditRefusal) → IsTestedAs unlawful lawful u (edited t change) found → IsTested unlawful lawful (IsJudged u t change) (allowed_change change found)
 made_tested unlawful lawful u t change found (inl h) = inl (ap (allowed_change change) h.0, h.1)
 made_tested unlawful lawful u t change found (inr h) = inr (h.0, (h.1.0, (h.1.1.0, made_told change h.1.0 found h.1.1.1)))

@@ -4,9 +4,9 @@ use Rattle.std.proofs.lemmas.Option.{same_Some}
 use Rattle.doc_names.specs.declared.usages.Usage.{Usage}
 use Rattle.xml_tree.specs.Tree.{Tree, at, child_elements_of}
 use Rattle.xml_tree.specs.Edits.{cut_out, parent_path, own_number, put_over, take_in}
-use Rattle.xml_tree.specs.Scopes.{scope_at, inside}
+use Rattle.xml_tree.specs.TreeScopes.{scope_at, inside}
 use Rattle.xml_tree.proofs.PlaceLaws.{at-append}
-use Rattle.xml_tree.proofs.ScopeLemmas.{scope_at-below}
+use Rattle.xml_tree.proofs.TreeScopeLemmas.{scope_at-below}
 use Rattle.node_select.specs.declared.selector.Step.{Step}
 use Rattle.node_select.specs.declared.selector.End.TheVariants as ends
 use Rattle.node_select.specs.declared.selector.Selector.{Selector}
@@ -26,7 +26,7 @@ use Rattle.edit_rules.specs.declared.refusal.EditRefusal.TheVariants.{CannotInse
 use Rattle.edit_rules.specs.Deletions.{FindsNothingAfter, IsDeletePlan, IsPlanFor, IsRemoval}
 use Rattle.usage_docs.specs.Kinds.{kind_at}
 use Rattle.edit_rules.specs.LawfulPlaces.{IsLawfulReplacement}
-use Rattle.edit_rules.specs.Plans.{IsTested}
+use Rattle.edit_rules.specs.Plans.{IsJudged, IsTested}
 use Rattle.edit_rules.proofs.ClashesAt.{unique_there}
 use Rattle.edit_rules.proofs.Exchanged.{first_over, foreign_over, formed_over}
 use Rattle.edit_rules.proofs.Removed.{formed_without, unique_without, still_selected}
@@ -93,10 +93,10 @@ module _ (u : Usage) (t new : Tree) (all before : List Step) (s : Step) (q : Lis
   abbrev child_element : Tree
   child_element = p.selects.this.child_element
 
-  pub exchange_is : (r : Result ℕ EditRefusal) → IsExchangedIn row c s p.parent j new q r → SelectsPath all t (q ++ j ∷ []) → IsTestedAs CannotInsert (IsLawfulReplacement all t new (q ++ j ∷ [])) u after r
+  pub exchange_is : (r : Result ℕ EditRefusal) → IsExchangedIn (record { kind = row; scope = c; step = s; element = p.parent }) j new q r → SelectsPath all t (q ++ j ∷ []) → IsTestedAs CannotInsert (IsLawfulReplacement all t new (q ++ j ∷ [])) u after r
   exchange_is r h sel = by (subst (λ (l : List Step). SelectsPath l t (q ++ j ∷ [])) p.are sel) h
     where
-      by : SelectsPath (p.first ∷ (p.steps ++ s ∷ [])) t (q ++ j ∷ []) → IsExchangedIn row c s p.parent j new q r → IsTestedAs CannotInsert (IsLawfulReplacement all t new (q ++ j ∷ [])) u after r
+      by : SelectsPath (p.first ∷ (p.steps ++ s ∷ [])) t (q ++ j ∷ []) → IsExchangedIn (record { kind = row; scope = c; step = s; element = p.parent }) j new q r → IsTestedAs CannotInsert (IsLawfulReplacement all t new (q ++ j ∷ [])) u after r
       by sel' h' =
           let lawful = lawful_over p.first p.steps s t new q j sel' in
           let to : IsLawfulReplacement all t new (q ++ j ∷ []) → IsLawfulReplacement (p.first ∷ (p.steps ++ s ∷ [])) t new (q ++ j ∷ []) = λ l. subst (λ (x : List Step). IsLawfulReplacement x t new (q ++ j ∷ [])) p.are l in
@@ -149,7 +149,7 @@ module _ (u : Usage) (t : Tree) (selector : Selector) (before : List Step) (s : 
       let x = subst (λ (l : List Step). SelectsPath l (cut_out (q ++ j ∷ []) t) f.path) p.are f.selects in
       (still_selected p.first p.steps s t p.parent q j p.select p.there).0 (f.path, subst (λ (z : Tree). SelectsPath (p.first ∷ (p.steps ++ s ∷ [])) z f.path) (taken_out q j t) x)
 
-  pub removal_is : (r : Result ℕ EditRefusal) → IsRemovedIn (kind_at u t q) (scope_at q t) s p.parent j r → IsTestedAs CannotDelete (FindsNothingAfter selector t (Remove (q ++ j ∷ []))) u (cut_out (q ++ j ∷ []) t) r
+  pub removal_is : (r : Result ℕ EditRefusal) → IsRemovedIn (record { kind = kind_at u t q; scope = scope_at q t; step = s; element = p.parent }) j r → IsTestedAs CannotDelete (FindsNothingAfter selector t (Remove (q ++ j ∷ []))) u (cut_out (q ++ j ∷ []) t) r
   removal_is r (inl h) = inl (h.0, λ nothing. nothing (still_finds h.1))
   removal_is r (inr (inl h)) =
       inr ((λ f. h.1 (found_still f)), (Some Invalid, ((λ v. h.2 ((valid_without u t p.parent p.selects.this.child_element q j p.there p.selects.this.there faultless.0).0 (subst (λ (z : Tree). IsValid u z) (taken_out q j t) v))), h.0)))
@@ -169,21 +169,21 @@ module _ (u : Usage) (t : Tree) (selector : Selector) (before : List Step) (s : 
   )
 
 removal_at : (u : Usage) (t : Tree) (selector : Selector) (q : List ℕ) (j : ℕ) (result : Result Change EditRefusal)
-    → IsTested CannotDelete (FindsNothingAfter selector t (Remove (q ++ j ∷ []))) u t (Remove (q ++ j ∷ [])) result → IsRemoval u t selector (q ++ j ∷ []) result
+    → IsTested CannotDelete (FindsNothingAfter selector t (Remove (q ++ j ∷ []))) (IsJudged u t (Remove (q ++ j ∷ []))) result → IsRemoval (record { usage = u; document = t; selector = selector }) (q ++ j ∷ []) result
 removal_at u t selector [] j result h = h
 removal_at u t selector (n ∷ q) j result h = h
 
 -- the plan for a path is the plan for what is found there
-pub delete_by : (u : Usage) (t : Tree) (selector : Selector) (p : List ℕ) (result : Result Change EditRefusal) → selector.end ≡ ends.Element → SelectsPath selector.steps t p → IsRemoval u t selector p result → IsDeletePlan u t selector result
+pub delete_by : (u : Usage) (t : Tree) (selector : Selector) (p : List ℕ) (result : Result Change EditRefusal) → selector.end ≡ ends.Element → SelectsPath selector.steps t p → IsRemoval (record { usage = u; document = t; selector = selector }) p result → IsDeletePlan u t selector result
 delete_by u t selector p result ends_so sel h =
     let f = found_some t selector p ends_so sel in
-    inr (f, subst (λ e. IsPlanFor u t selector f.path f.element e result) (sym ends_so) (by_path f h))
+    inr (f, subst (λ e. IsPlanFor (record { usage = u; document = t; selector = selector }) f.path f.element e result) (sym ends_so) (by_path f h))
   where
-    by_path : (f : Found t selector) → IsRemoval u t selector p result → IsRemoval u t selector f.path result
-    by_path f h' = subst (λ (x : List ℕ). IsRemoval u t selector x result) (one_path selector.steps t p f.path sel f.selects) h'
+    by_path : (f : Found t selector) → IsRemoval (record { usage = u; document = t; selector = selector }) p result → IsRemoval (record { usage = u; document = t; selector = selector }) f.path result
+    by_path f h' = subst (λ (x : List ℕ). IsRemoval (record { usage = u; document = t; selector = selector }) x result) (one_path selector.steps t p f.path sel f.selects) h'
 
 pub removal_plan : (u : Usage) (t : Tree) (selector : Selector) (q : List ℕ) (j : ℕ) (result : Result Change EditRefusal) → selector.end ≡ ends.Element → SelectsPath selector.steps t (q ++ j ∷ [])
-    → IsTested CannotDelete (FindsNothingAfter selector t (Remove (q ++ j ∷ []))) u t (Remove (q ++ j ∷ [])) result → IsDeletePlan u t selector result
+    → IsTested CannotDelete (FindsNothingAfter selector t (Remove (q ++ j ∷ []))) (IsJudged u t (Remove (q ++ j ∷ []))) result → IsDeletePlan u t selector result
 removal_plan u t selector q j result ends_so sel h = delete_by u t selector (q ++ j ∷ []) result ends_so sel (removal_at u t selector q j result h)
 
 -- ---- as the code finds them
@@ -211,23 +211,23 @@ some_there t parent q there = subst (λ (o : Option Tree). IsSome o) (sym there)
 pub parent_there : (t : Tree) (all before : List Step) (s : Step) (q : List ℕ) (j : ℕ) → HasParent t all before s q j → IsSome (at q t)
 parent_there t all before s q j p = some_there t p.parent q p.there
 
-pub may_select : (u : Usage) (t : Tree) (all before : List Step) (s : Step) (q : List ℕ) (j : ℕ) → HasParent t all before s q j → HasUniqueKeys u t → (parent : Tree) → at q t ≡ Some parent → IsSelected (kind_at u t q) (scope_at q t) s parent j
+pub may_select : (u : Usage) (t : Tree) (all before : List Step) (s : Step) (q : List ℕ) (j : ℕ) → HasParent t all before s q j → HasUniqueKeys u t → (parent : Tree) → at q t ≡ Some parent → IsSelected (record { kind = kind_at u t q; scope = scope_at q t; step = s; element = parent }) j
 may_select u t all before s q j p unique parent there =
     (none_clash u t parent q unique there, subst (λ (x : Tree). SelectsChild (scope_at q t) s (child_elements_of x) j) (same_Some p.parent parent (sym p.there ∙ there)) p.selects)
 
 -- ---- by the result at the parent
 
 pub over_by : (u : Usage) (t new : Tree) (all before : List Step) (s : Step) (q : List ℕ) (j : ℕ) (p : HasParent t all before s q j) → HasFirstFault u t None → SelectsPath all t (q ++ j ∷ []) → (found : Result ℕ EditRefusal) (result : Result Change EditRefusal)
-    → ((parent : Tree) → at q t ≡ Some parent → IsExchangedIn (kind_at u t q) (scope_at q t) s parent j new q found) → result ≡ allowed_change (Replace (q ++ j ∷ []) new) found
-    → IsTested CannotInsert (IsLawfulReplacement all t new (q ++ j ∷ [])) u t (Replace (q ++ j ∷ []) new) result
+    → ((parent : Tree) → at q t ≡ Some parent → IsExchangedIn (record { kind = kind_at u t q; scope = scope_at q t; step = s; element = parent }) j new q found) → result ≡ allowed_change (Replace (q ++ j ∷ []) new) found
+    → IsTested CannotInsert (IsLawfulReplacement all t new (q ++ j ∷ [])) (IsJudged u t (Replace (q ++ j ∷ []) new)) result
 over_by u t new all before s q j p faultless sel found result h is =
     let change = Replace (q ++ j ∷ []) new in
     let lawful = IsLawfulReplacement all t new (q ++ j ∷ []) in
-    subst (λ (r : Result Change EditRefusal). IsTested CannotInsert lawful u t change r) (sym is)
+    subst (λ (r : Result Change EditRefusal). IsTested CannotInsert lawful (IsJudged u t change) r) (sym is)
     (made_tested CannotInsert lawful u t change found (exchange_is u t new all before s q j p faultless found (h p.parent p.there) sel))
 
 pub removal_by : (u : Usage) (t : Tree) (selector : Selector) (before : List Step) (s : Step) (q : List ℕ) (j : ℕ) (p : HasParent t selector.steps before s q j) → selector.end ≡ ends.Element → HasFirstFault u t None → SelectsPath selector.steps t (q ++ j ∷ []) → (found : Result ℕ EditRefusal) (result : Result Change EditRefusal)
-    → ((parent : Tree) → at q t ≡ Some parent → IsRemovedIn (kind_at u t q) (scope_at q t) s parent j found) → result ≡ allowed_change (Remove (q ++ j ∷ [])) found
+    → ((parent : Tree) → at q t ≡ Some parent → IsRemovedIn (record { kind = kind_at u t q; scope = scope_at q t; step = s; element = parent }) j found) → result ≡ allowed_change (Remove (q ++ j ∷ [])) found
     → IsDeletePlan u t selector result
 removal_by u t selector before s q j p ends_so faultless sel found result h is =
     let change = Remove (q ++ j ∷ []) in

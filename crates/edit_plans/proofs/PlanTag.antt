@@ -5,11 +5,11 @@ use Rattle.std.proofs.lemmas.Option.{same_Some}
 use Rattle.doc_names.specs.declared.usages.Usage.{Usage}
 use Rattle.xml_tree.specs.Tree.{Tree, at, height, child_elements_of}
 use Rattle.xml_tree.proofs.PlaceLaws.{height-at}
-use Rattle.xml_tree.specs.Attributes.{with_attr, without_attr}
+use Rattle.xml_names.specs.Attributes.{with_attr, without_attr}
 use Rattle.xml_tree.specs.Edits.{drop_at, drop_attr, put_over, set_at, write_attr}
-use Rattle.xml_tree.specs.Scopes.{scope_at, inside}
-use Rattle.xml_tree.specs.declared.names.Attr.{Attr}
-use Rattle.xml_tree.specs.declared.names.Name.{Name}
+use Rattle.xml_tree.specs.TreeScopes.{scope_at, inside}
+use Rattle.xml_names.specs.declared.names.Attr.{Attr}
+use Rattle.xml_names.specs.declared.names.Name.{Name}
 use Rattle.node_select.specs.declared.selector.Step.{Step}
 use Rattle.node_select.specs.declared.selector.End.TheVariants as ends
 use Rattle.node_select.specs.declared.selector.Selector.{Selector}
@@ -26,7 +26,7 @@ use Rattle.edit_rules.specs.Attributes.{FindsValue, IsValuePlan, IsWriting, writ
 use Rattle.edit_rules.specs.Deletions.{FindsNothingAfter, IsDeletePlan, IsPlanFor}
 use Rattle.usage_docs.specs.Kinds.{kind_at}
 use Rattle.edit_rules.specs.LawfulPlaces.{IsLawfulReplacement}
-use Rattle.edit_rules.specs.Plans.{IsTested}
+use Rattle.edit_rules.specs.Plans.{IsJudged, IsTested}
 use Rattle.edit_rules.specs.Tags.{AttrsFormed, tag_with, with_attrs}
 use Rattle.edit_rules.specs.inner.Tags.{value_in}
 use Rattle.edit_rules.proofs.Places.{as_exchange}
@@ -44,7 +44,7 @@ use Rattle.edit_plans.proofs.PlanAt.{HasParent, child_at}
 -- the steps select exactly the element with the new start tag, if its parent's step tests it
 module _ (selector : Selector) (after new : Tree) (p : List ℕ) (c : Scope) (s : Step) (uri local : List ℕ) (selected : SelectsPath selector.steps after p ↔ IsTrue (is_tested c s new)) (only : (p' : List ℕ) → SelectsPath selector.steps after p' → p' ≡ p) (there : at p after ≡ Some new)
     (scope : scope_at p after ≡ inside c new) (ends_so : selector.end ≡ ends.Attribute uri local) where
-  pub as_sought : (wanted : Option (List ℕ)) → AsSought selector uri local after p wanted ↔ (value_in c s uri local new ≡ wanted)
+  pub as_sought : (wanted : Option (List ℕ)) → AsSought selector (record { path = p; uri = uri; local = local }) after wanted ↔ (value_in c s uri local new ≡ wanted)
   as_sought (Some v) = finds selector.steps after new p c s selected only there scope uri local v
   as_sought None = (λ nothing. none nothing (value_in c s uri local new) refl, λ is f. some is (found_to selector.steps after new p c s selected only there scope selector uri local refl ends_so f))
     where
@@ -65,7 +65,7 @@ module _ (u : Usage) (t e : Tree) (selector : Selector) (before : List Step) (s 
   abbrev after : Tree
   after = put_over (q ++ j ∷ []) (with_attrs ats e) t
 
-  sought_is : (wanted : Option (List ℕ)) → AsSought selector sought.uri.now sought.local.now after (q ++ j ∷ []) wanted ↔ (value_in c s sought.uri.now sought.local.now (with_attrs ats e) ≡ wanted)
+  sought_is : (wanted : Option (List ℕ)) → AsSought selector (record { path = q ++ j ∷ []; uri = sought.uri.now; local = sought.local.now }) after wanted ↔ (value_in c s sought.uri.now sought.local.now (with_attrs ats e) ≡ wanted)
   sought_is =
       let selected = selected_retag p.first p.steps s t p.parent e q j ats p.there is_kid at_p sel in
       let only = only_retag p.first p.steps s t p.parent e q j ats p.there is_kid at_p sel in
@@ -74,7 +74,7 @@ module _ (u : Usage) (t e : Tree) (selector : Selector) (before : List Step) (s 
       (subst (λ (l : List Step). (p' : List ℕ) → SelectsPath l after p' → p' ≡ q ++ j ∷ []) (sym p.are) only)
       (there_retag p.first p.steps s t p.parent e q j ats p.there is_kid at_p sel) (scope_retag p.first p.steps s t p.parent e q j ats p.there is_kid at_p sel) ends_so
 
-  pub retag_is : (r : Result ℕ EditRefusal) → IsRetaggedIn (kind_at u t q) c s p.parent j (tag_with ats e) sought q r → IsRetaggedAt u t selector (q ++ j ∷ []) e ats sought r
+  pub retag_is : (r : Result ℕ EditRefusal) → IsRetaggedIn (record { kind = kind_at u t q; scope = c; step = s; element = p.parent }) (record { child = j; tag = tag_with ats e; sought = sought }) q r → IsRetaggedAt (record { usage = u; document = t; selector = selector }) (q ++ j ∷ []) (with_attrs ats e) sought r
   retag_is r (inl h) = inl (h.0, λ l. h.1 ((sought_is (option_copied sought.value)).0 l))
   retag_is r (inr (inl h)) = inr ((sought_is (option_copied sought.value)).1 h.1, (Some Invalid, ((λ v. h.2 ((valid_retag u t p.parent e q j ats p.there is_kid at_p faultless.0).0 v)), h.0)))
   retag_is r (inr (inr h)) =
@@ -87,7 +87,7 @@ module _ (u : Usage) (t e : Tree) (selector : Selector) (before : List Step) (s 
 
 -- below the root, by the result at the parent
 pub retag_by : (u : Usage) (t e : Tree) (selector : Selector) (before : List Step) (s : Step) (q : List ℕ) (j : ℕ) (p : HasParent t selector.steps before s q j) (ats : List Attr) (sought : AttributeEdit) → selector.end ≡ ends.Attribute sought.uri.now sought.local.now → HasFirstFault u t None → at (q ++ j ∷ []) t ≡ Some e → SelectsPath selector.steps t (q ++ j ∷ [])
-    → (found : Result ℕ EditRefusal) → ((parent : Tree) → at q t ≡ Some parent → IsRetaggedIn (kind_at u t q) (scope_at q t) s parent j (tag_with ats e) sought q found) → IsRetaggedAt u t selector (q ++ j ∷ []) e ats sought found
+    → (found : Result ℕ EditRefusal) → ((parent : Tree) → at q t ≡ Some parent → IsRetaggedIn (record { kind = kind_at u t q; scope = scope_at q t; step = s; element = parent }) (record { child = j; tag = tag_with ats e; sought = sought }) q found) → IsRetaggedAt (record { usage = u; document = t; selector = selector }) (q ++ j ∷ []) (with_attrs ats e) sought found
 retag_by u t e selector before s q j p ats sought ends_so faultless at_p sel found h =
     let child_element = p.selects.this.child_element in
     let same : child_element ≡ e = same_Some child_element e (sym (child_at t p.parent child_element q j p.there p.selects.this.there) ∙ at_p) in
@@ -117,12 +117,12 @@ only_the_root t new all before s are h p h' = by p (subst (λ (l : List Step). S
 
 -- another root, by its result
 pub root_over : (u : Usage) (t new : Tree) (all : List Step) (found : Result ℕ EditRefusal) (result : Result Change EditRefusal) → IsTestedAs CannotInsert (SelectsPath all new []) u new found → result ≡ allowed_change (Replace [] new) found
-    → IsTested CannotInsert (IsLawfulReplacement all t new []) u t (Replace [] new) result
+    → IsTested CannotInsert (IsLawfulReplacement all t new []) (IsJudged u t (Replace [] new)) result
 root_over u t new all found result h is =
-    subst (λ (r : Result Change EditRefusal). IsTested CannotInsert (IsLawfulReplacement all t new []) u t (Replace [] new) r) (sym is) (made_tested CannotInsert (IsLawfulReplacement all t new []) u t (Replace [] new) found h)
+    subst (λ (r : Result Change EditRefusal). IsTested CannotInsert (IsLawfulReplacement all t new []) (IsJudged u t (Replace [] new)) r) (sym is) (made_tested CannotInsert (IsLawfulReplacement all t new []) u t (Replace [] new) found h)
 
 pub root_retag_is : (u : Usage) (t : Tree) (selector : Selector) (s : Step) (ats : List Attr) (sought : AttributeEdit) (r : Result ℕ EditRefusal) → selector.steps ≡ s ∷ [] → SelectsPath selector.steps t [] → selector.end ≡ ends.Attribute sought.uri.now sought.local.now → HasFirstFault u t None
-    → IsRootRetagged u s (tag_with ats t) sought r → IsRetaggedAt u t selector [] t ats sought r
+    → IsRootRetagged u s (tag_with ats t) sought r → IsRetaggedAt (record { usage = u; document = t; selector = selector }) [] (with_attrs ats t) sought r
 root_retag_is u t selector s ats sought r are sel ends_so faultless h = by h
   where
     new : Tree
@@ -131,13 +131,13 @@ root_retag_is u t selector s ats sought r are sel ends_so faultless h = by h
     sel_one : SelectsPath (s ∷ []) t []
     sel_one = subst (λ (l : List Step). SelectsPath l t []) are sel
 
-    sought_is : AsSought selector sought.uri.now sought.local.now (with_attrs ats t) [] (option_copied sought.value) ↔ (value_in [] s sought.uri.now sought.local.now (with_attrs ats t) ≡ option_copied sought.value)
+    sought_is : AsSought selector (record { path = []; uri = sought.uri.now; local = sought.local.now }) (with_attrs ats t) (option_copied sought.value) ↔ (value_in [] s sought.uri.now sought.local.now (with_attrs ats t) ≡ option_copied sought.value)
     sought_is =
         as_sought selector (with_attrs ats t) (with_attrs ats t) [] [] s sought.uri.now sought.local.now
         (subst (λ (l : List Step). SelectsPath l (with_attrs ats t) [] ↔ IsTrue (is_tested [] s (with_attrs ats t))) (sym are) (selected_root s t ats sel_one))
         (subst (λ (l : List Step). (p' : List ℕ) → SelectsPath l (with_attrs ats t) p' → p' ≡ []) (sym are) (only_root s t ats sel_one)) refl refl ends_so (option_copied sought.value)
 
-    by : IsRootRetagged u s (tag_with ats t) sought r → IsRetaggedAt u t selector [] t ats sought r
+    by : IsRootRetagged u s (tag_with ats t) sought r → IsRetaggedAt (record { usage = u; document = t; selector = selector }) [] (with_attrs ats t) sought r
     by (inl x) = inl (x.0, λ l. x.1 (sought_is.0 l))
     by (inr (inl x)) = inr (sought_is.1 x.1, (Some Invalid, ((λ v. x.2 ((valid_root u t ats faultless.0).0 v)), x.0)))
     by (inr (inr x)) = inr (sought_is.1 x.1, (None, (((valid_root u t ats faultless.0).1 x.2, faultless.1, faultless.2), (0, x.0))))
@@ -150,41 +150,41 @@ selected_there steps t p sel none = let there = subst (λ (o : Option Tree). IsS
 
 -- the writing of an attribute
 pub writing_is : (u : Usage) (t e : Tree) (selector : Selector) (p : List ℕ) (uri local value : List ℕ) (name : Name) (found : Result ℕ EditRefusal) → at p t ≡ Some e
-    → IsTestedAs CannotInsert (FindsValue selector.steps uri local (put_over p (with_attrs (with_attr name value e.attrs) e) t) p value) u (put_over p (with_attrs (with_attr name value e.attrs) e) t) found
-    → IsWriting u t selector.steps uri local p value (Some name) (allowed_change (SetAttr p name value) found)
+    → IsTestedAs CannotInsert (FindsValue selector.steps (record { path = p; uri = uri; local = local }) (put_over p (with_attrs (with_attr name value e.attrs) e) t) value) u (put_over p (with_attrs (with_attr name value e.attrs) e) t) found
+    → IsWriting (record { usage = u; document = t; steps = selector.steps }) (record { path = p; uri = uri; local = local }) value (Some name) (allowed_change (SetAttr p name value) found)
 writing_is u t e selector p uri local value name found there h =
     let same : set_at p name value t ≡ put_over p (write_attr name value e) t = as_exchange p (write_attr name value) e t there in
-    made_tested CannotInsert (FindsValue selector.steps uri local (set_at p name value t) p value) u t (SetAttr p name value) found
-    (subst (λ (x : Tree). IsTestedAs CannotInsert (FindsValue selector.steps uri local x p value) u x found) (sym same) h)
+    made_tested CannotInsert (FindsValue selector.steps (record { path = p; uri = uri; local = local }) (set_at p name value t) value) u t (SetAttr p name value) found
+    (subst (λ (x : Tree). IsTestedAs CannotInsert (FindsValue selector.steps (record { path = p; uri = uri; local = local }) x value) u x found) (sym same) h)
 
 -- the writing of an attribute, by the result for the new start tag
 as_value : (u : Usage) (after : Tree) (selector : Selector) (p : List ℕ) (uri uri' local local' value : List ℕ) (wanted : Option (List ℕ)) (found : Result ℕ EditRefusal) → uri' ≡ uri → local' ≡ local → wanted ≡ Some value
-    → IsTestedAs (not_found_refusal wanted) (AsSought selector uri' local' after p wanted) u after found → IsTestedAs CannotInsert (FindsValue selector.steps uri local after p value) u after found
+    → IsTestedAs (not_found_refusal wanted) (AsSought selector (record { path = p; uri = uri'; local = local' }) after wanted) u after found → IsTestedAs CannotInsert (FindsValue selector.steps (record { path = p; uri = uri; local = local }) after value) u after found
 as_value u after selector p uri uri' local local' value wanted found same_uri same_local is h =
-    subst (λ (x : List ℕ). IsTestedAs CannotInsert (FindsValue selector.steps x local after p value) u after found) same_uri
-    (subst (λ (x : List ℕ). IsTestedAs CannotInsert (FindsValue selector.steps uri' x after p value) u after found) same_local
-    (subst (λ (o : Option (List ℕ)). IsTestedAs (not_found_refusal o) (AsSought selector uri' local' after p o) u after found) is h))
+    subst (λ (x : List ℕ). IsTestedAs CannotInsert (FindsValue selector.steps (record { path = p; uri = x; local = local }) after value) u after found) same_uri
+    (subst (λ (x : List ℕ). IsTestedAs CannotInsert (FindsValue selector.steps (record { path = p; uri = uri'; local = x }) after value) u after found) same_local
+    (subst (λ (o : Option (List ℕ)). IsTestedAs (not_found_refusal o) (AsSought selector (record { path = p; uri = uri'; local = local' }) after o) u after found) is h))
 
 module _ (u : Usage) (t e : Tree) (selector : Selector) (p : List ℕ) (uri local value : List ℕ) (there : at p t ≡ Some e) where
   pub value_plan : (name : Name) (ats : List Attr) (sought : AttributeEdit) (found : Result ℕ EditRefusal) (result : Result Change EditRefusal) → written_name (scope_at p t) uri local e.attrs ≡ Some name → ats ≡ with_attr name value e.attrs
       → sought.uri.now ≡ uri → sought.local.now ≡ local → option_copied sought.value ≡ Some value
-      → IsRetaggedAt u t selector p e ats sought found → result ≡ allowed_change (SetAttr p name value) found → IsValuePlan u t selector.steps uri local p value result
+      → IsRetaggedAt (record { usage = u; document = t; selector = selector }) p (with_attrs ats e) sought found → result ≡ allowed_change (SetAttr p name value) found → IsValuePlan (record { usage = u; document = t; steps = selector.steps }) (record { path = p; uri = uri; local = local }) value result
   value_plan name ats sought found result has_name ats_are same_uri same_local wanted h is =
       let after = put_over p (with_attrs ats e) t in
       let tested = as_value u after selector p uri sought.uri.now local sought.local.now value (option_copied sought.value) found same_uri same_local wanted h in
-      let written = subst (λ (xs : List Attr). IsTestedAs CannotInsert (FindsValue selector.steps uri local (put_over p (with_attrs xs e) t) p value) u (put_over p (with_attrs xs e) t) found) ats_are tested in
+      let written = subst (λ (xs : List Attr). IsTestedAs CannotInsert (FindsValue selector.steps (record { path = p; uri = uri; local = local }) (put_over p (with_attrs xs e) t) value) u (put_over p (with_attrs xs e) t) found) ats_are tested in
       let plan = writing_is u t e selector p uri local value name found there written in
       record {
         element = e;
         there = there;
-        plan = subst (λ (o : Option Name). IsWriting u t selector.steps uri local p value o result) (sym has_name)
-            (subst (λ (r : Result Change EditRefusal). IsWriting u t selector.steps uri local p value (Some name) r) (sym is) plan);
+        plan = subst (λ (o : Option Name). IsWriting (record { usage = u; document = t; steps = selector.steps }) (record { path = p; uri = uri; local = local }) value o result) (sym has_name)
+            (subst (λ (r : Result Change EditRefusal). IsWriting (record { usage = u; document = t; steps = selector.steps }) (record { path = p; uri = uri; local = local }) value (Some name) r) (sym is) plan);
       }
 
 -- the removal of an attribute
 pub dropping_is : (u : Usage) (t e : Tree) (selector : Selector) (p : List ℕ) (name : Name) (found : Result ℕ EditRefusal) → at p t ≡ Some e
     → IsTestedAs CannotDelete (Found (put_over p (with_attrs (without_attr name e.attrs) e) t) selector → ⊥) u (put_over p (with_attrs (without_attr name e.attrs) e) t) found
-    → IsTested CannotDelete (FindsNothingAfter selector t (DropAttr p name)) u t (DropAttr p name) (allowed_change (DropAttr p name) found)
+    → IsTested CannotDelete (FindsNothingAfter selector t (DropAttr p name)) (IsJudged u t (DropAttr p name)) (allowed_change (DropAttr p name) found)
 dropping_is u t e selector p name found there h =
     let same : drop_at p name t ≡ put_over p (drop_attr name e) t = as_exchange p (drop_attr name) e t there in
     made_tested CannotDelete (FindsNothingAfter selector t (DropAttr p name)) u t (DropAttr p name) found
@@ -201,10 +201,10 @@ found_attr t e selector p uri local attr ends_so sel there that = record {
 }
 
 pub drop_plan : (u : Usage) (t e : Tree) (selector : Selector) (p : List ℕ) (uri local : List ℕ) (attr : Attr) (result : Result Change EditRefusal) → selector.end ≡ ends.Attribute uri local → SelectsPath selector.steps t p → at p t ≡ Some e → find (is_attr (scope_at p t) uri local) e.attrs ≡ Some attr
-    → IsTested CannotDelete (FindsNothingAfter selector t (DropAttr p attr.name)) u t (DropAttr p attr.name) result → IsDeletePlan u t selector result
+    → IsTested CannotDelete (FindsNothingAfter selector t (DropAttr p attr.name)) (IsJudged u t (DropAttr p attr.name)) result → IsDeletePlan u t selector result
 unfolding found_attr
 drop_plan u t e selector p uri local attr result ends_so sel there that h =
-    inr (found_attr t e selector p uri local attr ends_so sel there that, subst (λ x. IsPlanFor u t selector p e x result) (sym ends_so) (record { attr = attr; that = that; then = h }))
+    inr (found_attr t e selector p uri local attr ends_so sel there that, subst (λ x. IsPlanFor (record { usage = u; document = t; selector = selector }) p e x result) (sym ends_so) (record { attr = attr; that = that; then = h }))
 
 pub drop_nothing : (u : Usage) (t e : Tree) (selector : Selector) (p : List ℕ) (uri local : List ℕ) → selector.end ≡ ends.Attribute uri local → SelectsPath selector.steps t p → at p t ≡ Some e → find (is_attr (scope_at p t) uri local) e.attrs ≡ None → IsDeletePlan u t selector (Err NotFound)
 drop_nothing u t e selector p uri local ends_so sel there none = inl (refl, by)

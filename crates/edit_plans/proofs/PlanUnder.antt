@@ -6,7 +6,7 @@ use Rattle.node_select.proofs.Planned.{plan_alike}
 use Rattle.doc_names.specs.declared.usages.Usage.{Usage}
 use Rattle.xml_tree.specs.Tree.{Tree, at, child_elements_of}
 use Rattle.xml_tree.specs.Edits.{put_in}
-use Rattle.xml_tree.specs.Scopes.{scope_at}
+use Rattle.xml_tree.specs.TreeScopes.{scope_at}
 use Rattle.node_select.specs.declared.selector.Step.{Step}
 use Rattle.node_select.specs.Selection.{SelectsPath, is_named, is_tested}
 use Rattle.node_select.proofs.Along.{path_there}
@@ -37,7 +37,7 @@ same_number : (gap n : ℕ) → ◌≡◌ {A = Result ℕ EditRefusal} (Ok gap) 
 same_number gap n h = cc
 
 -- the result is a refusal or the insertion point
-judged_number : (formed : Type 0) (row : Option ElementKind) (c : Scope) (child_elements : List Tree) (new : Tree) (q : List ℕ) (gap : ℕ) (placed : Result ℕ EditRefusal) → IsJudgedIn formed row c child_elements new q gap placed → (n : ℕ) → placed ≡ Ok n → n ≡ gap
+judged_number : (formed : Type 0) (row : Option ElementKind) (c : Scope) (child_elements : List Tree) (new : Tree) (q : List ℕ) (gap : ℕ) (placed : Result ℕ EditRefusal) → IsJudgedIn formed (record { kind = row; scope = c; elements = child_elements; path = q }) new gap placed → (n : ℕ) → placed ≡ Ok n → n ≡ gap
 judged_number formed row c child_elements new q gap placed (inl h) n is = let z = sym h.0 ∙ is in cc
 judged_number formed row c child_elements new q gap placed (inr (inl h)) n is = let z = sym h.1.0 ∙ is in cc
 judged_number formed row c child_elements new q gap placed (inr (inr h)) n is = same_number gap n (sym h.0 ∙ is)
@@ -47,7 +47,7 @@ inserted_told q new gap None placed one h = ap (element_insertion q new) h.1 ∙
 inserted_told q new gap (Some fault) placed one h = ap (element_insertion q new) h
 
 module _ (u : Usage) (t parent new : Tree) (q : List ℕ) (there : at q t ≡ Some parent) (faultless : HasFirstFault u t None) where
-  check_insertion : (gap : ℕ) → gap ≤ length (child_elements_of parent) → usage.IsValidDocument u (put_in q gap new t) → (placed : Result ℕ EditRefusal) → IsJudgedIn (FormedIn (kind_at u t q) (scope_at q t) new) (kind_at u t q) (scope_at q t) (child_elements_of parent) new q gap placed → IsJudged u t (Insert q gap new) (element_insertion q new placed)
+  check_insertion : (gap : ℕ) → gap ≤ length (child_elements_of parent) → usage.IsValidDocument u (put_in q gap new t) → (placed : Result ℕ EditRefusal) → IsJudgedIn (FormedIn (kind_at u t q) (scope_at q t) new) (record { kind = kind_at u t q; scope = scope_at q t; elements = child_elements_of parent; path = q }) new gap placed → IsJudged u t (Insert q gap new) (element_insertion q new placed)
   check_insertion gap le valid placed h =
       let row = kind_at u t q in
       let c = scope_at q t in
@@ -55,7 +55,7 @@ module _ (u : Usage) (t parent new : Tree) (q : List ℕ) (there : at q t ≡ So
       (λ kind is found. (first_put u t parent new q gap there le faultless.2 kind is found).0) (foreign_put u t parent new q gap there le faultless.2) h in
       (j.0, (j.1.0, inserted_told q new gap j.0 placed (judged_number (FormedIn row c new) row c (child_elements_of parent) new q gap placed h) j.1.1))
 
-  from_gap : (gap placed : Result ℕ EditRefusal) → ((j : ℕ) → gap ≡ Ok j → (j ≤ length (child_elements_of parent)) × usage.IsValidDocument u (put_in q j new t)) → FromGapIn (kind_at u t q) (scope_at q t) (child_elements_of parent) new q gap placed → FromGap u t q new gap (element_insertion q new placed)
+  from_gap : (gap placed : Result ℕ EditRefusal) → ((j : ℕ) → gap ≡ Ok j → (j ≤ length (child_elements_of parent)) × usage.IsValidDocument u (put_in q j new t)) → FromGapIn (record { kind = kind_at u t q; scope = scope_at q t; elements = child_elements_of parent; path = q }) new gap placed → FromGap (λ gap. IsJudged u t (Insert q gap new)) gap (element_insertion q new placed)
   from_gap (Ok gap) placed within h = let w = within gap refl in check_insertion gap w.0 w.1 placed h
   from_gap (Err why) placed within h = ap (element_insertion q new) h
 
@@ -65,7 +65,7 @@ within_plan unlawful invalid L V many j (Ok gap) h is = let same : gap ≡ j = c
 within_plan unlawful invalid L V many j (Err e) h is = cc
 
 insertion_is : (u : Usage) (t parent new : Tree) (q : List ℕ) (first : Step) (steps : List Step) (s : Step) (placed : Result ℕ EditRefusal) → at q t ≡ Some parent → HasFirstFault u t None → SelectsPath (first ∷ steps) t q
-    → IsPlacedIn (kind_at u t q) (scope_at q t) s parent new q placed → IsInsertion u t (first ∷ (steps ++ s ∷ [])) q new (element_insertion q new placed)
+    → IsPlacedIn (record { kind = kind_at u t q; scope = scope_at q t; step = s; element = parent }) new q placed → IsInsertion (record { usage = u; document = t; steps = first ∷ (steps ++ s ∷ []) }) q new (element_insertion q new placed)
 insertion_is u t parent new q first steps s placed there faultless selects h =
     let many = length (child_elements_of parent) in
     let L = IsLawfulInsertion (is_named (scope_at q t) s) (is_tested (scope_at q t) s) s.position (child_elements_of parent) new in
@@ -86,10 +86,10 @@ insertion_is u t parent new q first steps s placed there faultless selects h =
 
 -- as the edit target of the selector states it
 insertion_by_steps : (u : Usage) (t parent new : Tree) (q : List ℕ) (all before : List Step) (s : Step) (placed : Result ℕ EditRefusal) → all ≡ before ++ s ∷ [] → at q t ≡ Some parent → HasFirstFault u t None → SelectsPath before t q
-    → IsPlacedIn (kind_at u t q) (scope_at q t) s parent new q placed → IsInsertion u t all q new (element_insertion q new placed)
+    → IsPlacedIn (record { kind = kind_at u t q; scope = scope_at q t; step = s; element = parent }) new q placed → IsInsertion (record { usage = u; document = t; steps = all }) q new (element_insertion q new placed)
 insertion_by_steps u t parent new q all [] s placed are there faultless selects h = absurd selects
 insertion_by_steps u t parent new q all (first ∷ steps) s placed are there faultless selects h =
-    subst (λ (l : List Step). IsInsertion u t l q new (element_insertion q new placed)) (sym are) (insertion_is u t parent new q first steps s placed there faultless selects h)
+    subst (λ (l : List Step). IsInsertion (record { usage = u; document = t; steps = l }) q new (element_insertion q new placed)) (sym are) (insertion_is u t parent new q first steps s placed there faultless selects h)
 
 pub some_of : (o : Option Tree) → IsSome o → (x : Tree) × (o ≡ Some x)
 some_of None h = cc
@@ -99,10 +99,10 @@ pub parent_is_there : (t : Tree) (q : List ℕ) (before : List Step) → Selects
 parent_is_there t q before h = path_there before t q h
 
 pub planned : (u : Usage) (t new : Tree) (q : List ℕ) (all before : List Step) (s : Step) (placed : Result ℕ EditRefusal) (result : Result Change EditRefusal) → all ≡ before ++ s ∷ [] → SelectsPath before t q → HasFirstFault u t None
-    → ((parent : Tree) → at q t ≡ Some parent → IsPlacedIn (kind_at u t q) (scope_at q t) s parent new q placed) → result ≡ element_insertion q new placed → IsInsertion u t all q new result
+    → ((parent : Tree) → at q t ≡ Some parent → IsPlacedIn (record { kind = kind_at u t q; scope = scope_at q t; step = s; element = parent }) new q placed) → result ≡ element_insertion q new placed → IsInsertion (record { usage = u; document = t; steps = all }) q new result
 planned u t new q all before s placed result are selects faultless h is =
     let p = some_of (at q t) (parent_is_there t q before selects) in
-    subst (λ (r : Result Change EditRefusal). IsInsertion u t all q new r) (sym is) (insertion_by_steps u t p.0 new q all before s placed are p.1 faultless selects (h p.0 p.1))
+    subst (λ (r : Result Change EditRefusal). IsInsertion (record { usage = u; document = t; steps = all }) q new r) (sym is) (insertion_by_steps u t p.0 new q all before s placed are p.1 faultless selects (h p.0 p.1))
 
 -- the last of the steps
 last_of : (before : List Step) (s d : Step) (n : ℕ) → n ≡ length before → get_or (before ++ s ∷ []) n d ≡ s

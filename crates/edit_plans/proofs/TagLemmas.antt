@@ -7,7 +7,7 @@ use Rattle.std.proofs.lemmas.List.Folds.{find_at}
 use Rattle.std.proofs.lemmas.List.Quantifiers.{position-Some}
 use Rattle.std.proofs.lemmas.Option.{same_Some, slice_get-get_or}
 use Rattle.xml_tree.specs.Tree.{Content}
-use Rattle.xml_tree.specs.declared.names.Attr.{Attr}
+use Rattle.xml_names.specs.declared.names.Attr.{Attr}
 use Rattle.usage_docs.specs.declared.schema_table.ElementKind.{ElementKind}
 use Rattle.usage_docs.specs.declared.schema_table.ElementKind.TheVariants.{ResourceLists, EntryList, Entry, EntryRef, External, DisplayName, RlsServices, Service, ResourceList, Packages, Package}
 use Rattle.usage_docs.specs.Forms.{is_formed}

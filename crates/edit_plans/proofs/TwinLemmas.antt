@@ -3,7 +3,7 @@ use Rattle.std.proofs.Common.{◌≡◌, ◌↔◌, ◌⊎◌, ◌<◌, ◌≤�
 use Rattle.std.proofs.lemmas.Option.{same_Some, none-some, slice_get_within}
 use Rattle.std.proofs.lemmas.Bool.{cases_lt, cases_order}
 use Rattle.xml_tree.specs.Tree.{Tree}
-use Rattle.xml_tree.specs.declared.names.Attr.{Attr}
+use Rattle.xml_names.specs.declared.names.Attr.{Attr}
 use Rattle.usage_docs.specs.declared.schema_table.ElementKind.{ElementKind}
 use Rattle.usage_docs.specs.declared.schema_table.Key.{Key}
 use Rattle.usage_docs.specs.SchemaTable.{Scope}
@@ -69,10 +69,10 @@ marked_by_kind row c e own kind key value b is by_key has test = (
 
 -- ---- duplicates
 
-pub twin_is : (row : ElementKind) (c : Scope) (child_elements : List Tree) (new : Tree) (kind : ElementKind) (key : Key) (value : List ℕ) (i : ℕ) → kind_of_child row c new ≡ Some kind → key_of kind ≡ Some key → value_of key new.attrs ≡ Some value → mark_at row c child_elements i ≡ Some (mark kind value) → IsDuplicate row c child_elements new i key
+pub twin_is : (row : ElementKind) (c : Scope) (child_elements : List Tree) (new : Tree) (kind : ElementKind) (key : Key) (value : List ℕ) (i : ℕ) → kind_of_child row c new ≡ Some kind → key_of kind ≡ Some key → value_of key new.attrs ≡ Some value → mark_at row c child_elements i ≡ Some (mark kind value) → IsDuplicate (record { kind = row; scope = c; elements = child_elements }) new i key
 twin_is row c child_elements new kind key value i k w v that = record { shared = mark kind value; that = that; of_new = mark_with row c new kind key value k w v; by_key = w }
 
-pub no_twin_unmarked : (row : ElementKind) (c : Scope) (child_elements : List Tree) (new : Tree) → mark_of row c new ≡ None → NoDuplicate row c child_elements new
+pub no_twin_unmarked : (row : ElementKind) (c : Scope) (child_elements : List Tree) (new : Tree) → mark_of row c new ≡ None → NoDuplicate (record { kind = row; scope = c; elements = child_elements }) new
 no_twin_unmarked row c child_elements new none i key t = none-some t.shared (sym none ∙ t.of_new)
 
 -- ---- among the others
@@ -109,7 +109,7 @@ clean_others row c (Some i) child_elements clean r key h = let o = old_clash row
 pub mark_among : (row : ElementKind) (c : Scope) (left_out : Option ℕ) (child_elements : List Tree) (j : ℕ) (m : Mark) → (left_out ≡ Some j → ⊥) → mark_at row c child_elements j ≡ Some m → mark_at row c (others left_out child_elements) (among left_out j) ≡ Some m
 mark_among row c left_out child_elements j m other h = ap (option_and_then (mark_of row c)) (get_among left_out child_elements j other) ∙ h
 
-pub no_twin_marked : (row : ElementKind) (c : Scope) (left_out : Option ℕ) (child_elements : List Tree) (new : Tree) (m : Mark) → mark_of row c new ≡ Some m → ((j : ℕ) → (left_out ≡ Some j → ⊥) → mark_at row c child_elements j ≡ Some m → ⊥) → NoDuplicate row c (others left_out child_elements) new
+pub no_twin_marked : (row : ElementKind) (c : Scope) (left_out : Option ℕ) (child_elements : List Tree) (new : Tree) (m : Mark) → mark_of row c new ≡ Some m → ((j : ℕ) → (left_out ≡ Some j → ⊥) → mark_at row c child_elements j ≡ Some m → ⊥) → NoDuplicate (record { kind = row; scope = c; elements = others left_out child_elements }) new
 no_twin_marked row c left_out child_elements new m is none i key t =
     let j = came_from left_out child_elements i in
     none j.0 j.1.0 (sym (ap (option_and_then (mark_of row c)) j.1.1) ∙ t.that ∙ sym t.of_new ∙ is)
@@ -137,13 +137,13 @@ none_marked row c child_elements m left_out i end none k other h = none k (let l
 -- ---- no duplicate before the insertion point
 
 pub none_before : (row : ElementKind) (c : Scope) (child_elements : List Tree) (new : Tree) (gap : ℕ) → gap ≤ length child_elements → ((r : List ℕ) (key : Key) → RepeatsAt row c child_elements r key → ⊥) → (o : Option DuplicateKey)
-    → ((t : DuplicateKey) → o ≡ Some t → IsDuplicate row c child_elements new t.child t.key) → (o ≡ None → NoDuplicate row c child_elements new) → ((t : DuplicateKey) → o ≡ Some t → gap ≤ t.child)
-    → (i : ℕ) (key : Key) → i < gap → IsDuplicate row c child_elements new i key → ⊥
+    → ((t : DuplicateKey) → o ≡ Some t → IsDuplicate (record { kind = row; scope = c; elements = child_elements }) new t.child t.key) → (o ≡ None → NoDuplicate (record { kind = row; scope = c; elements = child_elements }) new) → ((t : DuplicateKey) → o ≡ Some t → gap ≤ t.child)
+    → (i : ℕ) (key : Key) → i < gap → IsDuplicate (record { kind = row; scope = c; elements = child_elements }) new i key → ⊥
 none_before row c child_elements new gap le unique None found none later i key lt t = none refl i key t
 none_before row c child_elements new gap le unique (Some twin) found none later i key lt t =
     let same = one_twin row c child_elements new gap le unique i twin.child key twin.key t (found twin refl) in
     let from = later twin refl in
     omega arith
 
-pub twin_at : (row : ElementKind) (c : Scope) (child_elements : List Tree) (new : Tree) (o : Option DuplicateKey) → IfSome o (λ t. IsDuplicate row c child_elements new t.child t.key) → (t : DuplicateKey) → o ≡ Some t → IsDuplicate row c child_elements new t.child t.key
-twin_at row c child_elements new o h t is = subst (λ (x : Option DuplicateKey). IfSome x (λ t. IsDuplicate row c child_elements new t.child t.key)) is h
+pub twin_at : (row : ElementKind) (c : Scope) (child_elements : List Tree) (new : Tree) (o : Option DuplicateKey) → IfSome o (λ t. IsDuplicate (record { kind = row; scope = c; elements = child_elements }) new t.child t.key) → (t : DuplicateKey) → o ≡ Some t → IsDuplicate (record { kind = row; scope = c; elements = child_elements }) new t.child t.key
+twin_at row c child_elements new o h t is = subst (λ (x : Option DuplicateKey). IfSome x (λ t. IsDuplicate (record { kind = row; scope = c; elements = child_elements }) new t.child t.key)) is h

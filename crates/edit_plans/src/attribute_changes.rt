@@ -1,11 +1,11 @@
 //! Whether an element may have its attributes changed (RFC 4825, sections 8.2.4 and 8.4).
 ghost use Rattle.std.specs.Prelude.{◌≡◌, ◌≤◌, Some, None};
-ghost use Rattle.xml_tree.specs.Limits.{max_levels};
+ghost use Rattle.xml_names.specs.Limits.{max_levels};
 ghost use Rattle.xml_tree.specs.Tree.{at, height};
 ghost use Rattle.node_select.specs.Selection.{SelectsPath};
 ghost use Rattle.node_select.specs.declared.selector.End.TheVariants as ends;
 ghost use Rattle.usage_docs.specs.Validation.{HasFirstFault};
-ghost use Rattle.edit_rules.specs.Tags.{tag_with};
+ghost use Rattle.edit_rules.specs.Tags.{tag_with, with_attrs};
 ghost use Rattle.edit_plans.specs.inner.CheckedChanges.{IsRetaggedAt};
 
 use crate::child_attributes::AttributeEdit;
@@ -37,8 +37,9 @@ pub(crate) fn plan_attribute_change(
         ≡ ends.Attribute sought.now.uri.now sought.now.local.now }
     requires selected { SelectsPath selector.now.steps root.now path.now }
     requires faultless { HasFirstFault usage root.now None }
-    ensures new_tag_plan { IsRetaggedAt usage root.now selector.now path.now element.now
-        tag.now.attrs sought.now result }
+    ensures new_tag_plan { IsRetaggedAt
+        (record { usage = usage; document = root.now; selector = selector.now }) path.now
+        (with_attrs tag.now.attrs element.now) sought.now result }
 {
     let [.., step] = selector.steps.as_slice() else {
         unreachable!()

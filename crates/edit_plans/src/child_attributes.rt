@@ -1,12 +1,13 @@
 //! Whether a child may have its attributes changed, decided from the parent alone: the conditions
 //! on its new start tag (RFC 4825, sections 8.2.4 and 8.4).
 ghost use Rattle.std.specs.Prelude.{◌≡◌, ◌↔◌, Some, IsTrue, option_map};
-ghost use Rattle.xml_tree.specs.Scopes.{inside};
+ghost use Rattle.xml_tree.specs.TreeScopes.{inside};
 ghost use Rattle.std.specs.List.{find};
 ghost use Rattle.std.specs.Option.{option_copied};
 ghost use Rattle.node_select.specs.Selection.{is_attr};
 ghost use Rattle.edit_rules.specs.Tags.{AttrsFormed, AttrsPass, attrs_formed};
-ghost use Rattle.edit_plans.specs.inner.ChildChanges.{HasRoom, IsFoundIn, IsRetaggedIn, IsSelected, not_found_refusal};
+ghost use Rattle.edit_plans.specs.inner.ChildChanges.{HasRoom, IsFoundIn, IsRetaggedIn, IsSelected};
+ghost use Rattle.edit_plans.specs.inner.ChildChanges.{not_found_refusal};
 
 use crate::insert_child::check_insertion;
 use crate::siblings::Siblings;
@@ -14,7 +15,8 @@ use edit_rules::EditRefusal;
 use node_select::{Step, attr_in};
 use std::alloc::Global;
 use usage_docs::{ElementKind, Fault, attrs_pass, is_formed, kind_of};
-use xml_tree::{Element, LinkedScope, Path, Text, declared_in};
+use xml_names::{Text, declared_in};
+use xml_tree::{Element, LinkedScope, Path};
 
 /// An attribute that a selector names, and how it is to be found afterwards: with this value, or
 /// not at all.
@@ -171,10 +173,13 @@ pub(crate) fn attribute_change_in_parent(
     tag: &Element,
     sought: &AttributeEdit<'_>,
 ) -> Result<usize, EditRefusal>
-    requires selected { IsSelected row scope.now step.now parent.now child }
+    requires selected { IsSelected
+        (record { kind = row; scope = scope.now; step = step.now; element = parent.now })
+        child }
     requires room_left { HasRoom place.now tag.now }
-    ensures new_tag_plan { IsRetaggedIn row scope.now step.now parent.now child tag.now sought.now
-        place.now result }
+    ensures new_tag_plan { IsRetaggedIn
+        (record { kind = row; scope = scope.now; step = step.now; element = parent.now })
+        (record { child = child; tag = tag.now; sought = sought.now }) place.now result }
 {
     if !is_found_in(alloc, scope, step, tag, sought) {
         return Err(not_found_refusal(sought.value));

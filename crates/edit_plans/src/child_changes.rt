@@ -14,7 +14,8 @@ use edit_rules::EditRefusal;
 use node_select::Step;
 use std::alloc::Global;
 use usage_docs::{ElementKind, kind_of, root_kind};
-use xml_tree::{Element, LinkedScope, Name, Path, declared_in};
+use xml_names::{Name, declared_in};
+use xml_tree::{Element, LinkedScope, Path};
 
 /// A change among the children of a parent.
 #[derive(Drop)]
@@ -39,8 +40,12 @@ fn answer_in(
     place: &Path,
     asked: &ChildChange<'_>,
 ) -> Result<usize, EditRefusal>
-    requires change_asked { MayAsk row scope.now step.now parent.now place.now asked.now }
-    ensures request_answer { Answers row scope.now step.now parent.now place.now asked.now result }
+    requires change_asked { MayAsk
+        (record { kind = row; scope = scope.now; step = step.now; element = parent.now })
+        place.now asked.now }
+    ensures request_answer { Answers
+        (record { kind = row; scope = scope.now; step = step.now; element = parent.now })
+        place.now asked.now result }
 {
     match *asked {
         ChildChange::Put(new) => insertion_in_parent(alloc, row, scope, step, parent, place, new),
@@ -84,11 +89,14 @@ fn answer_below(
 ) -> Result<usize, EditRefusal>
     requires place_exists { IsSome (at way.now element.now) }
     requires change_asked { Below
-        (λ r c parent. MayAsk r c step.now parent place.now asked.now) row scope.now element.now
-        way.now }
+        (λ r c parent. MayAsk
+        (record { kind = r; scope = c; step = step.now; element = parent }) place.now asked.now)
+        row scope.now element.now way.now }
     ensures answers_below { Below
-        (λ r c parent. Answers r c step.now parent place.now asked.now result) row scope.now
-        element.now way.now }
+        (λ r c parent. Answers
+        (record { kind = r; scope = c; step = step.now; element = parent }) place.now asked.now
+        result)
+        row scope.now element.now way.now }
 {
     let [number, way @ ..] = way else {
         return answer_in(alloc, row, scope, step, element, place, asked);
@@ -116,10 +124,14 @@ pub(crate) fn answer(
     asked: &ChildChange<'_>,
 ) -> Result<usize, EditRefusal>
     requires place_exists { IsSome (at place.now root.now) }
-    requires change_asked { Below (λ r c parent. MayAsk r c step.now parent place.now asked.now)
+    requires change_asked { Below
+        (λ r c parent. MayAsk
+        (record { kind = r; scope = c; step = step.now; element = parent }) place.now asked.now)
         (Some (root_kind usage)) (root.now.decls ∷ []) root.now place.now }
     ensures answer_at_place { Below
-        (λ r c parent. Answers r c step.now parent place.now asked.now result)
+        (λ r c parent. Answers
+        (record { kind = r; scope = c; step = step.now; element = parent }) place.now asked.now
+        result)
         (Some (root_kind usage)) (root.now.decls ∷ []) root.now place.now }
 {
     let declared = declared_in(alloc, root.decls());

@@ -1,7 +1,7 @@
 //! The change that a DELETE of a node makes, or why it makes none (RFC 4825, section 8.4).
 ghost use Rattle.std.specs.Prelude.{◌≡◌, ◌≤◌, IfOk, None};
-ghost use Rattle.xml_tree.specs.Limits.{max_levels};
-ghost use Rattle.xml_tree.specs.Attributes.{without_attr};
+ghost use Rattle.xml_names.specs.Limits.{max_levels};
+ghost use Rattle.xml_names.specs.Attributes.{without_attr};
 ghost use Rattle.xml_tree.specs.Tree.{height};
 ghost use Rattle.node_select.specs.Selection.{SelectsPath};
 ghost use Rattle.node_select.specs.declared.selector.End.TheVariants as ends;
@@ -21,7 +21,8 @@ use edit_rules::EditRefusal;
 use node_select::{End, Selector, find_attr, select};
 use std::alloc::Global;
 use usage_docs::Fault;
-use xml_tree::{Element, Name, NoMemory, Path, Scope, Text, element_at};
+use xml_names::{Name, NoMemory, Text};
+use xml_tree::{Element, Path, Scope, element_at};
 
 // The removal of the element at a path, if it is allowed.
 fn element_removal(path: Path, found: Result<usize, EditRefusal>) -> Result<Change, EditRefusal>

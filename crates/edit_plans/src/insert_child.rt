@@ -2,7 +2,8 @@
 //! section 8.2.3).
 ghost use Rattle.std.specs.Prelude.{◌↔◌, ◌≤◌, IsTrue, length};
 ghost use Rattle.xml_tree.specs.Tree.{child_elements_of};
-ghost use Rattle.edit_plans.specs.inner.ChildChanges.{FormedIn, HasRoom, IsJudgedIn, IsPlacedIn, NoClash, others};
+ghost use Rattle.edit_plans.specs.inner.ChildChanges.{FormedIn, HasRoom, IsJudgedIn, IsPlacedIn};
+ghost use Rattle.edit_plans.specs.inner.ChildChanges.{NoClash, others};
 
 use crate::insertion_points::{NoInsertionPoint, choose_gap};
 use crate::siblings::{Siblings, first_clash_beside};
@@ -44,9 +45,14 @@ pub(crate) fn check_insertion(
     requires gap_in_range { gap ≤ length
         (others siblings.now.left_out (child_elements_of siblings.now.parent.now)) }
     requires no_clash { NoClash row scope.now siblings.now.parent.now }
-    ensures judged_by_form { IsJudgedIn (IsTrue formed) row scope.now
-        (others siblings.now.left_out (child_elements_of siblings.now.parent.now)) new.now place.now
-        gap result }
+    ensures judged_by_form { IsJudgedIn (IsTrue formed)
+        (record {
+          kind = row;
+          scope = scope.now;
+          elements = others siblings.now.left_out (child_elements_of siblings.now.parent.now);
+          path = place.now;
+        })
+        new.now gap result }
 {
     if !formed {
         return Err(EditRefusal::Faulty(Fault::Unformed));
@@ -74,9 +80,14 @@ pub(crate) fn check_new_child(
     requires gap_in_range { gap ≤ length
         (others siblings.now.left_out (child_elements_of siblings.now.parent.now)) }
     requires no_clash { NoClash row scope.now siblings.now.parent.now }
-    ensures judged_by_rules { IsJudgedIn (FormedIn row scope.now new.now) row scope.now
-        (others siblings.now.left_out (child_elements_of siblings.now.parent.now)) new.now place.now
-        gap result }
+    ensures judged_by_rules { IsJudgedIn (FormedIn row scope.now new.now)
+        (record {
+          kind = row;
+          scope = scope.now;
+          elements = others siblings.now.left_out (child_elements_of siblings.now.parent.now);
+          path = place.now;
+        })
+        new.now gap result }
 {
     let formed = is_formed_in(alloc, row, scope, new);
     check_insertion(alloc, row, scope, siblings, place, new, gap, formed)
@@ -96,7 +107,9 @@ pub(crate) fn insertion_in_parent(
 ) -> Result<usize, EditRefusal>
     requires room_left { HasRoom place.now new.now }
     requires no_clash { NoClash row scope.now parent.now }
-    ensures insertion_plan { IsPlacedIn row scope.now step.now parent.now new.now place.now result }
+    ensures insertion_plan { IsPlacedIn
+        (record { kind = row; scope = scope.now; step = step.now; element = parent.now })
+        new.now place.now result }
 {
     match choose_gap(alloc, row, scope, step, parent, new) {
         Ok(gap) => check_new_child(alloc, row, scope, &Siblings::all(parent), place, new, gap),

@@ -9,13 +9,15 @@ ghost use Rattle.xml_tree.specs.Tree.{child_elements_of};
 ghost use Rattle.node_select.specs.Selection.{is_named, is_tested};
 ghost use Rattle.usage_docs.specs.Validity.{ValidChild};
 ghost use Rattle.edit_plans.specs.inner.Neighbours.{FitsIn, fits_between, part_in};
-ghost use Rattle.edit_plans.specs.declared.insertion_points.NoInsertionPoint.TheVariants.{Unlawful, Invalid};
+ghost use Rattle.edit_plans.specs.declared.insertion_points.NoInsertionPoint.TheVariants.{Unlawful};
+ghost use Rattle.edit_plans.specs.declared.insertion_points.NoInsertionPoint.TheVariants.{Invalid};
 
 use crate::remove_child::part_left;
 use node_select::{Step, is_at_position};
 use std::alloc::Global;
 use usage_docs::{END, ElementKind, follows, is_valid_child, part_of};
-use xml_tree::{Element, IndexedDecls, LinkedScope, Node};
+use xml_names::IndexedDecls;
+use xml_tree::{Element, LinkedScope, Node};
 
 /// Why there is no insertion point.
 #[derive(Clone, Copy, Drop)]

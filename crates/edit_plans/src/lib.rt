@@ -26,4 +26,4 @@ pub use edit_rules::{EditRefusal, NoParent, Spot};
 pub use put_attribute::plan_attr;
 pub use put_element::plan_put;
 pub use spots::put_spot;
-pub use xml_tree::NoMemory;
+pub use xml_names::NoMemory;

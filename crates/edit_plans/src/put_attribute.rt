@@ -3,12 +3,13 @@
 ghost use Rattle.std.specs.Prelude.{◌≡◌, ◌≤◌, Some, IfOk, option_map, None};
 ghost use Rattle.std.specs.List.{find};
 ghost use Rattle.std.specs.Str.{bytes_eq};
-ghost use Rattle.xml_tree.specs.Limits.{max_levels};
-ghost use Rattle.xml_tree.specs.Attributes.{with_attr};
+ghost use Rattle.xml_names.specs.Limits.{max_levels};
+ghost use Rattle.xml_names.specs.Attributes.{with_attr};
 ghost use Rattle.xml_tree.specs.Tree.{height};
-ghost use Rattle.xml_tree.specs.Scopes.{xml_uri};
+ghost use Rattle.xml_names.specs.Scopes.{xml_uri};
 ghost use Rattle.node_select.specs.Selection.{SelectsPath};
-ghost use Rattle.edit_rules.specs.Attributes.{IsAttrPlan, IsValuePlan, is_binding, new_name, new_prefix, written_name};
+ghost use Rattle.edit_rules.specs.Attributes.{IsAttrPlan, IsValuePlan, is_binding, new_name};
+ghost use Rattle.edit_rules.specs.Attributes.{new_prefix, written_name};
 ghost use Rattle.edit_rules.specs.Spots.{IsSpotOf};
 ghost use Rattle.edit_rules.specs.Tags.{tag_with};
 ghost use Rattle.edit_rules.specs.declared.spot.Spot.TheVariants.{Value};
@@ -25,7 +26,8 @@ use edit_ops::{Change, without_children};
 use edit_rules::EditRefusal;
 use node_select::{End, Selector, find_attr};
 use std::alloc::Global;
-use xml_tree::{Decl, Element, LocalName, Name, NoMemory, Path, Prefix, Scope, Text, element_at};
+use xml_names::{Decl, LocalName, Name, NoMemory, Prefix, Text};
+use xml_tree::{Element, Path, Scope, element_at};
 
 // Whether it binds the namespace to a prefix that isn't empty.
 fn is_binding(uri: &Text, decl: &Decl) -> bool
@@ -162,7 +164,8 @@ fn plan_value(
     requires selected { SelectsPath selector.now.steps root.now path.now }
     requires faultless { HasFirstFault usage root.now None }
     ensures plans_value { IfOk result
-        (IsValuePlan usage root.now selector.now.steps uri.now local.now path.now value) }
+        (IsValuePlan (record { usage = usage; document = root.now; steps = selector.now.steps })
+        (record { path = path.now; uri = uri.now; local = local.now }) value) }
 {
     let Some(element) = element_at(root, path) else {
         unreachable!()
@@ -201,7 +204,8 @@ pub fn plan_attr(
     requires valid_spot { IsSpotOf root.now selector.now (Value at.now) }
     requires faultless { HasFirstFault usage root.now None }
     ensures as_specified { IfOk result
-        (IsAttrPlan usage root.now selector.now.steps selector.now.end at.now value) }
+        (IsAttrPlan (record { usage = usage; document = root.now; steps = selector.now.steps })
+        selector.now.end at.now value) }
 {
     match &selector.end {
         End::Attribute { uri, local } => {

@@ -1,17 +1,14 @@
 //! The change that a PUT of an element makes, or why it makes none (RFC 4825, sections 8.2.1 to
 //! 8.2.5).
 ghost use Rattle.std.specs.Prelude.{◌≡◌, ◌≤◌, ◌+◌, length, suc, None};
-ghost use Rattle.xml_tree.specs.Limits.{max_levels};
+ghost use Rattle.xml_names.specs.Limits.{max_levels};
 ghost use Rattle.xml_tree.specs.Tree.{height};
 ghost use Rattle.node_select.specs.Selection.{SelectsPath};
 ghost use Rattle.node_select.specs.declared.selector.End.TheVariants as ends;
 ghost use Rattle.usage_docs.specs.Validation.{HasFirstFault};
 ghost use Rattle.edit_ops.specs.declared.change.Change.TheVariants.{Replace};
-ghost use Rattle.edit_rules.specs.LawfulPlaces.{IsLawfulReplacement};
-ghost use Rattle.edit_rules.specs.Plans.{IsTested};
-ghost use Rattle.edit_rules.specs.Puts.{HasRoomAt, IsInsertion, IsPutPlan};
+ghost use Rattle.edit_rules.specs.Puts.{HasRoomAt, IsInsertion, IsPutPlan, IsReplacement};
 ghost use Rattle.edit_rules.specs.Spots.{IsSpotOf, SelectsParent};
-ghost use Rattle.edit_rules.specs.declared.refusal.EditRefusal.TheVariants.{CannotInsert};
 ghost use Rattle.edit_plans.specs.inner.CheckedChanges.{element_insertion, allowed_change};
 
 use crate::child_changes::{ChildChange, answer};
@@ -81,7 +78,9 @@ fn plan_under(
     requires selects_parent { SelectsParent steps.now root.now place.now }
     requires faultless { HasFirstFault usage root.now None }
     requires room_left { length place.now + suc (height element) ≤ max_levels }
-    ensures plans_insertion { IsInsertion usage root.now steps.now place.now element result }
+    ensures plans_insertion { IsInsertion
+        (record { usage = usage; document = root.now; steps = steps.now }) place.now element
+        result }
 {
     let [.., step] = steps else { unreachable!() };
     let gap = answer(alloc, usage, root, step, place, &ChildChange::Put(&element));
@@ -100,9 +99,9 @@ fn plan_over(
     requires selected { SelectsPath steps.now root.now path.now }
     requires faultless { HasFirstFault usage root.now None }
     requires room_left { length path.now + height element ≤ max_levels }
-    ensures plans_replacement { IsTested CannotInsert
-        (IsLawfulReplacement steps.now root.now element path.now) usage root.now
-        (Replace path.now element) result }
+    ensures plans_replacement { IsReplacement
+        (record { usage = usage; document = root.now; steps = steps.now }) path.now element
+        result }
 {
     let Some((place, child)) = path.split_last() else {
         let found = root_replacement(alloc, usage, steps, &element);
@@ -136,7 +135,9 @@ pub fn plan_put(
     requires selector_end { selector.now.end ≡ ends.Element }
     requires faultless { HasFirstFault usage root.now None }
     requires room_left { HasRoomAt spot.now element }
-    ensures as_specified { IsPutPlan usage root.now selector.now.steps spot.now element result }
+    ensures as_specified { IsPutPlan
+        (record { usage = usage; document = root.now; steps = selector.now.steps }) spot.now
+        element result }
 {
     let steps = selector.steps.as_slice();
     match spot {

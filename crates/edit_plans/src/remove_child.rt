@@ -153,8 +153,12 @@ pub(crate) fn removal_in_parent(
     parent: &Element,
     child: usize,
 ) -> Result<usize, EditRefusal>
-    requires selected { IsSelected row scope.now step.now parent.now child }
-    ensures removal_plan { IsRemovedIn row scope.now step.now parent.now child result }
+    requires selected { IsSelected
+        (record { kind = row; scope = scope.now; step = step.now; element = parent.now })
+        child }
+    ensures removal_plan { IsRemovedIn
+        (record { kind = row; scope = scope.now; step = step.now; element = parent.now })
+        child result }
 {
     if still_selects(alloc, scope, step, parent, child) {
         return Err(EditRefusal::CannotDelete);

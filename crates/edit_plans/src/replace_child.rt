@@ -47,10 +47,13 @@ pub(crate) fn replacement_in_parent(
     place: &Path,
     new: &Element,
 ) -> Result<usize, EditRefusal>
-    requires selected { IsSelected row scope.now step.now parent.now child }
+    requires selected { IsSelected
+        (record { kind = row; scope = scope.now; step = step.now; element = parent.now })
+        child }
     requires room_left { HasRoom place.now new.now }
-    ensures replacement_plan { IsExchangedIn row scope.now step.now parent.now child new.now
-        place.now result }
+    ensures replacement_plan { IsExchangedIn
+        (record { kind = row; scope = scope.now; step = step.now; element = parent.now })
+        child new.now place.now result }
 {
     if !passes(alloc, scope, step, new) {
         return Err(EditRefusal::CannotInsert);

@@ -1,7 +1,7 @@
 //! Whether the root may be replaced, or have its attributes changed (RFC 4825, sections 8.2.4 and
 //! 8.4).
 ghost use Rattle.std.specs.Prelude.{◌≡◌, ◌≤◌, [], ◌∷◌, ℕ, List};
-ghost use Rattle.xml_tree.specs.Limits.{max_levels};
+ghost use Rattle.xml_names.specs.Limits.{max_levels};
 ghost use Rattle.xml_tree.specs.Tree.{height};
 ghost use Rattle.node_select.specs.Selection.{SelectsPath};
 ghost use Rattle.usage_docs.specs.Keys.{attrs_pass};
@@ -16,7 +16,8 @@ use edit_rules::EditRefusal;
 use node_select::{Step, select_steps};
 use std::alloc::Global;
 use usage_docs::{Fault, attrs_pass, first_fault, root_kind};
-use xml_tree::{Element, LinkedScope, declared_in};
+use xml_names::declared_in;
+use xml_tree::{Element, LinkedScope};
 
 /// The result for another root, where the steps select the root and nothing below it:
 /// `CannotInsert` where they wouldn't select the new one; then `Faulty` by what is in it.

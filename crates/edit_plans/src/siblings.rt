@@ -1,13 +1,15 @@
 //! The first clash of a new element with its siblings (RFC 4826, sections 3.2 and 4.2).
-ghost use Rattle.std.specs.Prelude.{◌≡◌, ◌↔◌, ◌<◌, ◌≤◌, ◌+◌, ◌++◌, ◌∷◌, ◌^◌, ℕ, List, [], chars, length, IsTrue, IfSome, Some, None};
-ghost use Rattle.xml_tree.specs.Limits.{max_levels};
+ghost use Rattle.std.specs.Prelude.{◌≡◌, ◌↔◌, ◌<◌, ◌≤◌, ◌+◌, ◌++◌, ◌∷◌, ◌^◌, ℕ, List, [], chars};
+ghost use Rattle.std.specs.Prelude.{length, IsTrue, IfSome, Some, None};
+ghost use Rattle.xml_names.specs.Limits.{max_levels};
 ghost use Rattle.xml_tree.specs.declared.path.TheConstants.{PATH_LIMIT};
 ghost use Rattle.xml_tree.specs.Tree.{height, child_elements_of};
 ghost use Rattle.usage_docs.specs.declared.schema_table.Key.{Key};
 ghost use Rattle.usage_docs.specs.Keys.{key_of, value_of};
 ghost use Rattle.usage_docs.specs.UniqueKeys.{RepeatsAt, mark, mark_at, mark_of};
 ghost use Rattle.usage_docs.specs.readers.Siblings.{IsFirst};
-ghost use Rattle.edit_rules.specs.NewElements.{ClashesBeside, ClashesInside, IsDuplicate, NoDuplicate};
+ghost use Rattle.edit_rules.specs.NewElements.{ClashesBeside, ClashesInside, IsDuplicate};
+ghost use Rattle.edit_rules.specs.NewElements.{NoDuplicate};
 ghost use Rattle.usage_docs.specs.Kinds.{kind_of_child};
 ghost use Rattle.edit_plans.specs.inner.ChildChanges.{HasRoom, among, others};
 ghost use Rattle.edit_plans.specs.declared.siblings.DuplicateKey.{DuplicateKey};
@@ -15,7 +17,8 @@ ghost use Rattle.edit_plans.specs.declared.siblings.DuplicateKey.{DuplicateKey};
 use node_select::same_text;
 use std::alloc::Global;
 use usage_docs::{Clash, ElementKind, Key, clash_below, key_of, kind_of, value_of};
-use xml_tree::{Element, IndexedDecls, LinkedScope, Node, Path, declared_in};
+use xml_names::{IndexedDecls, declared_in};
+use xml_tree::{Element, LinkedScope, Node, Path};
 
 /// The siblings of a new element: the children of its parent, except the one that it replaces.
 #[derive(Drop)]
@@ -205,13 +208,22 @@ fn find_duplicate(
     new: &Element,
 ) -> Option<DuplicateKey>
     ensures some_is_marked { IfSome result
-        (λ duplicate. IsDuplicate row scope.now
-        (others siblings.now.left_out (child_elements_of siblings.now.parent.now)) new.now
-        duplicate.child duplicate.key) }
+        (λ duplicate. IsDuplicate
+        (record {
+          kind = row;
+          scope = scope.now;
+          elements = others siblings.now.left_out (child_elements_of siblings.now.parent.now);
+        })
+        new.now duplicate.child duplicate.key) }
     ensures fits_u64 { IfSome result (λ duplicate. duplicate.child + 1 < 2 ^ 64) }
     ensures none_is_marked { result ≡ None
-        → NoDuplicate row scope.now
-        (others siblings.now.left_out (child_elements_of siblings.now.parent.now)) new.now }
+        → NoDuplicate
+        (record {
+          kind = row;
+          scope = scope.now;
+          elements = others siblings.now.left_out (child_elements_of siblings.now.parent.now);
+        })
+        new.now }
 {
     let Some(kind) = kind_of_child(alloc, row, scope, new) else {
         return None;
@@ -235,7 +247,8 @@ fn find_duplicate(
 fn key_before(duplicate: Option<DuplicateKey>, gap: usize) -> Option<Key>
     ensures some_is_marked { IfSome result
         (λ key. (t : DuplicateKey) × ((duplicate ≡ Some t) × (t.child < gap) × (t.key ≡ key))) }
-    ensures none_is_marked { result ≡ None → (t : DuplicateKey) → duplicate ≡ Some t → gap ≤ t.child }
+    ensures none_is_marked { result ≡ None → (t : DuplicateKey) → duplicate ≡ Some t
+        → gap ≤ t.child }
 {
     match duplicate {
         None => None,
@@ -294,9 +307,13 @@ pub(crate) fn first_clash_beside(
         → RepeatsAt row scope.now
         (others siblings.now.left_out (child_elements_of siblings.now.parent.now)) r key → ⊥ }
     ensures first_of_clashes { IsFirst
-        (ClashesBeside row scope.now
-        (others siblings.now.left_out (child_elements_of siblings.now.parent.now)) new.now gap)
-        place.now result }
+        (ClashesBeside
+        (record {
+          kind = row;
+          scope = scope.now;
+          elements = others siblings.now.left_out (child_elements_of siblings.now.parent.now);
+        })
+        new.now gap) place.now result }
 {
     let duplicate = find_duplicate(alloc, row, scope, siblings, new);
     let here = below(place, gap);

@@ -8,7 +8,7 @@ use Rattle.node_select.specs.StepSelection.{IsAtPosition}
 use Rattle.xml_tree.specs.Tree.{Tree, child_elements_of}
 use Rattle.xml_tree.specs.Proper.{IsProperPart, ProperIn}
 use Rattle.xml_tree.proofs.EverywhereLaws.{Everywhere-child_element}
-use Rattle.xml_tree.specs.Scopes.{inside}
+use Rattle.xml_tree.specs.TreeScopes.{inside}
 use Rattle.node_select.specs.Selection.{is_named, is_tested, SelectsAmong, SelectsChild}
 use Rattle.node_select.specs.declared.selector.Step.{Step}
 use Rattle.usage_docs.specs.declared.schema_table.ElementKind.{ElementKind}

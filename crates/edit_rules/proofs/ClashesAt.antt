@@ -6,9 +6,9 @@ use Rattle.std.proofs.lemmas.Option.{same_Some, slice_get-map}
 use Rattle.std.proofs.lemmas.Bool.{cases_order}
 use Rattle.xml_tree.specs.Tree.{Content, Tree, tree_of, child_elements, child_elements_of, at}
 use Rattle.xml_tree.specs.Edits.{change, change_at}
-use Rattle.xml_tree.specs.Scopes.{scope_at, scope_below, inside}
+use Rattle.xml_tree.specs.TreeScopes.{scope_at, scope_below, inside}
 use Rattle.xml_tree.proofs.PlaceLaws.{at-changed, other_kid}
-use Rattle.xml_tree.proofs.ScopeLemmas.{scope_at-below}
+use Rattle.xml_tree.proofs.TreeScopeLemmas.{scope_at-below}
 use Rattle.doc_names.specs.declared.usages.Usage.{Usage}
 use Rattle.usage_docs.specs.declared.schema_table.ElementKind.{ElementKind}
 use Rattle.usage_docs.specs.declared.schema_table.Key.{Key}

@@ -4,7 +4,7 @@ use Rattle.std.proofs.lemmas.Option.{same_Some}
 use Rattle.std.proofs.lemmas.Bool.{cases_order}
 use Rattle.node_select.proofs.Inserted.{get-insert_before, get-insert_at, get-insert_behind}
 use Rattle.xml_tree.specs.Tree.{Tree, child_elements_of}
-use Rattle.xml_tree.specs.Scopes.{inside}
+use Rattle.xml_tree.specs.TreeScopes.{inside}
 use Rattle.usage_docs.specs.declared.schema_table.ElementKind.{ElementKind}
 use Rattle.usage_docs.specs.declared.schema_table.Key.{Key}
 use Rattle.usage_docs.specs.SchemaTable.{Scope}
@@ -37,7 +37,7 @@ module _ (row : ElementKind) (c : Scope) (child_elements : List Tree) (new : Tre
   inside_new (m ∷ p) key h = (new, (h.0, (get-insert_at child_elements gap new le, h.1.0, h.1.1)))
 
   -- ---- two siblings
-  twin_before : (i : ℕ) (key : Key) → i < gap → IsDuplicate row c child_elements new i key → Repeats row c with_new gap key
+  twin_before : (i : ℕ) (key : Key) → i < gap → IsDuplicate (record { kind = row; scope = c; elements = child_elements }) new i key → Repeats row c with_new gap key
   twin_before i key lt t = record {
     shared = t.shared;
     earlier = i;
@@ -47,7 +47,7 @@ module _ (row : ElementKind) (c : Scope) (child_elements : List Tree) (new : Tre
     by_key = t.by_key;
   }
 
-  twin_behind : (i : ℕ) (key : Key) → gap ≤ i → IsDuplicate row c child_elements new i key → Repeats row c with_new (suc i) key
+  twin_behind : (i : ℕ) (key : Key) → gap ≤ i → IsDuplicate (record { kind = row; scope = c; elements = child_elements }) new i key → Repeats row c with_new (suc i) key
   twin_behind i key from t = record {
     shared = t.shared;
     earlier = gap;
@@ -57,14 +57,14 @@ module _ (row : ElementKind) (c : Scope) (child_elements : List Tree) (new : Tre
     by_key = t.by_key;
   }
 
-  pub beside_from : (r : List ℕ) (key : Key) → ClashesBeside row c child_elements new gap r key → RepeatsAt row c with_new r key
+  pub beside_from : (r : List ℕ) (key : Key) → ClashesBeside (record { kind = row; scope = c; elements = child_elements }) new gap r key → RepeatsAt row c with_new r key
   beside_from r key (inl (is, (i, (lt, t)))) = subst (λ (z : List ℕ). RepeatsAt row c with_new z key) (sym is) (twin_before i key lt t)
   beside_from r key (inr (inl (p, (is, h)))) = subst (λ (z : List ℕ). RepeatsAt row c with_new z key) (sym is) (inside_new p key h)
   beside_from r key (inr (inr (i, (is, (from, t))))) = subst (λ (z : List ℕ). RepeatsAt row c with_new z key) (sym is) (twin_behind i key from t)
 
   module _ (unique : (r : List ℕ) (key : Key) → RepeatsAt row c child_elements r key → ⊥) where
     -- the new element repeats the key of a sibling before it
-    at_gap : (key : Key) → Repeats row c with_new gap key → ClashesBeside row c child_elements new gap (gap ∷ []) key
+    at_gap : (key : Key) → Repeats row c with_new gap key → ClashesBeside (record { kind = row; scope = c; elements = child_elements }) new gap (gap ∷ []) key
     at_gap key h = inl (
       refl,
       (
@@ -91,7 +91,7 @@ module _ (row : ElementKind) (c : Scope) (child_elements : List Tree) (new : Tre
       by_key = h.by_key;
     })
 
-    behind_gap : (i : ℕ) (key : Key) → gap ≤ i → (h : Repeats row c with_new (suc i) key) → (h.earlier ≡ gap) ⊎ ((h.earlier < gap) ⊎ (gap < h.earlier)) → ClashesBeside row c child_elements new gap (suc i ∷ []) key
+    behind_gap : (i : ℕ) (key : Key) → gap ≤ i → (h : Repeats row c with_new (suc i) key) → (h.earlier ≡ gap) ⊎ ((h.earlier < gap) ⊎ (gap < h.earlier)) → ClashesBeside (record { kind = row; scope = c; elements = child_elements }) new gap (suc i ∷ []) key
     behind_gap i key from h (inl is) = inr (inr (
       i,
       (
@@ -128,8 +128,8 @@ module _ (row : ElementKind) (c : Scope) (child_elements : List Tree) (new : Tre
           by_key = h.by_key;
         })
 
-    one : (i : ℕ) (key : Key) → (i ≡ gap) ⊎ ((i < gap) ⊎ (gap < i)) → Repeats row c with_new i key → ClashesBeside row c child_elements new gap (i ∷ []) key
-    one i key (inl is) h = subst (λ (z : ℕ). ClashesBeside row c child_elements new gap (z ∷ []) key) (sym is) (at_gap key (subst (λ (z : ℕ). Repeats row c with_new z key) is h))
+    one : (i : ℕ) (key : Key) → (i ≡ gap) ⊎ ((i < gap) ⊎ (gap < i)) → Repeats row c with_new i key → ClashesBeside (record { kind = row; scope = c; elements = child_elements }) new gap (i ∷ []) key
+    one i key (inl is) h = subst (λ (z : ℕ). ClashesBeside (record { kind = row; scope = c; elements = child_elements }) new gap (z ∷ []) key) (sym is) (at_gap key (subst (λ (z : ℕ). Repeats row c with_new z key) is h))
     one i key (inr (inl lt)) h = absurd (before_gap i key lt h)
     one zero key (inr (inr lt)) h = absurd (omega arith)
     one (suc i) key (inr (inr lt)) h = behind_gap i key (omega arith) h (cases_order h.earlier gap)
@@ -137,19 +137,19 @@ module _ (row : ElementKind) (c : Scope) (child_elements : List Tree) (new : Tre
     deep_old : (i j : ℕ) (m : ℕ) (p : List ℕ) (key : Key) → slice_get with_new i ≡ slice_get child_elements j → RepeatsAt row c with_new (i ∷ m ∷ p) key → ⊥
     deep_old i j m p key same h = unique (j ∷ m ∷ p) key (h.0, (h.1.0, (sym same ∙ h.1.1.0, h.1.1.1, h.1.1.2)))
 
-    deep : (i m : ℕ) (p : List ℕ) (key : Key) → (i ≡ gap) ⊎ ((i < gap) ⊎ (gap < i)) → RepeatsAt row c with_new (i ∷ m ∷ p) key → ClashesBeside row c child_elements new gap (i ∷ m ∷ p) key
+    deep : (i m : ℕ) (p : List ℕ) (key : Key) → (i ≡ gap) ⊎ ((i < gap) ⊎ (gap < i)) → RepeatsAt row c with_new (i ∷ m ∷ p) key → ClashesBeside (record { kind = row; scope = c; elements = child_elements }) new gap (i ∷ m ∷ p) key
     deep i m p key (inl is) h = inr (inl (m ∷ p, (ap (λ (z : ℕ). z ∷ m ∷ p) is, below i new m p key (ap (slice_get with_new) is ∙ get-insert_at child_elements gap new le) h)))
     deep i m p key (inr (inl lt)) h = absurd (deep_old i i m p key (get-insert_before child_elements gap new i le lt) h)
     deep zero m p key (inr (inr lt)) h = absurd (omega arith)
     deep (suc i) m p key (inr (inr lt)) h = absurd (deep_old (suc i) i m p key (get-insert_behind child_elements gap new i le (omega arith)) h)
 
-    pub beside_to : (r : List ℕ) (key : Key) → RepeatsAt row c with_new r key → ClashesBeside row c child_elements new gap r key
+    pub beside_to : (r : List ℕ) (key : Key) → RepeatsAt row c with_new r key → ClashesBeside (record { kind = row; scope = c; elements = child_elements }) new gap r key
     beside_to [] key h = absurd h
     beside_to (i ∷ []) key h = one i key (cases_order i gap) h
     beside_to (i ∷ m ∷ p) key h = deep i m p key (cases_order i gap) h
 
     -- at most one sibling has the new element's mark
-    pub one_twin : (i j : ℕ) (key key' : Key) → IsDuplicate row c child_elements new i key → IsDuplicate row c child_elements new j key' → i ≡ j
+    pub one_twin : (i j : ℕ) (key key' : Key) → IsDuplicate (record { kind = row; scope = c; elements = child_elements }) new i key → IsDuplicate (record { kind = row; scope = c; elements = child_elements }) new j key' → i ≡ j
     one_twin i j key key' s t = by (cases_order i j)
       where
         same : s.shared ≡ t.shared

@@ -5,10 +5,10 @@ use Rattle.node_select.proofs.Inserted.{insert-remove_other, length_removed}
 use Rattle.doc_names.specs.declared.usages.Usage.{Usage}
 use Rattle.xml_tree.specs.Tree.{Tree, child_elements_of, at}
 use Rattle.xml_tree.specs.Edits.{change_at, change_child, put_over}
-use Rattle.xml_tree.specs.Scopes.{scope_at}
+use Rattle.xml_tree.specs.TreeScopes.{scope_at}
 use Rattle.xml_tree.specs.declared.tree.Node.TheVariants.{Elem}
 use Rattle.xml_tree.proofs.PlaceLaws.{change_at-append}
-use Rattle.xml_tree.proofs.ScopeLemmas.{scope_at-below}
+use Rattle.xml_tree.proofs.TreeScopeLemmas.{scope_at-below}
 use Rattle.usage_docs.specs.declared.schema_table.ElementKind.{ElementKind}
 use Rattle.usage_docs.specs.declared.schema_table.Key.{Key}
 use Rattle.usage_docs.specs.declared.keys.Clash.{Clash}
@@ -48,7 +48,7 @@ module _ (u : Usage) (t parent child_element new : Tree) (q : List ℕ) (i : ℕ
         let o = old_clash kind (scope_at q t) (child_elements_of parent) i r key h in
         unique_there u t parent q kind there is unique o.0 key o.1
 
-    pub first_over : (kind : ElementKind) → kind_at u t q ≡ Some kind → (found : Option Clash) → IsFirst (ClashesBeside kind (scope_at q t) others new i) q found ↔ IsFirstClash u (put_over (q ++ i ∷ []) new t) found
+    pub first_over : (kind : ElementKind) → kind_at u t q ≡ Some kind → (found : Option Clash) → IsFirst (ClashesBeside (record { kind = kind; scope = scope_at q t; elements = others }) new i) q found ↔ IsFirstClash u (put_over (q ++ i ∷ []) new t) found
     first_over kind is found = (
       λ f. subst (λ (x : Tree). IsFirstClash u x found) (sym as_change) (first_to u t parent new q exchange others i (λ e. refl) there kids_are within unique clean kind is found f),
       λ f. first_from u t parent new q exchange others i (λ e. refl) there kids_are within unique clean kind is found (subst (λ (x : Tree). IsFirstClash u x found) as_change f),
@@ -57,7 +57,7 @@ module _ (u : Usage) (t parent child_element new : Tree) (q : List ℕ) (i : ℕ
     pub foreign_over : kind_at u t q ≡ None → HasUniqueKeys u (put_over (q ++ i ∷ []) new t)
     foreign_over none = subst (λ (x : Tree). HasUniqueKeys u x) (sym as_change) (none_foreign u t parent new q exchange others i (λ e. refl) there kids_are within unique clean none)
 
-    pub unique_over : HasUniqueKeys u (put_over (q ++ i ∷ []) new t) ↔ ForSome (kind_at u t q) (λ kind. NoDuplicate kind (scope_at q t) others new × UniqueInside kind (scope_at q t) new)
+    pub unique_over : HasUniqueKeys u (put_over (q ++ i ∷ []) new t) ↔ ForSome (kind_at u t q) (λ kind. NoDuplicate (record { kind = kind; scope = scope_at q t; elements = others }) new × UniqueInside kind (scope_at q t) new)
     unique_over =
         let a = unique_after u t parent new q exchange others i (λ e. refl) there kids_are within unique clean in
         (λ h. a.0 (subst (λ (x : Tree). HasUniqueKeys u x) as_change h), λ h. subst (λ (x : Tree). HasUniqueKeys u x) (sym as_change) (a.1 h))

@@ -5,7 +5,7 @@ use Rattle.std.proofs.lemmas.Option.{same_Some, none-some}
 use Rattle.std.specs.Option.{ForSome}
 use Rattle.xml_tree.specs.Tree.{Tree, child_elements_of, at}
 use Rattle.xml_tree.specs.Edits.{change_at, put_in, put_kid}
-use Rattle.xml_tree.specs.Scopes.{scope_at}
+use Rattle.xml_tree.specs.TreeScopes.{scope_at}
 use Rattle.xml_tree.proofs.PlaceLaws.{child_elements-put}
 use Rattle.doc_names.specs.declared.usages.Usage.{Usage}
 use Rattle.usage_docs.specs.declared.schema_table.ElementKind.{ElementKind}
@@ -39,7 +39,7 @@ module _ (u : Usage) (t parent new : Tree) (q : List ℕ) (f : Tree → Tree) (o
     (clean : (kind : ElementKind) → kind_at u t q ≡ Some kind → (r : List ℕ) (key : Key) → RepeatsAt kind (scope_at q t) others r key → ⊥) where
   module _ (kind : ElementKind) (is : kind_at u t q ≡ Some kind) where
     abbrev R : List ℕ → Key → Type 0
-    R = ClashesBeside kind (scope_at q t) others new gap
+    R = ClashesBeside (record { kind = kind; scope = scope_at q t; elements = others }) new gap
 
     pub clash_from : (r : List ℕ) (key : Key) → R r key → Clashes u (change_at q f t) (q ++ r) key
     clash_from r key h =
@@ -86,10 +86,10 @@ module _ (u : Usage) (t parent new : Tree) (q : List ℕ) (f : Tree → Tree) (o
 
 module _ (row : ElementKind) (c : Scope) (child_elements : List Tree) (new : Tree) (gap : ℕ) (base : List ℕ) where
   abbrev B : List ℕ → Key → Type 0
-  B = ClashesBeside row c child_elements new gap
+  B = ClashesBeside (record { kind = row; scope = c; elements = child_elements }) new gap
 
   -- the first clash in the new element, where no sibling before it has its key
-  pub first_in_new : (clash : Clash) → ((i : ℕ) (key : Key) → i < gap → IsDuplicate row c child_elements new i key → ⊥) → IsFirst (ClashesInside row c new) (base ++ gap ∷ []) (Some clash) → IsFirst B base (Some clash)
+  pub first_in_new : (clash : Clash) → ((i : ℕ) (key : Key) → i < gap → IsDuplicate (record { kind = row; scope = c; elements = child_elements }) new i key → ⊥) → IsFirst (ClashesInside row c new) (base ++ gap ∷ []) (Some clash) → IsFirst B base (Some clash)
   first_in_new clash none f = (gap ∷ f.0, (f.1.0 ∙ append_assoc base (gap ∷ []) f.0, inr (inl (f.0, (refl, f.1.1))), later))
     where
       later : (r : List ℕ) (key : Key) → B r key → NoLater (gap ∷ f.0) r
@@ -98,7 +98,7 @@ module _ (row : ElementKind) (c : Scope) (child_elements : List Tree) (new : Tre
       later r key (inr (inr (j, (e, (from, h))))) = subst (λ (z : List ℕ). NoLater (gap ∷ f.0) z) (sym e) (inl (omega arith))
 
   -- else the sibling after it that has its key
-  pub first_behind : (i : ℕ) (clash : Clash) → ((r : List ℕ) (key : Key) → RepeatsAt row c child_elements r key → ⊥) → gap ≤ length child_elements → clash.path ≡ base ++ suc i ∷ [] → gap ≤ i → IsDuplicate row c child_elements new i clash.key → UniqueInside row c new → IsFirst B base (Some clash)
+  pub first_behind : (i : ℕ) (clash : Clash) → ((r : List ℕ) (key : Key) → RepeatsAt row c child_elements r key → ⊥) → gap ≤ length child_elements → clash.path ≡ base ++ suc i ∷ [] → gap ≤ i → IsDuplicate (record { kind = row; scope = c; elements = child_elements }) new i clash.key → UniqueInside row c new → IsFirst B base (Some clash)
   first_behind i clash unique le is from t none = (suc i ∷ [], (is, inr (inr (i, (refl, (from, t)))), later))
     where
       later : (r : List ℕ) (key : Key) → B r key → NoLater (suc i ∷ []) r
@@ -107,7 +107,7 @@ module _ (row : ElementKind) (c : Scope) (child_elements : List Tree) (new : Tre
       later r key (inr (inr (j, (e, (from', h))))) = let same = one_twin row c child_elements new gap le unique i j clash.key key t h in subst (λ (z : List ℕ). NoLater (suc i ∷ []) z) (sym e) (inr (ap suc same, tt))
 
   -- else none
-  pub no_first : NoDuplicate row c child_elements new → UniqueInside row c new → IsFirst B base None
+  pub no_first : NoDuplicate (record { kind = row; scope = c; elements = child_elements }) new → UniqueInside row c new → IsFirst B base None
   no_first none inside r key (inl (e, (i, (lt, t)))) = none i key t
   no_first none inside r key (inr (inl (p, (e, h)))) = inside p key h
   no_first none inside r key (inr (inr (i, (e, (from, t))))) = none i key t
@@ -120,7 +120,7 @@ side i gap = grind arith
 module _ (u : Usage) (t parent new : Tree) (q : List ℕ) (f : Tree → Tree) (others : List Tree) (gap : ℕ) (tag : KeepsTag f) (there : at q t ≡ Some parent) (kids_are : child_elements_of (f parent) ≡ insert others gap new) (le : gap ≤ length others) (unique : HasUniqueKeys u t)
     (clean : (kind : ElementKind) → kind_at u t q ≡ Some kind → (r : List ℕ) (key : Key) → RepeatsAt kind (scope_at q t) others r key → ⊥) where
   abbrev IsClean : Type 0
-  IsClean = ForSome (kind_at u t q) (λ kind. NoDuplicate kind (scope_at q t) others new × UniqueInside kind (scope_at q t) new)
+  IsClean = ForSome (kind_at u t q) (λ kind. NoDuplicate (record { kind = kind; scope = scope_at q t; elements = others }) new × UniqueInside kind (scope_at q t) new)
 
   unique_to : HasUniqueKeys u (change_at q f t) → IsClean
   unique_to after kind is =
@@ -150,7 +150,7 @@ module _ (u : Usage) (t parent new : Tree) (q : List ℕ) (gap : ℕ) (there : a
   clean_there : (kind : ElementKind) → kind_at u t q ≡ Some kind → (r : List ℕ) (key : Key) → RepeatsAt kind (scope_at q t) (child_elements_of parent) r key → ⊥
   clean_there kind is = unique_there u t parent q kind there is unique
 
-  pub first_put : (kind : ElementKind) → kind_at u t q ≡ Some kind → (found : Option Clash) → IsFirst (ClashesBeside kind (scope_at q t) (child_elements_of parent) new gap) q found ↔ IsFirstClash u (put_in q gap new t) found
+  pub first_put : (kind : ElementKind) → kind_at u t q ≡ Some kind → (found : Option Clash) → IsFirst (ClashesBeside (record { kind = kind; scope = scope_at q t; elements = child_elements_of parent }) new gap) q found ↔ IsFirstClash u (put_in q gap new t) found
   first_put kind is found = (
     first_to u t parent new q (put_kid gap new) (child_elements_of parent) gap (λ e. refl) there kids_put le unique clean_there kind is found,
     first_from u t parent new q (put_kid gap new) (child_elements_of parent) gap (λ e. refl) there kids_put le unique clean_there kind is found,
@@ -159,5 +159,5 @@ module _ (u : Usage) (t parent new : Tree) (q : List ℕ) (gap : ℕ) (there : a
   pub foreign_put : kind_at u t q ≡ None → HasUniqueKeys u (put_in q gap new t)
   foreign_put none = none_foreign u t parent new q (put_kid gap new) (child_elements_of parent) gap (λ e. refl) there kids_put le unique clean_there none
 
-  pub unique_put : HasUniqueKeys u (put_in q gap new t) ↔ ForSome (kind_at u t q) (λ kind. NoDuplicate kind (scope_at q t) (child_elements_of parent) new × UniqueInside kind (scope_at q t) new)
+  pub unique_put : HasUniqueKeys u (put_in q gap new t) ↔ ForSome (kind_at u t q) (λ kind. NoDuplicate (record { kind = kind; scope = scope_at q t; elements = child_elements_of parent }) new × UniqueInside kind (scope_at q t) new)
   unique_put = unique_after u t parent new q (put_kid gap new) (child_elements_of parent) gap (λ e. refl) there kids_put le unique clean_there

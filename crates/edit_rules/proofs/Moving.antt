@@ -5,13 +5,13 @@ use Rattle.std.specs.Str.{bytes_eq}
 use Rattle.std.proofs.lemmas.Bool.{cases_eq, cases_order, le-leb, lt-leb}
 use Rattle.std.proofs.lemmas.Slice.Eq.{bytes_eq-Decides}
 use Rattle.xml_tree.specs.Tree.{Tree, at, child_elements, child_elements_of}
-use Rattle.xml_tree.specs.Attributes.{with_new_value, with_attr, without_attr, is_written_so as is_named}
+use Rattle.xml_names.specs.Attributes.{with_new_value, with_attr, without_attr, is_written_so as is_named}
 use Rattle.xml_tree.specs.Edits.{change_at, cut_child, drop_attr, own_number, parent_path, put_kid, write_attr}
-use Rattle.xml_tree.specs.declared.names.Attr.{Attr}
-use Rattle.xml_tree.specs.declared.names.Name.{Name}
+use Rattle.xml_names.specs.declared.names.Attr.{Attr}
+use Rattle.xml_names.specs.declared.names.Name.{Name}
 use Rattle.xml_tree.proofs.PathLemmas.{from_there}
 use Rattle.xml_tree.proofs.PlaceLaws.{child_elements-cut, other_kid, this_kid}
-use Rattle.xml_tree.specs.Scopes.{inside}
+use Rattle.xml_tree.specs.TreeScopes.{inside}
 use Rattle.doc_names.specs.declared.usages.Usage.{Usage}
 use Rattle.usage_docs.specs.declared.schema_table.ElementKind.{ElementKind}
 use Rattle.usage_docs.specs.declared.schema_table.Key.{Key}

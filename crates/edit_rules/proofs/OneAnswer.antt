@@ -7,9 +7,9 @@ use Rattle.node_select.proofs.Planned.{one_plan}
 use Rattle.doc_names.specs.declared.usages.Usage.{Usage}
 use Rattle.xml_tree.specs.Tree.{Tree, at, child_elements_of}
 use Rattle.xml_tree.specs.Edits.{put_in}
-use Rattle.xml_tree.specs.Scopes.{scope_at}
-use Rattle.xml_tree.specs.declared.names.Name.{Name}
-use Rattle.xml_tree.specs.declared.names.Attr.{Attr}
+use Rattle.xml_tree.specs.TreeScopes.{scope_at}
+use Rattle.xml_names.specs.declared.names.Name.{Name}
+use Rattle.xml_names.specs.declared.names.Attr.{Attr}
 use Rattle.node_select.specs.Selection.{IsLongestMatch, SelectsPath}
 use Rattle.node_select.specs.declared.selector.Step.{Step}
 use Rattle.node_select.specs.declared.selector.End.{End}
@@ -40,7 +40,7 @@ module _ (u : Usage) (t : Tree) (change : Change) where
   one_judgement : (r s : Result Change EditRefusal) → IsJudged u t change r → IsJudged u t change s → r ≡ s
   one_judgement r s a b = a.1.1 ∙ ap (by_fault change) (judged_one u (edited t change) a.0 b.0 a.1.0 b.1.0) ∙ sym b.1.1
 
-  one_test : (unlawful : EditRefusal) (lawful : Type 0) (r s : Result Change EditRefusal) → IsTested unlawful lawful u t change r → IsTested unlawful lawful u t change s → r ≡ s
+  one_test : (unlawful : EditRefusal) (lawful : Type 0) (r s : Result Change EditRefusal) → IsTested unlawful lawful (IsJudged u t change) r → IsTested unlawful lawful (IsJudged u t change) s → r ≡ s
   one_test unlawful lawful r s (inl a) (inl b) = a.0 ∙ sym b.0
   one_test unlawful lawful r s (inl a) (inr b) = absurd (a.1 b.0)
   one_test unlawful lawful r s (inr a) (inl b) = absurd (b.1 a.0)
@@ -48,20 +48,20 @@ module _ (u : Usage) (t : Tree) (change : Change) where
 
 -- ---- PUT of an element
 
-from_one_gap : (u : Usage) (t : Tree) (q : List ℕ) (e : Tree) (g : Result ℕ EditRefusal) (r s : Result Change EditRefusal) → FromGap u t q e g r → FromGap u t q e g s → r ≡ s
+from_one_gap : (u : Usage) (t : Tree) (q : List ℕ) (e : Tree) (g : Result ℕ EditRefusal) (r s : Result Change EditRefusal) → FromGap (λ gap. IsJudged u t (Insert q gap e)) g r → FromGap (λ gap. IsJudged u t (Insert q gap e)) g s → r ≡ s
 from_one_gap u t q e (Ok gap) r s a b = one_judgement u t (Insert q gap e) r s a b
 from_one_gap u t q e (Err why) r s a b = a ∙ sym b
 
-one_insertion : (u : Usage) (t : Tree) (steps : List Step) (q : List ℕ) (e : Tree) (r s : Result Change EditRefusal) → IsInsertion u t steps q e r → IsInsertion u t steps q e s → r ≡ s
+one_insertion : (u : Usage) (t : Tree) (steps : List Step) (q : List ℕ) (e : Tree) (r s : Result Change EditRefusal) → IsInsertion (record { usage = u; document = t; steps = steps }) q e r → IsInsertion (record { usage = u; document = t; steps = steps }) q e s → r ≡ s
 one_insertion u t steps q e r s a b =
     let many : length (child_elements_of b.parent) ≡ length (child_elements_of a.parent) = ap (λ (x : Tree). length (child_elements_of x)) (same_Some _ _ (sym b.there ∙ a.there)) in
     let L = IsLawfulGap steps t e q in
     let V : ℕ → Type 0 = λ j. usage.IsValidDocument u (put_in q j e t) in
     let other = subst (λ (n : ℕ). PlanIs CannotInsert (Faulty Invalid) L V (n + 1) b.gap) many b.is_chosen in
     let same : a.gap ≡ b.gap = one_plan CannotInsert (Faulty Invalid) L V (length (child_elements_of a.parent) + 1) a.gap b.gap a.is_chosen other in
-    from_one_gap u t q e b.gap r s (subst (λ (g : Result ℕ EditRefusal). FromGap u t q e g r) same a.then) b.then
+    from_one_gap u t q e b.gap r s (subst (λ (g : Result ℕ EditRefusal). FromGap (λ gap. IsJudged u t (Insert q gap e)) g r) same a.then) b.then
 
-pub one_put : (u : Usage) (t : Tree) (steps : List Step) (spot : Spot) (e : Tree) (r s : Result Change EditRefusal) → IsPutPlan u t steps spot e r → IsPutPlan u t steps spot e s → r ≡ s
+pub one_put : (u : Usage) (t : Tree) (steps : List Step) (spot : Spot) (e : Tree) (r s : Result Change EditRefusal) → IsPutPlan (record { usage = u; document = t; steps = steps }) spot e r → IsPutPlan (record { usage = u; document = t; steps = steps }) spot e s → r ≡ s
 one_put u t steps (Over p) e r s a b = one_test u t (Replace p e) CannotInsert (IsLawfulReplacement steps t e p) r s a b
 one_put u t steps (Under q) e r s a b = one_insertion u t steps q e r s a b
 one_put u t steps Beside e r s a b = a ∙ sym b
@@ -69,34 +69,34 @@ one_put u t steps (Value p) e r s a b = absurd a
 
 -- ---- PUT of an attribute
 
-one_writing : (u : Usage) (t : Tree) (steps : List Step) (uri local p value : List ℕ) (name : Option Name) (r s : Result Change EditRefusal) → IsWriting u t steps uri local p value name r → IsWriting u t steps uri local p value name s → r ≡ s
-one_writing u t steps uri local p value (Some name) r s a b = one_test u t (SetAttr p name value) CannotInsert (FindsValue steps uri local (edited t (SetAttr p name value)) p value) r s a b
+one_writing : (u : Usage) (t : Tree) (steps : List Step) (uri local p value : List ℕ) (name : Option Name) (r s : Result Change EditRefusal) → IsWriting (record { usage = u; document = t; steps = steps }) (record { path = p; uri = uri; local = local }) value name r → IsWriting (record { usage = u; document = t; steps = steps }) (record { path = p; uri = uri; local = local }) value name s → r ≡ s
+one_writing u t steps uri local p value (Some name) r s a b = one_test u t (SetAttr p name value) CannotInsert (FindsValue steps (record { path = p; uri = uri; local = local }) (edited t (SetAttr p name value)) value) r s a b
 one_writing u t steps uri local p value None r s a b = a ∙ sym b
 
-one_value : (u : Usage) (t : Tree) (steps : List Step) (uri local p value : List ℕ) (r s : Result Change EditRefusal) → IsValuePlan u t steps uri local p value r → IsValuePlan u t steps uri local p value s → r ≡ s
+one_value : (u : Usage) (t : Tree) (steps : List Step) (uri local p value : List ℕ) (r s : Result Change EditRefusal) → IsValuePlan (record { usage = u; document = t; steps = steps }) (record { path = p; uri = uri; local = local }) value r → IsValuePlan (record { usage = u; document = t; steps = steps }) (record { path = p; uri = uri; local = local }) value s → r ≡ s
 one_value u t steps uri local p value r s a b =
     let same = same_Some _ _ (sym b.there ∙ a.there) in
     one_writing u t steps uri local p value (written_name (scope_at p t) uri local a.element.attrs) r s a.plan
-    (subst (λ (x : Tree). IsWriting u t steps uri local p value (written_name (scope_at p t) uri local x.attrs) s) same b.plan)
+    (subst (λ (x : Tree). IsWriting (record { usage = u; document = t; steps = steps }) (record { path = p; uri = uri; local = local }) value (written_name (scope_at p t) uri local x.attrs) s) same b.plan)
 
-pub one_attr : (u : Usage) (t : Tree) (steps : List Step) (end : End) (p value : List ℕ) (r s : Result Change EditRefusal) → IsAttrPlan u t steps end p value r → IsAttrPlan u t steps end p value s → r ≡ s
+pub one_attr : (u : Usage) (t : Tree) (steps : List Step) (end : End) (p value : List ℕ) (r s : Result Change EditRefusal) → IsAttrPlan (record { usage = u; document = t; steps = steps }) end p value r → IsAttrPlan (record { usage = u; document = t; steps = steps }) end p value s → r ≡ s
 one_attr u t steps (ends.Attribute uri local) p value r s a b = one_value u t steps uri local p value r s a b
 one_attr u t steps ends.Element p value r s a b = absurd a
 one_attr u t steps ends.Namespaces p value r s a b = absurd a
 
 -- ---- DELETE
 
-one_removal : (u : Usage) (t : Tree) (selector : Selector) (p : List ℕ) (r s : Result Change EditRefusal) → IsRemoval u t selector p r → IsRemoval u t selector p s → r ≡ s
+one_removal : (u : Usage) (t : Tree) (selector : Selector) (p : List ℕ) (r s : Result Change EditRefusal) → IsRemoval (record { usage = u; document = t; selector = selector }) p r → IsRemoval (record { usage = u; document = t; selector = selector }) p s → r ≡ s
 one_removal u t selector [] r s a b = a ∙ sym b
 one_removal u t selector (n ∷ p) r s a b = one_test u t (Remove (n ∷ p)) CannotDelete (FindsNothingAfter selector t (Remove (n ∷ p))) r s a b
 
-one_drop : (u : Usage) (t : Tree) (selector : Selector) (p : List ℕ) (e : Tree) (uri local : List ℕ) (r s : Result Change EditRefusal) → IsDrop u t selector p e uri local r → IsDrop u t selector p e uri local s → r ≡ s
+one_drop : (u : Usage) (t : Tree) (selector : Selector) (p : List ℕ) (e : Tree) (uri local : List ℕ) (r s : Result Change EditRefusal) → IsDrop (record { usage = u; document = t; selector = selector }) (record { path = p; uri = uri; local = local }) e r → IsDrop (record { usage = u; document = t; selector = selector }) (record { path = p; uri = uri; local = local }) e s → r ≡ s
 one_drop u t selector p e uri local r s a b =
     let same : b.attr ≡ a.attr = same_Some _ _ (sym b.that ∙ a.that) in
     one_test u t (DropAttr p a.attr.name) CannotDelete (FindsNothingAfter selector t (DropAttr p a.attr.name)) r s a.then
-    (subst (λ (x : Attr). IsTested CannotDelete (FindsNothingAfter selector t (DropAttr p x.name)) u t (DropAttr p x.name) s) same b.then)
+    (subst (λ (x : Attr). IsTested CannotDelete (FindsNothingAfter selector t (DropAttr p x.name)) (IsJudged u t (DropAttr p x.name)) s) same b.then)
 
-one_plan_for : (u : Usage) (t : Tree) (selector : Selector) (p : List ℕ) (e : Tree) (end : End) (r s : Result Change EditRefusal) → IsPlanFor u t selector p e end r → IsPlanFor u t selector p e end s → r ≡ s
+one_plan_for : (u : Usage) (t : Tree) (selector : Selector) (p : List ℕ) (e : Tree) (end : End) (r s : Result Change EditRefusal) → IsPlanFor (record { usage = u; document = t; selector = selector }) p e end r → IsPlanFor (record { usage = u; document = t; selector = selector }) p e end s → r ≡ s
 one_plan_for u t selector p e ends.Element r s a b = one_removal u t selector p r s a b
 one_plan_for u t selector p e (ends.Attribute uri local) r s a b = one_drop u t selector p e uri local r s a b
 one_plan_for u t selector p e ends.Namespaces r s a b = absurd a
@@ -111,7 +111,7 @@ one_delete u t selector r s (inr a) (inr b) =
     let path : g.path ≡ f.path = one_path selector.steps t g.path f.path g.selects f.selects in
     let element : g.element ≡ f.element = same_Some _ _ (sym g.there ∙ ap (λ (l : List ℕ). at l t) path ∙ f.there) in
     one_plan_for u t selector f.path f.element selector.end r s a.1
-    (subst (λ (x : Tree). IsPlanFor u t selector f.path x selector.end s) element (subst (λ (l : List ℕ). IsPlanFor u t selector l g.element selector.end s) path b.1))
+    (subst (λ (x : Tree). IsPlanFor (record { usage = u; document = t; selector = selector }) f.path x selector.end s) element (subst (λ (l : List ℕ). IsPlanFor (record { usage = u; document = t; selector = selector }) l g.element selector.end s) path b.1))
 
 -- ---- the edit target of a PUT
 

@@ -1,9 +1,9 @@
 -- Steps through options, and down one child.
 use Rattle.std.proofs.Common.{◌≡◌, ℕ, List, [], ◌∷◌, ◌++◌, Option, Some, None, option_map, option_and_then, unwrap_or, slice_get, refl, sym, ap, ◌∙◌, append_assoc}
 use Rattle.xml_tree.specs.Tree.{Tree, child_elements_of, at}
-use Rattle.xml_tree.specs.Scopes.{scope_at, scope_below, inside}
-use Rattle.xml_tree.specs.declared.names.Decl.{Decl}
-use Rattle.xml_tree.proofs.ScopeLemmas.{scope_at-below}
+use Rattle.xml_tree.specs.TreeScopes.{scope_at, scope_below, inside}
+use Rattle.xml_names.specs.declared.names.Decl.{Decl}
+use Rattle.xml_tree.proofs.TreeScopeLemmas.{scope_at-below}
 
 -- what a successful step was made from
 pub came_from : {A B : Type 0} (f : A → Option B) (o : Option A) (y : B) → option_and_then f o ≡ Some y → (x : A) × ((o ≡ Some x) × (f x ≡ Some y))

@@ -9,11 +9,11 @@ use Rattle.node_select.proofs.Edited.{replaced}
 use Rattle.node_select.proofs.Selecting.{match_alike}
 use Rattle.xml_tree.specs.Tree.{Tree, child_elements_of, at}
 use Rattle.xml_tree.specs.Edits.{change_at, change_child, put_over}
-use Rattle.xml_tree.specs.Scopes.{scope_at, inside}
-use Rattle.xml_tree.specs.declared.names.Decl.{Decl}
-use Rattle.xml_tree.specs.declared.names.Attr.{Attr}
+use Rattle.xml_tree.specs.TreeScopes.{scope_at, inside}
+use Rattle.xml_names.specs.declared.names.Decl.{Decl}
+use Rattle.xml_names.specs.declared.names.Attr.{Attr}
 use Rattle.xml_tree.proofs.PlaceLaws.{at-changed, at-put_over, change_at-append}
-use Rattle.xml_tree.proofs.ScopeLemmas.{scope_at-below}
+use Rattle.xml_tree.proofs.TreeScopeLemmas.{scope_at-below}
 use Rattle.node_select.specs.declared.selector.Step.{Step}
 use Rattle.node_select.specs.declared.selector.End.TheVariants as ends
 use Rattle.node_select.specs.declared.selector.Selector.{Selector}
@@ -100,7 +100,7 @@ value_from c s uri local e v t h = ap (λ b. cond b (value_of_name (inside c e) 
 -- this tag, which matters only if its parent's step tests it
 
 module _ (all : List Step) (after new : Tree) (p : List ℕ) (c : List (List Decl)) (s : Step) (selected : SelectsPath all after p ↔ IsTrue (is_tested c s new)) (only : (p' : List ℕ) → SelectsPath all after p' → p' ≡ p) (there : at p after ≡ Some new) (scope : scope_at p after ≡ inside c new) where
-  pub finds : (uri local v : List ℕ) → FindsValue all uri local after p v ↔ (value_in c s uri local new ≡ Some v)
+  pub finds : (uri local v : List ℕ) → FindsValue all (record { path = p; uri = uri; local = local }) after v ↔ (value_in c s uri local new ≡ Some v)
   finds uri local v = (
     λ h.
         let same : h.element ≡ new = same_Some _ _ (sym h.there ∙ there) in

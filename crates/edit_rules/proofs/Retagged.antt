@@ -4,8 +4,8 @@ use Rattle.std.proofs.Common.{◌≡◌, ◌↔◌, inl, inr, ℕ, List, [], ◌
 use Rattle.doc_names.specs.declared.usages.Usage.{Usage}
 use Rattle.xml_tree.specs.Tree.{Content, last, Tree, child_elements_of, at}
 use Rattle.xml_tree.specs.Edits.{put_over}
-use Rattle.xml_tree.specs.Scopes.{scope_at, inside}
-use Rattle.xml_tree.specs.declared.names.Attr.{Attr}
+use Rattle.xml_tree.specs.TreeScopes.{scope_at, inside}
+use Rattle.xml_names.specs.declared.names.Attr.{Attr}
 use Rattle.usage_docs.specs.declared.schema_table.ElementKind.{ElementKind}
 use Rattle.usage_docs.specs.declared.schema_table.ElementKind.TheVariants.{ResourceLists, EntryList, Entry, EntryRef, External, DisplayName, RlsServices, Service, ResourceList, Packages, Package}
 use Rattle.usage_docs.specs.declared.schema_table.Key.{Key}
@@ -63,24 +63,24 @@ module _ (kind : ElementKind) (c : Scope) (others : List Tree) (i : ℕ) (ats : 
   tag : Tree
   tag = tag_with ats child_element
 
-  twin_to : (j : ℕ) (key : Key) → IsDuplicate kind c others tag j key → IsDuplicate kind c others new j key
+  twin_to : (j : ℕ) (key : Key) → IsDuplicate (record { kind = kind; scope = c; elements = others }) tag j key → IsDuplicate (record { kind = kind; scope = c; elements = others }) new j key
   unfolding new tag
   twin_to j key h = record { shared = h.shared; that = h.that; of_new = mark_of_tag kind c tag child_element.content ∙ h.of_new; by_key = h.by_key }
 
-  twin_from : (j : ℕ) (key : Key) → IsDuplicate kind c others new j key → IsDuplicate kind c others tag j key
+  twin_from : (j : ℕ) (key : Key) → IsDuplicate (record { kind = kind; scope = c; elements = others }) new j key → IsDuplicate (record { kind = kind; scope = c; elements = others }) tag j key
   unfolding new tag
   twin_from j key h = record { shared = h.shared; that = h.that; of_new = mark_of_tag kind c new (last []) ∙ h.of_new; by_key = h.by_key }
 
-  pub same_clashes : (r : List ℕ) (key : Key) → ClashesBeside kind c others (tag_with ats child_element) i r key ↔ ClashesBeside kind c others (with_attrs ats child_element) i r key
+  pub same_clashes : (r : List ℕ) (key : Key) → ClashesBeside (record { kind = kind; scope = c; elements = others }) (tag_with ats child_element) i r key ↔ ClashesBeside (record { kind = kind; scope = c; elements = others }) (with_attrs ats child_element) i r key
   unfolding new tag
   same_clashes r key = (to, from)
     where
-      to : ClashesBeside kind c others tag i r key → ClashesBeside kind c others new i r key
+      to : ClashesBeside (record { kind = kind; scope = c; elements = others }) tag i r key → ClashesBeside (record { kind = kind; scope = c; elements = others }) new i r key
       to (inl (is, (j, (lt, h)))) = inl (is, (j, (lt, twin_to j key h)))
       to (inr (inl (p, (is, h)))) = absurd (none_in_none h.0 (inside c tag) p key h.1.1)
       to (inr (inr (j, (is, (le, h))))) = inr (inr (j, (is, (le, twin_to j key h))))
 
-      from : ClashesBeside kind c others new i r key → ClashesBeside kind c others tag i r key
+      from : ClashesBeside (record { kind = kind; scope = c; elements = others }) new i r key → ClashesBeside (record { kind = kind; scope = c; elements = others }) tag i r key
       from (inl (is, (j, (lt, h)))) = inl (is, (j, (lt, twin_from j key h)))
       from (inr (inl (p, (is, h)))) = absurd (clean p key h)
       from (inr (inr (j, (is, (le, h))))) = inr (inr (j, (is, (le, twin_from j key h))))
@@ -113,14 +113,14 @@ module _ (u : Usage) (t parent child_element : Tree) (q : List ℕ) (i : ℕ) (a
         unique_there u t parent q kind there is unique (i ∷ p) key (up_one kind h.0 (scope_at q t) (child_elements_of parent) i child_element key is_kid h.1.0 p h.1.1)
 
     pub first_retag : (kind : ElementKind) → kind_at u t q ≡ Some kind → (found : Option Clash)
-        → IsFirst (ClashesBeside kind (scope_at q t) (remove (child_elements_of parent) i) (tag_with ats child_element) i) q found ↔ IsFirstClash u (put_over (q ++ i ∷ []) (with_attrs ats child_element) t) found
+        → IsFirst (ClashesBeside (record { kind = kind; scope = scope_at q t; elements = remove (child_elements_of parent) i }) (tag_with ats child_element) i) q found ↔ IsFirstClash u (put_over (q ++ i ∷ []) (with_attrs ats child_element) t) found
     first_retag kind is found =
         let c = scope_at q t in
         let others = remove (child_elements_of parent) i in
         let same_both = same_clashes kind c others i ats child_element (none_inside kind is) in
         let a = first_over u t parent child_element (with_attrs ats child_element) q i there is_kid unique kind is found in (
-          λ f. a.0 (first_alike (ClashesBeside kind c others (tag_with ats child_element) i) (ClashesBeside kind c others (with_attrs ats child_element) i) q found same_both f),
-          λ f. first_alike (ClashesBeside kind c others (with_attrs ats child_element) i) (ClashesBeside kind c others (tag_with ats child_element) i) q found (λ p key. ((same_both p key).1, (same_both p key).0)) (a.1 f),
+          λ f. a.0 (first_alike (ClashesBeside (record { kind = kind; scope = c; elements = others }) (tag_with ats child_element) i) (ClashesBeside (record { kind = kind; scope = c; elements = others }) (with_attrs ats child_element) i) q found same_both f),
+          λ f. first_alike (ClashesBeside (record { kind = kind; scope = c; elements = others }) (with_attrs ats child_element) i) (ClashesBeside (record { kind = kind; scope = c; elements = others }) (tag_with ats child_element) i) q found (λ p key. ((same_both p key).1, (same_both p key).0)) (a.1 f),
         )
 
     pub foreign_retag : kind_at u t q ≡ None → HasUniqueKeys u (put_over (q ++ i ∷ []) (with_attrs ats child_element) t)

@@ -9,9 +9,9 @@ use Rattle.node_select.proofs.Planned.{plan_more, plan_none}
 use Rattle.doc_names.specs.declared.usages.Usage.{Usage}
 use Rattle.xml_tree.specs.Tree.{Tree, at, child_elements_of}
 use Rattle.xml_tree.specs.Edits.{put_in}
-use Rattle.xml_tree.specs.Scopes.{scope_at}
-use Rattle.xml_tree.specs.declared.names.Name.{Name}
-use Rattle.xml_tree.specs.declared.names.Attr.{Attr}
+use Rattle.xml_tree.specs.TreeScopes.{scope_at}
+use Rattle.xml_names.specs.declared.names.Name.{Name}
+use Rattle.xml_names.specs.declared.names.Attr.{Attr}
 use Rattle.node_select.specs.Selection.{Found, SelectsPath, has_end, is_attr, longest_in, selected_in}
 use Rattle.node_select.specs.declared.selector.Step.{Step}
 use Rattle.node_select.specs.declared.selector.End.{End}
@@ -96,7 +96,7 @@ element_there (Some e) h = (e, refl)
 some_judged : (u : Usage) (t : Tree) (change : Change) → (r : Result Change EditRefusal) × IsJudged u t change r
 some_judged u t change = let j = judgement u (edited t change) in (by_fault change j.0, (j.0, (j.1, refl)))
 
-some_tested : (unlawful : EditRefusal) (lawful : Type 0) (u : Usage) (t : Tree) (change : Change) → Decided lawful → (r : Result Change EditRefusal) × IsTested unlawful lawful u t change r
+some_tested : (unlawful : EditRefusal) (lawful : Type 0) (u : Usage) (t : Tree) (change : Change) → Decided lawful → (r : Result Change EditRefusal) × IsTested unlawful lawful (IsJudged u t change) r
 some_tested unlawful lawful u t change (inl is) = let j = some_judged u t change in (j.0, inr (is, j.1))
 some_tested unlawful lawful u t change (inr fails) = (Err unlawful, inl (refl, fails))
 
@@ -109,11 +109,11 @@ some_gap L V l v (suc n) =
     let next = plan_with (Faulty Invalid) below.0 n (l n).0 (v n).0 in
     (next, subst (λ k. PlanIs CannotInsert (Faulty Invalid) L V k next) (add-one n) (plan_more CannotInsert (Faulty Invalid) L V n below.0 (l n).0 (v n).0 below.1 (l n).1 (v n).1))
 
-from_some_gap : (u : Usage) (t : Tree) (q : List ℕ) (e : Tree) (g : Result ℕ EditRefusal) → (r : Result Change EditRefusal) × FromGap u t q e g r
+from_some_gap : (u : Usage) (t : Tree) (q : List ℕ) (e : Tree) (g : Result ℕ EditRefusal) → (r : Result Change EditRefusal) × FromGap (λ gap. IsJudged u t (Insert q gap e)) g r
 from_some_gap u t q e (Ok gap) = some_judged u t (Insert q gap e)
 from_some_gap u t q e (Err why) = (Err why, refl)
 
-some_insertion : (u : Usage) (t : Tree) (steps : List Step) (q : List ℕ) (e parent : Tree) → at q t ≡ Some parent → (r : Result Change EditRefusal) × IsInsertion u t steps q e r
+some_insertion : (u : Usage) (t : Tree) (steps : List Step) (q : List ℕ) (e parent : Tree) → at q t ≡ Some parent → (r : Result Change EditRefusal) × IsInsertion (record { usage = u; document = t; steps = steps }) q e r
 some_insertion u t steps q e parent there =
     let gap = some_gap (IsLawfulGap steps t e q) (λ j. usage.IsValidDocument u (put_in q j e t)) (λ j. path_known steps (put_in q j e t) (q ++ j ∷ [])) (λ j. schema_known u (put_in q j e t)) (length (child_elements_of parent) + 1) in
     let plan = from_some_gap u t q e gap.0 in
@@ -122,7 +122,7 @@ some_insertion u t steps q e parent there =
 not_both : (end : End) → end ≡ ends.Element → EndsInAttribute end → ⊥
 not_both end is a = let e : ends.Element ≡ ends.Attribute a.0 a.1.0 = sym is ∙ a.1.1 in cc
 
-pub some_put : (u : Usage) (t : Tree) (selector : Selector) (spot : Spot) (e : Tree) → selector.end ≡ ends.Element → IsSpotOf t selector spot → (r : Result Change EditRefusal) × IsPutPlan u t selector.steps spot e r
+pub some_put : (u : Usage) (t : Tree) (selector : Selector) (spot : Spot) (e : Tree) → selector.end ≡ ends.Element → IsSpotOf t selector spot → (r : Result Change EditRefusal) × IsPutPlan (record { usage = u; document = t; steps = selector.steps }) spot e r
 some_put u t selector (Over p) e ends_so is =
     some_tested CannotInsert (IsLawfulReplacement selector.steps t e p) u t (Replace p e) (decided (IsLawfulReplacement selector.steps t e p) (path_known selector.steps (edited t (Replace p e)) p))
 some_put u t selector (Under q) e ends_so is =
@@ -133,44 +133,44 @@ some_put u t selector (Value p) e ends_so is = absurd (not_both selector.end end
 
 -- ---- PUT of an attribute
 
-value_decided : (steps : List Step) (uri local : List ℕ) (t : Tree) (p value : List ℕ) → Decided (FindsValue steps uri local t p value)
+value_decided : (steps : List Step) (uri local : List ℕ) (t : Tree) (p value : List ℕ) → Decided (FindsValue steps (record { path = p; uri = uri; local = local }) t value)
 value_decided steps uri local t p value = by (decided (SelectsPath steps t p) (path_known steps t p))
   where
     by_value : SelectsPath steps t p → (e : Tree) → at p t ≡ Some e → (o : Option (List ℕ)) → option_map (λ (a : Attr). a.value) (find (is_attr (scope_at p t) uri local) e.attrs) ≡ o
-        → Decided (FindsValue steps uri local t p value)
+        → Decided (FindsValue steps (record { path = p; uri = uri; local = local }) t value)
     by_value s e there None is = inr (λ h.
         let same : h.element ≡ e = same_Some h.element e (sym h.there ∙ there) in
         let has = subst (λ (x : Tree). option_map (λ (a : Attr). a.value) (find (is_attr (scope_at p t) uri local) x.attrs) ≡ Some value) same h.has in
         let z : None ≡ Some value = sym is ∙ has in cc)
     by_value s e there (Some v) is = by_equal (bytes_eq v value) refl
       where
-        by_equal : (b : Bool) → bytes_eq v value ≡ b → Decided (FindsValue steps uri local t p value)
+        by_equal : (b : Bool) → bytes_eq v value ≡ b → Decided (FindsValue steps (record { path = p; uri = uri; local = local }) t value)
         by_equal true h = inl (record { selects = s; element = e; there = there; has = is ∙ ap (λ (l : List ℕ). Some l) ((bytes_decides v value).0 h) })
         by_equal false h = inr (λ f.
             let same : f.element ≡ e = same_Some f.element e (sym f.there ∙ there) in
             let has = subst (λ (x : Tree). option_map (λ (a : Attr). a.value) (find (is_attr (scope_at p t) uri local) x.attrs) ≡ Some value) same f.has in
             let z : true ≡ false = sym ((bytes_decides v value).1 (same_Some v value (sym is ∙ has))) ∙ h in cc)
 
-    by : Decided (SelectsPath steps t p) → Decided (FindsValue steps uri local t p value)
+    by : Decided (SelectsPath steps t p) → Decided (FindsValue steps (record { path = p; uri = uri; local = local }) t value)
     by (inr fails) = inr (λ h. fails h.selects)
     by (inl s) = let e = element_there (at p t) (path_there steps t p s) in by_value s e.0 e.1 (option_map (λ (a : Attr). a.value) (find (is_attr (scope_at p t) uri local) e.0.attrs)) refl
 
-some_writing : (u : Usage) (t : Tree) (steps : List Step) (uri local p value : List ℕ) (name : Option Name) → (r : Result Change EditRefusal) × IsWriting u t steps uri local p value name r
+some_writing : (u : Usage) (t : Tree) (steps : List Step) (uri local p value : List ℕ) (name : Option Name) → (r : Result Change EditRefusal) × IsWriting (record { usage = u; document = t; steps = steps }) (record { path = p; uri = uri; local = local }) value name r
 some_writing u t steps uri local p value None = (Err CannotInsert, refl)
 some_writing u t steps uri local p value (Some name) =
     let new = edited t (SetAttr p name value) in
-    some_tested CannotInsert (FindsValue steps uri local new p value) u t (SetAttr p name value) (value_decided steps uri local new p value)
+    some_tested CannotInsert (FindsValue steps (record { path = p; uri = uri; local = local }) new value) u t (SetAttr p name value) (value_decided steps uri local new p value)
 
-some_value : (u : Usage) (t : Tree) (steps : List Step) (uri local p value : List ℕ) → SelectsPath steps t p → (r : Result Change EditRefusal) × IsValuePlan u t steps uri local p value r
+some_value : (u : Usage) (t : Tree) (steps : List Step) (uri local p value : List ℕ) → SelectsPath steps t p → (r : Result Change EditRefusal) × IsValuePlan (record { usage = u; document = t; steps = steps }) (record { path = p; uri = uri; local = local }) value r
 some_value u t steps uri local p value s =
     let e = element_there (at p t) (path_there steps t p s) in
     let plan = some_writing u t steps uri local p value (written_name (scope_at p t) uri local e.0.attrs) in
     (plan.0, record { element = e.0; there = e.1; plan = plan.1 })
 
-pub some_attr : (u : Usage) (t : Tree) (selector : Selector) (p value : List ℕ) → IsSpotOf t selector (Value p) → (r : Result Change EditRefusal) × IsAttrPlan u t selector.steps selector.end p value r
+pub some_attr : (u : Usage) (t : Tree) (selector : Selector) (p value : List ℕ) → IsSpotOf t selector (Value p) → (r : Result Change EditRefusal) × IsAttrPlan (record { usage = u; document = t; steps = selector.steps }) selector.end p value r
 some_attr u t selector p value is =
     let plan = some_value u t selector.steps is.0.0 is.0.1.0 p value is.1 in
-    (plan.0, subst (λ (end : End). IsAttrPlan u t selector.steps end p value plan.0) (sym is.0.1.1) plan.1)
+    (plan.0, subst (λ (end : End). IsAttrPlan (record { usage = u; document = t; steps = selector.steps }) end p value plan.0) (sym is.0.1.1) plan.1)
 
 -- ---- DELETE
 
@@ -196,7 +196,7 @@ nothing_decided selector t change = by (found_decided (edited t change) selector
     by (inl f) = inr (λ fails. fails f)
     by (inr fails) = inl fails
 
-some_removal : (u : Usage) (t : Tree) (selector : Selector) (p : List ℕ) → (r : Result Change EditRefusal) × IsRemoval u t selector p r
+some_removal : (u : Usage) (t : Tree) (selector : Selector) (p : List ℕ) → (r : Result Change EditRefusal) × IsRemoval (record { usage = u; document = t; selector = selector }) p r
 some_removal u t selector [] = (Err (Faulty Invalid), refl)
 some_removal u t selector (n ∷ p) = some_tested CannotDelete (FindsNothingAfter selector t (Remove (n ∷ p))) u t (Remove (n ∷ p)) (nothing_decided selector t (Remove (n ∷ p)))
 
@@ -209,14 +209,14 @@ found_attr test (x ∷ ats) h = by (test x) refl (found_attr test ats)
     by true e rest = (x, rw e refl)
     by false e rest = let r = rest (rw e at h) in (r.0, rw e r.1)
 
-some_drop : (u : Usage) (t : Tree) (selector : Selector) (p : List ℕ) (e : Tree) (uri local : List ℕ) → IsTrue (list_any (is_attr (scope_at p t) uri local) e.attrs) → (r : Result Change EditRefusal) × IsDrop u t selector p e uri local r
+some_drop : (u : Usage) (t : Tree) (selector : Selector) (p : List ℕ) (e : Tree) (uri local : List ℕ) → IsTrue (list_any (is_attr (scope_at p t) uri local) e.attrs) → (r : Result Change EditRefusal) × IsDrop (record { usage = u; document = t; selector = selector }) (record { path = p; uri = uri; local = local }) e r
 some_drop u t selector p e uri local has =
     let a = found_attr (is_attr (scope_at p t) uri local) e.attrs has in
     let change = DropAttr p a.0.name in
     let plan = some_tested CannotDelete (FindsNothingAfter selector t change) u t change (nothing_decided selector t change) in
     (plan.0, record { attr = a.0; that = a.1; then = plan.1 })
 
-some_plan_for : (u : Usage) (t : Tree) (selector : Selector) (p : List ℕ) (e : Tree) (end : End) → (end ≡ ends.Namespaces → ⊥) → IsTrue (has_end end (scope_at p t) e) → (r : Result Change EditRefusal) × IsPlanFor u t selector p e end r
+some_plan_for : (u : Usage) (t : Tree) (selector : Selector) (p : List ℕ) (e : Tree) (end : End) → (end ≡ ends.Namespaces → ⊥) → IsTrue (has_end end (scope_at p t) e) → (r : Result Change EditRefusal) × IsPlanFor (record { usage = u; document = t; selector = selector }) p e end r
 some_plan_for u t selector p e ends.Element node has = some_removal u t selector p
 some_plan_for u t selector p e (ends.Attribute uri local) node has = some_drop u t selector p e uri local has
 some_plan_for u t selector p e ends.Namespaces node has = absurd (node refl)

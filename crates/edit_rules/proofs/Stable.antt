@@ -3,11 +3,11 @@ use Rattle.std.proofs.Common.{◌≡◌, ℕ, zero, suc, List, [], ◌∷◌, Op
 use Rattle.std.specs.List.{AllByRecursion}
 use Rattle.std.proofs.lemmas.Option.{same_Some}
 use Rattle.xml_tree.specs.Tree.{Tree, child_elements_of}
-use Rattle.xml_tree.specs.Expanded.{element_name}
+use Rattle.xml_names.specs.Expanded.{element_name}
 use Rattle.xml_tree.specs.Proper.{ProperIn}
-use Rattle.xml_tree.specs.declared.names.Decl.{Decl}
-use Rattle.xml_tree.specs.declared.names.Name.{Name}
-use Rattle.xml_tree.specs.Scopes.{inside}
+use Rattle.xml_names.specs.declared.names.Decl.{Decl}
+use Rattle.xml_names.specs.declared.names.Name.{Name}
+use Rattle.xml_tree.specs.TreeScopes.{inside}
 use Rattle.node_select.specs.Selection.{has_asked, is_named, passes, SelectsAmong, SelectsChild, SelectsPath}
 use Rattle.node_select.specs.declared.selector.Step.{Step}
 use Rattle.node_select.specs.declared.selector.Selector.{Selector}

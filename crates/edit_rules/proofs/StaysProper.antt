@@ -8,17 +8,18 @@ use Rattle.std.proofs.Common.{◌≡◌, inl, inr, ℕ, suc, ◌≤◌, ◌+◌,
 use Rattle.std.proofs.lemmas.Option.{same_Some}
 use Rattle.node_select.specs.InsertionPoints.{PlanIs}
 use Rattle.doc_names.specs.declared.usages.Usage.{Usage}
-use Rattle.xml_tree.specs.Characters.{all_chars, is_name}
+use Rattle.xml_names.specs.Characters.{all_chars, is_name}
 use Rattle.xml_tree.specs.Tree.{Tree, at, height, child_elements_of, tree_of}
-use Rattle.xml_tree.specs.Attributes.{remove_first, same_name, with_new_value, with_attr, without_attr}
-use Rattle.xml_tree.specs.Attributes as attributes
+use Rattle.xml_names.specs.Attributes.{remove_first, same_name, with_new_value, with_attr, without_attr}
+use Rattle.xml_names.specs.Attributes as attributes
 use Rattle.xml_tree.specs.Edits.{change_at, drop_attr, own_number, parent_path, put_in, write_attr}
-use Rattle.xml_tree.specs.Expanded.{ExpandedName, attr_name, same_expanded, same_uri}
+use Rattle.xml_names.specs.Expanded.{ExpandedName, attr_name, same_expanded, same_uri}
 use Rattle.xml_tree.specs.Proper.{IsAttribute, IsTag, IsProperPart, ProperIn, is_declaration, is_prefix, may_stand}
-use Rattle.xml_tree.specs.Scopes.{bound, declared, joined, scope_around, scope_at, some_text, xml_prefix}
-use Rattle.xml_tree.specs.declared.names.Name.{Name}
-use Rattle.xml_tree.specs.declared.names.Attr.{Attr}
-use Rattle.xml_tree.specs.declared.names.Decl.{Decl}
+use Rattle.xml_names.specs.Scopes.{bound, declared, joined, some_text, xml_prefix}
+use Rattle.xml_tree.specs.TreeScopes.{scope_around, scope_at}
+use Rattle.xml_names.specs.declared.names.Name.{Name}
+use Rattle.xml_names.specs.declared.names.Attr.{Attr}
+use Rattle.xml_names.specs.declared.names.Decl.{Decl}
 use Rattle.xml_tree.proofs.EverywhereLaws.{Everywhere-child_element, Throughout-change_at, scope_at-around}
 use Rattle.xml_tree.proofs.HeightLaws.{height-bounded, height-put_in, height-put_over, height-take_in}
 use Rattle.xml_tree.proofs.PlaceLaws.{at-changed, height-at}
@@ -42,7 +43,7 @@ use Rattle.edit_rules.specs.declared.refusal.EditRefusal.TheVariants.{CannotInse
 use Rattle.edit_rules.specs.Attributes.{IsWritable, new_name, new_prefix, written_name}
 use Rattle.edit_rules.specs.Deletions.{FindsNothingAfter, IsDeletePlan, IsPlanFor, IsRemoval}
 use Rattle.edit_rules.specs.LawfulPlaces.{IsLawfulGap, IsLawfulReplacement}
-use Rattle.edit_rules.specs.Plans.{LeavesProper}
+use Rattle.edit_rules.specs.Plans.{IsJudged, LeavesProper}
 use Rattle.edit_rules.specs.Puts.{FromGap, HasRoomAt, IsInsertion, IsProperAt, IsPutPlan}
 use Rattle.edit_rules.specs.Spots.{IsSpotOf}
 use Rattle.edit_rules.proofs.Options.{through_kid}
@@ -74,17 +75,17 @@ under_leaves t q gap e parent there le proper low new room = record {
   low = let h = height-put_in q gap e parent t there le in omega (arith, h, low, room);
 }
 
-under_plan : (u : Usage) (t : Tree) (steps : List Step) (q : List ℕ) (e : Tree) (plan : Change) → IsInsertion u t steps q e (Ok plan) → ProperIn [] t → height t ≤ 64 → ProperIn (scope_at q t) e → length q + suc (height e) ≤ 64 → LeavesProper t plan
+under_plan : (u : Usage) (t : Tree) (steps : List Step) (q : List ℕ) (e : Tree) (plan : Change) → IsInsertion (record { usage = u; document = t; steps = steps }) q e (Ok plan) → ProperIn [] t → height t ≤ 64 → ProperIn (scope_at q t) e → length q + suc (height e) ≤ 64 → LeavesProper t plan
 under_plan u t steps q e plan h proper low new room = by h.gap h.is_chosen h.then
   where
-    by : (g : Result ℕ EditRefusal) → PlanIs CannotInsert (Faulty Invalid) (IsLawfulGap steps t e q) (λ j. usage.IsValidDocument u (put_in q j e t)) (length (child_elements_of h.parent) + 1) g → FromGap u t q e g (Ok plan) → LeavesProper t plan
+    by : (g : Result ℕ EditRefusal) → PlanIs CannotInsert (Faulty Invalid) (IsLawfulGap steps t e q) (λ j. usage.IsValidDocument u (put_in q j e t)) (length (child_elements_of h.parent) + 1) g → FromGap (λ gap. IsJudged u t (Insert q gap e)) g (Ok plan) → LeavesProper t plan
     by (Err why) chosen then = let z = then in cc
     by (Ok gap) chosen then =
         let j = judged_ok u t (Insert q gap e) plan then in
         let lt = chosen.within in
         subst (λ (x : Change). LeavesProper t x) (sym j.0) (under_leaves t q gap e h.parent h.there (omega arith) proper low new room)
 
-pub put_leaves : (u : Usage) (t : Tree) (selector : Selector) (spot : Spot) (e : Tree) (plan : Change) → IsPutPlan u t selector.steps spot e (Ok plan) → IsSpotOf t selector spot
+pub put_leaves : (u : Usage) (t : Tree) (selector : Selector) (spot : Spot) (e : Tree) (plan : Change) → IsPutPlan (record { usage = u; document = t; steps = selector.steps }) spot e (Ok plan) → IsSpotOf t selector spot
     → ProperIn [] t → height t ≤ 64 → IsProperAt t spot e → HasRoomAt spot e → LeavesProper t plan
 put_leaves u t selector (Over p) e plan h is proper low new room =
     let m = tested_ok CannotInsert (IsLawfulReplacement selector.steps t e p) u t (Replace p e) plan h in
@@ -469,13 +470,13 @@ drop_leaves t e p uri local a there that proper low =
       low = retagged_low p (drop_attr a.name) e t there refl low;
     }
 
-removed_leaves : (u : Usage) (t : Tree) (selector : Selector) (p : List ℕ) (e : Tree) (plan : Change) → at p t ≡ Some e → IsRemoval u t selector p (Ok plan) → ProperIn [] t → height t ≤ 64 → LeavesProper t plan
+removed_leaves : (u : Usage) (t : Tree) (selector : Selector) (p : List ℕ) (e : Tree) (plan : Change) → at p t ≡ Some e → IsRemoval (record { usage = u; document = t; selector = selector }) p (Ok plan) → ProperIn [] t → height t ≤ 64 → LeavesProper t plan
 removed_leaves u t selector [] e plan there h proper low = cc
 removed_leaves u t selector (n ∷ p) e plan there h proper low =
     let m = tested_ok CannotDelete (FindsNothingAfter selector t (Remove (n ∷ p))) u t (Remove (n ∷ p)) plan h in
     subst (λ (x : Change). LeavesProper t x) (sym m.is) (removal_leaves n p t e there proper low)
 
-plan_for_leaves : (u : Usage) (t : Tree) (selector : Selector) (p : List ℕ) (e : Tree) (end : End) (plan : Change) → at p t ≡ Some e → IsPlanFor u t selector p e end (Ok plan) → ProperIn [] t → height t ≤ 64 → LeavesProper t plan
+plan_for_leaves : (u : Usage) (t : Tree) (selector : Selector) (p : List ℕ) (e : Tree) (end : End) (plan : Change) → at p t ≡ Some e → IsPlanFor (record { usage = u; document = t; selector = selector }) p e end (Ok plan) → ProperIn [] t → height t ≤ 64 → LeavesProper t plan
 plan_for_leaves u t selector p e ends.Element plan there h proper low = removed_leaves u t selector p e plan there h proper low
 plan_for_leaves u t selector p e (ends.Attribute uri local) plan there h proper low =
     let change = DropAttr p h.attr.name in

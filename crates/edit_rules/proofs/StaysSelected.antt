@@ -8,10 +8,10 @@ use Rattle.node_select.proofs.Selecting.{select_alike}
 use Rattle.node_select.proofs.Edited.{replaced}
 use Rattle.xml_tree.specs.Tree.{Content, last, more, comment_node, Tree, tree_of, child_elements, child_elements_of, at}
 use Rattle.xml_tree.specs.Edits.{change, change_at, change_child, put_in, put_kid, put_over}
-use Rattle.xml_tree.specs.Scopes.{scope_at, scope_below, inside}
-use Rattle.xml_tree.specs.declared.names.Decl.{Decl}
+use Rattle.xml_tree.specs.TreeScopes.{scope_at, scope_below, inside}
+use Rattle.xml_names.specs.declared.names.Decl.{Decl}
 use Rattle.xml_tree.proofs.PlaceLaws.{at-changed, child_elements-put, change_at-append}
-use Rattle.xml_tree.proofs.ScopeLemmas.{scope_at-below}
+use Rattle.xml_tree.proofs.TreeScopeLemmas.{scope_at-below}
 use Rattle.node_select.specs.declared.selector.Step.{Step}
 use Rattle.node_select.specs.Selection.{is_named, is_tested, SelectsChild, SelectsAmong, SelectsPath}
 use Rattle.node_select.proofs.Along.{last_step_to, last_step_from}

@@ -7,10 +7,11 @@ use Rattle.std.proofs.lemmas.Slice.Eq.{bytes_eq-Decides}
 use Rattle.std.proofs.lemmas.Map.Keys.{IsDistinct-head, IsDistinct-tail}
 use Rattle.std.proofs.lemmas.Option.{same_Some}
 use Rattle.xml_tree.specs.Tree.{Tree}
-use Rattle.xml_tree.specs.Expanded.{attr_name, element_name, same_expanded}
+use Rattle.xml_names.specs.Expanded.{attr_name, element_name, same_expanded}
 use Rattle.xml_tree.specs.Proper.{IsAttribute, IsTag}
-use Rattle.xml_tree.specs.Scopes.{bound, some_text, xml_uri, inside}
-use Rattle.xml_tree.specs.declared.names.Attr.{Attr}
+use Rattle.xml_names.specs.Scopes.{bound, some_text, xml_uri}
+use Rattle.xml_tree.specs.TreeScopes.{inside}
+use Rattle.xml_names.specs.declared.names.Attr.{Attr}
 use Rattle.node_select.specs.Names.{is_named_so, uri_of}
 use Rattle.node_select.specs.Selection.{has_asked, is_asked, is_attr, is_named, is_tested, passes}
 use Rattle.node_select.specs.declared.selector.AttrTest.{AttrTest}

@@ -9,13 +9,13 @@ use Rattle.node_select.specs.InsertionPoints.{PlanIs}
 use Rattle.node_select.proofs.Inserted.{get-insert_at}
 use Rattle.doc_names.specs.declared.usages.Usage.{Usage}
 use Rattle.xml_tree.specs.Tree.{Tree, at, child_elements_of, tree_of}
-use Rattle.xml_tree.specs.Attributes.{same_name, with_new_value, with_attr}
-use Rattle.xml_tree.specs.Attributes as attributes
+use Rattle.xml_names.specs.Attributes.{same_name, with_new_value, with_attr}
+use Rattle.xml_names.specs.Attributes as attributes
 use Rattle.xml_tree.specs.Edits.{put_in, put_kid, put_over, set_at, write_attr}
-use Rattle.xml_tree.specs.Scopes.{scope_at}
-use Rattle.xml_tree.specs.declared.names.Name.{Name}
-use Rattle.xml_tree.specs.declared.names.Attr.{Attr}
-use Rattle.xml_tree.specs.declared.names.Decl.{Decl}
+use Rattle.xml_tree.specs.TreeScopes.{scope_at}
+use Rattle.xml_names.specs.declared.names.Name.{Name}
+use Rattle.xml_names.specs.declared.names.Attr.{Attr}
+use Rattle.xml_names.specs.declared.names.Decl.{Decl}
 use Rattle.xml_tree.proofs.PlaceLaws.{at-append, at-changed, child_elements-put}
 use Rattle.node_select.specs.Selection.{Found, SelectsPath, is_attr}
 use Rattle.node_select.specs.declared.selector.Step.{Step}
@@ -61,12 +61,12 @@ judged_ok u t change plan h = by h.0 h.1.0 h.1.1
     by None judged is = (same_ok plan change is, judged)
     by (Some fault) judged is = cc
 
-pub tested_ok : (unlawful : EditRefusal) (lawful : Type 0) (u : Usage) (t : Tree) (change plan : Change) → IsTested unlawful lawful u t change (Ok plan) → Made lawful u t change plan
+pub tested_ok : (unlawful : EditRefusal) (lawful : Type 0) (u : Usage) (t : Tree) (change plan : Change) → IsTested unlawful lawful (IsJudged u t change) (Ok plan) → Made lawful u t change plan
 tested_ok unlawful lawful u t change plan (inl h) = let z = h.0 in cc
 tested_ok unlawful lawful u t change plan (inr h) = let j = judged_ok u t change plan h.1 in record { is = j.0; is_lawful = h.0; faultless = j.1 }
 
 -- a lawful change into a document without a fault is allowed
-pub answered : (unlawful : EditRefusal) (lawful : Type 0) (u : Usage) (t : Tree) (change : Change) → lawful → HasFirstFault u (edited t change) None → IsTested unlawful lawful u t change (Ok change)
+pub answered : (unlawful : EditRefusal) (lawful : Type 0) (u : Usage) (t : Tree) (change : Change) → lawful → HasFirstFault u (edited t change) None → IsTested unlawful lawful (IsJudged u t change) (Ok change)
 answered unlawful lawful u t change is a = inr (is, (None, (a, refl)))
 
 -- ---- PUT of an element
@@ -95,10 +95,10 @@ in_gap t parent e q gap there le =
     ∙ ap (option_and_then (at (gap ∷ []))) (at-changed q (put_kid gap e) t ∙ ap (option_map (put_kid gap e)) there)
     ∙ ap (option_and_then (at [])) (ap (λ (xs : List Tree). slice_get xs gap) (child_elements-put gap e parent.content le) ∙ get-insert_at (child_elements_of parent) gap e le)
 
-put_under_is : (u : Usage) (t : Tree) (steps : List Step) (q : List ℕ) (e : Tree) (plan : Change) → IsInsertion u t steps q e (Ok plan) → Put u t steps e plan
+put_under_is : (u : Usage) (t : Tree) (steps : List Step) (q : List ℕ) (e : Tree) (plan : Change) → IsInsertion (record { usage = u; document = t; steps = steps }) q e (Ok plan) → Put u t steps e plan
 put_under_is u t steps q e plan h = by h.gap h.is_chosen h.then
   where
-    by : (g : Result ℕ EditRefusal) → PlanIs CannotInsert (Faulty Invalid) (IsLawfulGap steps t e q) (λ j. usage.IsValidDocument u (put_in q j e t)) (length (child_elements_of h.parent) + 1) g → FromGap u t q e g (Ok plan) → Put u t steps e plan
+    by : (g : Result ℕ EditRefusal) → PlanIs CannotInsert (Faulty Invalid) (IsLawfulGap steps t e q) (λ j. usage.IsValidDocument u (put_in q j e t)) (length (child_elements_of h.parent) + 1) g → FromGap (λ gap. IsJudged u t (Insert q gap e)) g (Ok plan) → Put u t steps e plan
     by (Err why) chosen then = let z = then in cc
     by (Ok gap) chosen then =
         let j = judged_ok u t (Insert q gap e) plan then in
@@ -110,7 +110,7 @@ put_under_is u t steps q e plan h = by h.gap h.is_chosen h.then
           faultless = j.1;
         })
 
-pub put_is : (u : Usage) (t : Tree) (steps : List Step) (spot : Spot) (e : Tree) (plan : Change) → IsPutPlan u t steps spot e (Ok plan) → Put u t steps e plan
+pub put_is : (u : Usage) (t : Tree) (steps : List Step) (spot : Spot) (e : Tree) (plan : Change) → IsPutPlan (record { usage = u; document = t; steps = steps }) spot e (Ok plan) → Put u t steps e plan
 put_is u t steps (Over p) e plan h = put_over_is u t steps p e plan (tested_ok CannotInsert (IsLawfulReplacement steps t e p) u t (Replace p e) plan h)
 put_is u t steps (Under q) e plan h = put_under_is u t steps q e plan h
 put_is u t steps Beside e plan h = cc
@@ -119,7 +119,7 @@ put_is u t steps (Value p) e plan h = absurd h
 -- the second PUT: the address selects what was put, and the plan is its replacement by an equal
 -- element, which leaves the document unchanged
 pub put_twice : (u : Usage) (t : Tree) (steps : List Step) (e : Tree) (plan : Change) (h : Put u t steps e plan)
-    → IsPutPlan u (edited t plan) steps (Over h.path) e (Ok (Replace h.path e)) × (edited (edited t plan) (Replace h.path e) ≡ edited t plan)
+    → IsPutPlan (record { usage = u; document = edited t plan; steps = steps }) (Over h.path) e (Ok (Replace h.path e)) × (edited (edited t plan) (Replace h.path e) ≡ edited t plan)
 put_twice u t steps e plan h =
     let new = edited t plan in
     let same : put_over h.path e new ≡ new = put_again h.path e new h.there in (
@@ -136,16 +136,16 @@ pub record Written (u : Usage) (t : Tree) (steps : List Step) (uri local p value
   pub element : Tree
   pub there : at p t ≡ Some element
   pub is_name : written_name (scope_at p t) uri local element.attrs ≡ Some name
-  pub finds : FindsValue steps uri local (edited t (SetAttr p name value)) p value
+  pub finds : FindsValue steps (record { path = p; uri = uri; local = local }) (edited t (SetAttr p name value)) value
   pub faultless : HasFirstFault u (edited t (SetAttr p name value)) None
 
-pub written_is : (u : Usage) (t : Tree) (steps : List Step) (uri local p value : List ℕ) (plan : Change) → IsValuePlan u t steps uri local p value (Ok plan) → Written u t steps uri local p value plan
+pub written_is : (u : Usage) (t : Tree) (steps : List Step) (uri local p value : List ℕ) (plan : Change) → IsValuePlan (record { usage = u; document = t; steps = steps }) (record { path = p; uri = uri; local = local }) value (Ok plan) → Written u t steps uri local p value plan
 written_is u t steps uri local p value plan h = by (written_name (scope_at p t) uri local h.element.attrs) refl h.plan
   where
-    by : (o : Option Name) → written_name (scope_at p t) uri local h.element.attrs ≡ o → IsWriting u t steps uri local p value o (Ok plan) → Written u t steps uri local p value plan
+    by : (o : Option Name) → written_name (scope_at p t) uri local h.element.attrs ≡ o → IsWriting (record { usage = u; document = t; steps = steps }) (record { path = p; uri = uri; local = local }) value o (Ok plan) → Written u t steps uri local p value plan
     by None is then = let z = then in cc
     by (Some name) is then =
-        let m = tested_ok CannotInsert (FindsValue steps uri local (edited t (SetAttr p name value)) p value) u t (SetAttr p name value) plan then in
+        let m = tested_ok CannotInsert (FindsValue steps (record { path = p; uri = uri; local = local }) (edited t (SetAttr p name value)) value) u t (SetAttr p name value) plan then in
         record { name = name; is = m.is; element = h.element; there = h.there; is_name = is; finds = m.is_lawful; faultless = m.faultless }
 
 -- ---- an attribute that is written twice
@@ -252,7 +252,7 @@ some_of f (Some x) y h = (x, refl)
 -- the second PUT: the attribute is found with its value, and the plan is to write the same value,
 -- which leaves the document unchanged
 pub written_twice : (u : Usage) (t : Tree) (steps : List Step) (uri local p value : List ℕ) (plan : Change) (h : Written u t steps uri local p value plan)
-    → IsValuePlan u (set_at p h.name value t) steps uri local p value (Ok (SetAttr p h.name value)) × (set_at p h.name value (set_at p h.name value t) ≡ set_at p h.name value t)
+    → IsValuePlan (record { usage = u; document = set_at p h.name value t; steps = steps }) (record { path = p; uri = uri; local = local }) value (Ok (SetAttr p h.name value)) × (set_at p h.name value (set_at p h.name value t) ≡ set_at p h.name value t)
 written_twice u t steps uri local p value plan h =
     let n = h.name in
     let new = set_at p n value t in
@@ -271,9 +271,9 @@ written_twice u t steps uri local p value plan h =
         element = made;
         there = there;
         plan =
-            subst (λ (o : Option Name). IsWriting u new steps uri local p value o (Ok (SetAttr p n value))) (sym name_new)
-            (answered CannotInsert (FindsValue steps uri local (edited new (SetAttr p n value)) p value) u new (SetAttr p n value)
-            (subst (λ (x : Tree). FindsValue steps uri local x p value) (sym stays) h.finds)
+            subst (λ (o : Option Name). IsWriting (record { usage = u; document = new; steps = steps }) (record { path = p; uri = uri; local = local }) value o (Ok (SetAttr p n value))) (sym name_new)
+            (answered CannotInsert (FindsValue steps (record { path = p; uri = uri; local = local }) (edited new (SetAttr p n value)) value) u new (SetAttr p n value)
+            (subst (λ (x : Tree). FindsValue steps (record { path = p; uri = uri; local = local }) x value) (sym stays) h.finds)
             (subst (λ (x : Tree). HasFirstFault u x None) (sym stays) h.faultless));
       },
       stays,
@@ -289,11 +289,11 @@ pub record Deleted (u : Usage) (t : Tree) (selector : Selector) (plan : Change) 
 deleted_by : (u : Usage) (t : Tree) (selector : Selector) (change plan : Change) → Made (FindsNothingAfter selector t change) u t change plan → Deleted u t selector plan
 deleted_by u t selector change plan m = subst (λ (x : Change). Deleted u t selector x) (sym m.is) (record { finds_nothing = m.is_lawful; faultless = m.faultless })
 
-removed_is : (u : Usage) (t : Tree) (selector : Selector) (p : List ℕ) (plan : Change) → IsRemoval u t selector p (Ok plan) → Deleted u t selector plan
+removed_is : (u : Usage) (t : Tree) (selector : Selector) (p : List ℕ) (plan : Change) → IsRemoval (record { usage = u; document = t; selector = selector }) p (Ok plan) → Deleted u t selector plan
 removed_is u t selector [] plan h = cc
 removed_is u t selector (n ∷ p) plan h = deleted_by u t selector (Remove (n ∷ p)) plan (tested_ok CannotDelete (FindsNothingAfter selector t (Remove (n ∷ p))) u t (Remove (n ∷ p)) plan h)
 
-plan_for_is : (u : Usage) (t : Tree) (selector : Selector) (p : List ℕ) (e : Tree) (end : End) (plan : Change) → IsPlanFor u t selector p e end (Ok plan) → Deleted u t selector plan
+plan_for_is : (u : Usage) (t : Tree) (selector : Selector) (p : List ℕ) (e : Tree) (end : End) (plan : Change) → IsPlanFor (record { usage = u; document = t; selector = selector }) p e end (Ok plan) → Deleted u t selector plan
 plan_for_is u t selector p e ends.Element plan h = removed_is u t selector p plan h
 plan_for_is u t selector p e (ends.Attribute uri local) plan h =
     let change = DropAttr p h.attr.name in
@@ -306,15 +306,15 @@ deleted_is u t selector plan (inr h) = plan_for_is u t selector h.0.path h.0.ele
 
 -- ---- these facts in the form of the laws
 
-pub written_finds : (u : Usage) (t : Tree) (steps : List Step) (uri local p value : List ℕ) (plan : Change) → Written u t steps uri local p value plan → FindsValue steps uri local (edited t plan) p value
-written_finds u t steps uri local p value plan h = subst (λ (x : Change). FindsValue steps uri local (edited t x) p value) (sym h.is) h.finds
+pub written_finds : (u : Usage) (t : Tree) (steps : List Step) (uri local p value : List ℕ) (plan : Change) → Written u t steps uri local p value plan → FindsValue steps (record { path = p; uri = uri; local = local }) (edited t plan) value
+written_finds u t steps uri local p value plan h = subst (λ (x : Change). FindsValue steps (record { path = p; uri = uri; local = local }) (edited t x) value) (sym h.is) h.finds
 
 pub written_change : (u : Usage) (t : Tree) (steps : List Step) (uri local p value : List ℕ) (plan : Change) → Written u t steps uri local p value plan → HasFirstFault u (edited t plan) None
 written_change u t steps uri local p value plan h = subst (λ (x : Change). HasFirstFault u (edited t x) None) (sym h.is) h.faultless
 
 pub written_again : (u : Usage) (t : Tree) (selector : Selector) (uri local p value : List ℕ) (plan : Change) → selector.end ≡ ends.Attribute uri local → Written u t selector.steps uri local p value plan
-    → IsSpotOf (edited t plan) selector (Value p) × IsAttrPlan u (edited t plan) selector.steps (ends.Attribute uri local) p value (Ok plan) × (edited (edited t plan) plan ≡ edited t plan)
+    → IsSpotOf (edited t plan) selector (Value p) × IsAttrPlan (record { usage = u; document = edited t plan; steps = selector.steps }) (ends.Attribute uri local) p value (Ok plan) × (edited (edited t plan) plan ≡ edited t plan)
 written_again u t selector uri local p value plan ends_so h =
     let w = written_twice u t selector.steps uri local p value plan h in
-    subst (λ (x : Change). IsSpotOf (edited t x) selector (Value p) × IsAttrPlan u (edited t x) selector.steps (ends.Attribute uri local) p value (Ok x) × (edited (edited t x) x ≡ edited t x)) (sym h.is)
+    subst (λ (x : Change). IsSpotOf (edited t x) selector (Value p) × IsAttrPlan (record { usage = u; document = edited t x; steps = selector.steps }) (ends.Attribute uri local) p value (Ok x) × (edited (edited t x) x ≡ edited t x)) (sym h.is)
     (((uri, (local, ends_so)), h.finds.selects), w.0, w.1)

@@ -5,8 +5,8 @@ use Rattle.std.proofs.lemmas.Option.{same_Some}
 use Rattle.std.specs.Option.{ForSome}
 use Rattle.xml_tree.specs.Tree.{Tree, child_elements_of, at}
 use Rattle.xml_tree.specs.Edits.{put_in}
-use Rattle.xml_tree.specs.Scopes.{scope_at, scope_below, inside}
-use Rattle.xml_tree.proofs.ScopeLemmas.{scope_at-below}
+use Rattle.xml_tree.specs.TreeScopes.{scope_at, scope_below, inside}
+use Rattle.xml_tree.proofs.TreeScopeLemmas.{scope_at-below}
 use Rattle.doc_names.specs.declared.usages.Usage.{Usage}
 use Rattle.usage_docs.specs.declared.schema_table.ElementKind.{ElementKind}
 use Rattle.usage_docs.specs.SchemaTable.{Scope, root_kind}

@@ -5,9 +5,9 @@ use Rattle.std.proofs.lemmas.Option.{same_Some}
 use Rattle.std.specs.Option.{ForSome}
 use Rattle.xml_tree.specs.Tree.{Content, last, more, comment_node, more_of, Tree, tree_of, child_elements, child_elements_of, at}
 use Rattle.xml_tree.specs.Edits.{with_text_before, change, change_at, change_child, cut, cut_child, put_over, take_in}
-use Rattle.xml_tree.specs.Scopes.{scope_at, scope_below, inside}
+use Rattle.xml_tree.specs.TreeScopes.{scope_at, scope_below, inside}
 use Rattle.xml_tree.proofs.PlaceLaws.{change_at-append}
-use Rattle.xml_tree.proofs.ScopeLemmas.{scope_at-below}
+use Rattle.xml_tree.proofs.TreeScopeLemmas.{scope_at-below}
 use Rattle.doc_names.specs.declared.usages.Usage.{Usage}
 use Rattle.usage_docs.specs.declared.schema_table.ElementKind.{ElementKind}
 use Rattle.usage_docs.specs.SchemaTable.{Scope, root_kind}

@@ -9,16 +9,16 @@ use Rattle.std.proofs.lemmas.Option.{same_Some}
 use Rattle.xml_grammar.specs.Rules.{AllPass, Event, Mark, Rule, Split, keeping_second, empty, judged, only, optional, sequence, valued, word}
 use Rattle.xml_grammar.specs.Reading.{Stop}
 use Rattle.xml_grammar.specs.Answers.{Answers, IsCalm}
-use Rattle.xml_tree.specs.Characters.{is_name, is_name_char, is_name_start}
-use Rattle.xml_tree.specs.Scopes.{bound, declared, joined, some_text, xml_prefix, xml_uri, xmlns_prefix}
-use Rattle.xml_tree.specs.declared.names.Name.{Name}
-use Rattle.xml_tree.specs.declared.names.Decl.{Decl}
-use Rattle.tree_text.specs.readers.Words.{colon}
-use Rattle.tree_text.specs.Pieces.{qname_of}
-use Rattle.tree_text.specs.Grammar.{name, qname}
-use Rattle.tree_text.specs.declared.fault_kind.FaultKind.{FaultKind}
-use Rattle.tree_text.specs.declared.fault_kind.FaultKind.TheVariants.{Unbound}
-use Rattle.tree_text.proofs.ProperTags.{pass_all}
+use Rattle.xml_names.specs.Characters.{is_name, is_name_char, is_name_start}
+use Rattle.xml_names.specs.Scopes.{bound, declared, joined, some_text, xml_prefix, xml_uri, xmlns_prefix}
+use Rattle.xml_names.specs.declared.names.Name.{Name}
+use Rattle.xml_names.specs.declared.names.Decl.{Decl}
+use Rattle.xml_tokens.specs.readers.Words.{colon}
+use Rattle.xml_tokens.specs.Values.{qname_of}
+use Rattle.xml_tokens.specs.Tokens.{name, qname}
+use Rattle.xml_tokens.specs.declared.fault_kind.FaultKind.{FaultKind}
+use Rattle.xml_tokens.specs.declared.fault_kind.FaultKind.TheVariants.{Unbound}
+use Rattle.xml_tokens.proofs.Passing.{pass_all}
 use Rattle.node_select.specs.Faults.{IsSelectorAnswer, marks, selector_result as told}
 use Rattle.node_select.specs.Grammar.{IsUnbound, attribute, end, names_attribute, selector, steps}
 use Rattle.node_select.specs.readers.SelectorValues.{end_or_element}

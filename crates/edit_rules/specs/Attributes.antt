@@ -1,16 +1,17 @@
 -- The attribute that a PUT writes. RFC 4825, sections 8.2.3 and 8.2.4; Namespaces in XML 1.0,
 -- section 6.2: the default namespace doesn't apply to attributes, so only a prefix gives one a
 -- namespace. Which prefix a new attribute gets is this server's choice.
-use Rattle.std.specs.Prelude.{◌≡◌, ◌≢◌, ℕ, Bool, ◌&&◌, not, List, [], Option, None, Some, option_map, find, IsTrue, Result, Err, if◌then◌else◌}
+use Rattle.std.specs.Prelude.{◌≡◌, ◌≢◌, ℕ, Bool, ◌&&◌, not, List, [], Option, None, Some}
+use Rattle.std.specs.Prelude.{option_map, find, IsTrue, Result, Err, if◌then◌else◌}
 use Rattle.std.specs.Option.{option_map_or}
 use Rattle.std.specs.Str.{bytes_eq}
-use Rattle.doc_names.specs.declared.usages.Usage.{Usage}
 use Rattle.xml_tree.specs.Tree.{Tree, at}
-use Rattle.xml_tree.specs.Characters.{is_name}
-use Rattle.xml_tree.specs.Scopes.{bindings_in, scope_at, xml_prefix, xml_uri, xmlns_prefix}
-use Rattle.xml_tree.specs.declared.names.Name.{Name}
-use Rattle.xml_tree.specs.declared.names.Decl.{Decl}
-use Rattle.xml_tree.specs.declared.names.Attr.{Attr}
+use Rattle.xml_names.specs.Characters.{is_name}
+use Rattle.xml_names.specs.Scopes.{bindings_in, xml_prefix, xml_uri, xmlns_prefix}
+use Rattle.xml_tree.specs.TreeScopes.{scope_at}
+use Rattle.xml_names.specs.declared.names.Name.{Name}
+use Rattle.xml_names.specs.declared.names.Decl.{Decl}
+use Rattle.xml_names.specs.declared.names.Attr.{Attr}
 use Rattle.node_select.specs.Selection.{SelectsPath, is_attr}
 use Rattle.node_select.specs.declared.selector.Step.{Step}
 use Rattle.node_select.specs.declared.selector.End.{End}
@@ -20,7 +21,8 @@ use Rattle.edit_ops.specs.declared.change.Change.{Change}
 use Rattle.edit_ops.specs.declared.change.Change.TheVariants.{SetAttr}
 use Rattle.edit_rules.specs.declared.refusal.EditRefusal.{EditRefusal}
 use Rattle.edit_rules.specs.declared.refusal.EditRefusal.TheVariants.{CannotInsert}
-use Rattle.edit_rules.specs.Plans.{IsTested}
+use Rattle.edit_rules.specs.Contexts.{AttrPlace, PutContext}
+use Rattle.edit_rules.specs.Plans.{IsJudged, IsTested}
 
 -- ---- the name of the written attribute
 
@@ -38,39 +40,53 @@ new_prefix c uri =
 
 -- the name of a new attribute, if there is a prefix for it
 abbrev pub new_name : List (List Decl) → List ℕ → List ℕ → Option Name
-new_name c uri local = option_map (λ prefix. record { prefix = prefix; local = local }) (new_prefix c uri)
+new_name c uri local =
+    option_map (λ prefix. record { prefix = prefix; local = local }) (new_prefix c uri)
 
 -- the name of the written attribute of this namespace and local name, among these attributes: an
 -- existing one keeps its name
 abbrev pub written_name : List (List Decl) → List ℕ → List ℕ → List Attr → Option Name
-written_name c uri local attrs = option_map_or (λ attr. Some attr.name) (find (is_attr c uri local) attrs) (new_name c uri local)
+written_name c uri local attrs =
+    option_map_or (λ attr. Some attr.name) (find (is_attr c uri local) attrs) (new_name c uri local)
 
 -- ---- the plan
 
--- the steps select the element at p, and its attribute of this namespace and local name has the
--- value
-pub record FindsValue (steps : List Step) (uri local : List ℕ) (t : Tree) (p : List ℕ) (value : List ℕ) : Type 0 where
-  pub selects : SelectsPath steps t p
+-- the steps select the element at the place's path, and its attribute of the place's namespace and
+-- local name has the value
+pub record FindsValue (steps : List Step) (place : AttrPlace) (t : Tree)
+    (value : List ℕ) : Type 0 where
+  pub selects : SelectsPath steps t place.path
   pub element : Tree
-  pub there : at p t ≡ Some element
-  pub has : option_map (λ a. a.value) (find (is_attr (scope_at p t) uri local) element.attrs) ≡ Some value
+  pub there : at place.path t ≡ Some element
+  pub has : option_map (λ a. a.value)
+      (find (is_attr (scope_at place.path t) place.uri place.local) element.attrs)
+      ≡ Some value
 
 -- the attribute is written under its name, if there is one; `CannotInsert` where there is none,
 -- or where the address wouldn't find the value afterwards
-abbrev pub IsWriting : Usage → Tree → List Step → List ℕ → List ℕ → List ℕ → List ℕ → Option Name → Result Change EditRefusal → Type 0
-IsWriting u t steps uri local p value (Some name) result = IsTested CannotInsert (FindsValue steps uri local (edited t (SetAttr p name value)) p value) u t (SetAttr p name value) result
-IsWriting u t steps uri local p value None result = result ≡ Err CannotInsert
+abbrev pub IsWriting : PutContext → AttrPlace → List ℕ → Option Name → Result Change EditRefusal
+    → Type 0
+IsWriting context place value (Some name) result =
+    let change = SetAttr place.path name value in
+    IsTested CannotInsert (FindsValue context.steps place (edited context.document change) value)
+    (IsJudged context.usage context.document change) result
+IsWriting context place value None result = result ≡ Err CannotInsert
 
--- the plan of a PUT of the attribute of this namespace and local name of the element at p
-pub record IsValuePlan (u : Usage) (t : Tree) (steps : List Step) (uri local : List ℕ) (p : List ℕ) (value : List ℕ) (result : Result Change EditRefusal) : Type 0 where
+-- the plan of a PUT of the attribute at this place
+pub record IsValuePlan (context : PutContext) (place : AttrPlace) (value : List ℕ)
+    (result : Result Change EditRefusal) : Type 0 where
   pub element : Tree
-  pub there : at p t ≡ Some element
-  pub plan : IsWriting u t steps uri local p value (written_name (scope_at p t) uri local element.attrs) result
+  pub there : at place.path context.document ≡ Some element
+  pub plan : IsWriting context place value
+      (written_name (scope_at place.path context.document) place.uri place.local element.attrs)
+      result
 
--- the plan by how the selector ends: only a selector that ends in an attribute has a plan here
-abbrev pub IsAttrPlan : Usage → Tree → List Step → End → List ℕ → List ℕ → Result Change EditRefusal → Type 0
-IsAttrPlan u t steps (ends.Attribute uri local) p value result = IsValuePlan u t steps uri local p value result
-IsAttrPlan u t steps _ p value result = ⊥
+-- the plan for the element at p by how the selector ends: only a selector that ends in an
+-- attribute has a plan here
+abbrev pub IsAttrPlan : PutContext → End → List ℕ → List ℕ → Result Change EditRefusal → Type 0
+IsAttrPlan context (ends.Attribute uri local) p value result =
+    IsValuePlan context (record { path = p; uri = uri; local = local }) value result
+IsAttrPlan context _ p value result = ⊥
 
 -- ---- what may be written
 

@@ -3,9 +3,9 @@
 use Rattle.std.specs.Prelude.{◌≡◌, ℕ, List, [], ◌∷◌, None, Some, slice_get}
 use Rattle.std.specs.List.{AllByRecursion}
 use Rattle.xml_tree.specs.Tree.{Tree, child_elements_of}
-use Rattle.xml_tree.specs.Expanded.{element_name}
+use Rattle.xml_names.specs.Expanded.{element_name}
 use Rattle.xml_tree.specs.Proper.{ProperIn}
-use Rattle.xml_tree.specs.Scopes.{inside}
+use Rattle.xml_tree.specs.TreeScopes.{inside}
 use Rattle.node_select.specs.Names.{uri_of}
 use Rattle.node_select.specs.declared.selector.NameTest.TheVariants.{Named}
 use Rattle.node_select.specs.declared.selector.Step.{Step}
@@ -37,7 +37,12 @@ pub record IsKeyStep (step : Step) : Type 0 where
 
 -- the step that is the root's name
 abbrev pub root_step : Tree → Step
-root_step t = record { name = Named (uri_of (element_name (t.decls ∷ []) t.name)) t.name.local; position = None; test = None }
+root_step t =
+    record {
+      name = Named (uri_of (element_name (t.decls ∷ []) t.name)) t.name.local;
+      position = None;
+      test = None;
+    }
 
 -- the first step is the root's name, and each later one is a key step
 abbrev pub AreKeySteps : Tree → List Step → Type 0
@@ -51,7 +56,11 @@ AreKeySteps t (first ∷ later) = (first ≡ root_step t) × AllByRecursion IsKe
 abbrev pub HaveKinds : ElementKind → Scope → List Tree → List ℕ → Type 0
 HaveKinds row c child_elements [] = Unit {0}
 HaveKinds row c child_elements (i ∷ p) =
-    (child_element : Tree) × ((kind : ElementKind) × ((slice_get child_elements i ≡ Some child_element) × (kind_of row (inside c child_element) child_element.name ≡ Some kind) × HaveKinds kind (inside c child_element) (child_elements_of child_element) p))
+    (child_element : Tree)
+    × ((kind : ElementKind)
+    × ((slice_get child_elements i ≡ Some child_element)
+    × (kind_of row (inside c child_element) child_element.name ≡ Some kind)
+    × HaveKinds kind (inside c child_element) (child_elements_of child_element) p))
 
 -- ---- key addresses
 

@@ -2,7 +2,7 @@
 -- sections 3.4.5 and 4.4.5, on the attributes that distinguish an element from its siblings.
 use Rattle.std.specs.Prelude.{◌≡◌, ℕ, List, [], IsSome, Some}
 use Rattle.xml_tree.specs.Tree.{Tree}
-use Rattle.xml_tree.specs.declared.names.Name.{Name}
+use Rattle.xml_names.specs.declared.names.Name.{Name}
 use Rattle.doc_names.specs.declared.usages.Usage.{Usage}
 use Rattle.usage_docs.specs.declared.schema_table.ElementKind.{ElementKind}
 use Rattle.usage_docs.specs.declared.schema_table.Key.{Key}
@@ -46,5 +46,6 @@ WritesKeyOn u t p _ = ⊥
 -- key of an element on p is written or dropped; and it is a key address of that element too
 abbrev pub KeepsKeyAddresses : Usage → Tree → Change → Type 0
 KeepsKeyAddresses u t change =
-    (selector : Selector) (p q : List ℕ) → IsKeyAddressOf u t selector p → SelectsPath selector.steps t p → moved p change ≡ Some q → (WritesKeyOn u t p change → ⊥)
+    (selector : Selector) (p q : List ℕ) → IsKeyAddressOf u t selector p
+    → SelectsPath selector.steps t p → moved p change ≡ Some q → (WritesKeyOn u t p change → ⊥)
     → SelectsPath selector.steps (edited t change) q × IsKeyAddressOf u (edited t change) selector q

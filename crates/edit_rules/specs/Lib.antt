@@ -1,4 +1,5 @@
 pub mod Attributes
+pub mod Contexts
 pub mod Deletions
 pub mod KeyAddresses
 pub mod KeyWrites

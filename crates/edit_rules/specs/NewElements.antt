@@ -1,7 +1,7 @@
 -- What is checked beside a change: the new element and its siblings.
 use Rattle.std.specs.Prelude.{◌≡◌, ◌<◌, ◌≤◌, ◌⊎◌, ℕ, suc, List, [], ◌∷◌, Some}
 use Rattle.xml_tree.specs.Tree.{Tree, child_elements_of}
-use Rattle.xml_tree.specs.Scopes.{inside}
+use Rattle.xml_tree.specs.TreeScopes.{inside}
 use Rattle.usage_docs.specs.declared.schema_table.ElementKind.{ElementKind}
 use Rattle.usage_docs.specs.declared.schema_table.Key.{Key}
 use Rattle.usage_docs.specs.SchemaTable.{Scope}
@@ -9,30 +9,39 @@ use Rattle.usage_docs.specs.Keys.{key_of}
 use Rattle.usage_docs.specs.UniqueKeys.{Mark, mark_of, mark_at, RepeatsAt}
 use Rattle.usage_docs.specs.Kinds.{kind_of_child}
 
+-- the siblings of a new element, with the element kind of their parent and the scope inside it
+pub record Siblings : Type 0 where
+  pub kind : ElementKind
+  pub scope : Scope
+  pub elements : List Tree
+
 -- the i-th sibling has the kind and the key of the new element
-pub record IsDuplicate (row : ElementKind) (c : Scope) (child_elements : List Tree) (new : Tree) (i : ℕ) (key : Key) : Type 0 where
+pub record IsDuplicate (siblings : Siblings) (new : Tree) (i : ℕ) (key : Key) : Type 0 where
   pub shared : Mark
-  pub that : mark_at row c child_elements i ≡ Some shared
-  pub of_new : mark_of row c new ≡ Some shared
+  pub that : mark_at siblings.kind siblings.scope siblings.elements i ≡ Some shared
+  pub of_new : mark_of siblings.kind siblings.scope new ≡ Some shared
   pub by_key : key_of shared.kind ≡ Some key
 
 -- an element in the new one, at this path from it, repeats a sibling's key
 abbrev pub ClashesInside : ElementKind → Scope → Tree → List ℕ → Key → Type 0
-ClashesInside row c new p key = (kind : ElementKind) × ((kind_of_child row c new ≡ Some kind) × RepeatsAt kind (inside c new) (child_elements_of new) p key)
+ClashesInside row c new p key =
+    (kind : ElementKind)
+    × ((kind_of_child row c new ≡ Some kind)
+    × RepeatsAt kind (inside c new) (child_elements_of new) p key)
 
 -- no two children of one element in the new one have the same kind and equal keys
 abbrev pub UniqueInside : ElementKind → Scope → Tree → Type 0
 UniqueInside row c new = (p : List ℕ) (key : Key) → ClashesInside row c new p key → ⊥
 
 -- no sibling has the kind and the key of the new one
-abbrev pub NoDuplicate : ElementKind → Scope → List Tree → Tree → Type 0
-NoDuplicate row c child_elements new = (i : ℕ) (key : Key) → IsDuplicate row c child_elements new i key → ⊥
+abbrev pub NoDuplicate : Siblings → Tree → Type 0
+NoDuplicate siblings new = (i : ℕ) (key : Key) → IsDuplicate siblings new i key → ⊥
 
 -- where clashes come from once the new element is in the gap: it repeats the key of a sibling
 -- before it; or an element in it repeats a sibling's key; or a sibling after it, whose number is
 -- then one greater, repeats its key
-abbrev pub ClashesBeside : ElementKind → Scope → List Tree → Tree → ℕ → List ℕ → Key → Type 0
-ClashesBeside row c child_elements new gap r key =
-    ((r ≡ gap ∷ []) × ((i : ℕ) × ((i < gap) × IsDuplicate row c child_elements new i key)))
-    ⊎ ((p : List ℕ) × ((r ≡ gap ∷ p) × ClashesInside row c new p key))
-    ⊎ ((i : ℕ) × ((r ≡ suc i ∷ []) × ((gap ≤ i) × IsDuplicate row c child_elements new i key)))
+abbrev pub ClashesBeside : Siblings → Tree → ℕ → List ℕ → Key → Type 0
+ClashesBeside siblings new gap r key =
+    ((r ≡ gap ∷ []) × ((i : ℕ) × ((i < gap) × IsDuplicate siblings new i key)))
+    ⊎ ((p : List ℕ) × ((r ≡ gap ∷ p) × ClashesInside siblings.kind siblings.scope new p key))
+    ⊎ ((i : ℕ) × ((r ≡ suc i ∷ []) × ((gap ≤ i) × IsDuplicate siblings new i key)))

@@ -5,7 +5,7 @@ use Rattle.std.specs.Prelude.{◌≡◌, ◌⊎◌, ◌≤◌, [], Option, None,
 use Rattle.doc_names.specs.declared.usages.Usage.{Usage}
 use Rattle.xml_tree.specs.Tree.{Tree, height}
 use Rattle.xml_tree.specs.Proper.{ProperIn}
-use Rattle.xml_tree.specs.Limits.{max_levels}
+use Rattle.xml_names.specs.Limits.{max_levels}
 use Rattle.usage_docs.specs.Validation.{HasFirstFault}
 use Rattle.usage_docs.specs.declared.validation.Fault.{Fault}
 use Rattle.edit_ops.specs.Changes.{Fits, edited}
@@ -20,11 +20,15 @@ by_fault change (Some fault) = Err (Faulty fault)
 
 -- the result for a change, by the first fault of the resulting document
 abbrev pub IsJudged : Usage → Tree → Change → Result Change EditRefusal → Type 0
-IsJudged u t change result = (fault : Option Fault) × (HasFirstFault u (edited t change) fault × (result ≡ by_fault change fault))
+IsJudged u t change result =
+    (fault : Option Fault)
+    × (HasFirstFault u (edited t change) fault × (result ≡ by_fault change fault))
 
--- the result for a change that is lawful, or the given refusal where it isn't
-abbrev pub IsTested : EditRefusal → Type 0 → Usage → Tree → Change → Result Change EditRefusal → Type 0
-IsTested unlawful lawful u t change result = ((result ≡ Err unlawful) × (lawful → ⊥)) ⊎ (lawful × IsJudged u t change result)
+-- a lawful change has the result of this judgement, one that isn't lawful the given refusal
+abbrev pub IsTested : EditRefusal → Type 0 → (Result Change EditRefusal → Type 0)
+    → Result Change EditRefusal → Type 0
+IsTested unlawful lawful Judgement result =
+    ((result ≡ Err unlawful) × (lawful → ⊥)) ⊎ (lawful × Judgement result)
 
 -- the change fits the document, and makes a proper one of at most `max_levels` levels
 pub record LeavesProper (t : Tree) (change : Change) : Type 0 where

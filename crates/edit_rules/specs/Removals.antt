@@ -16,4 +16,6 @@ StillSelects c step child_elements j = (i : ℕ) × SelectsChild c step (remove 
 -- without the child the next one may follow the one before it, by the content model of the kind,
 -- if there is one
 abbrev pub ClosesUp : Option ElementKind → Scope → Content → ℕ → Type 0
-ClosesUp row c content j = ForSome row (λ kind. IsTrue (follows kind (part_before kind c 0 j content) (part_after kind c (suc j) content)))
+ClosesUp row c content j =
+    ForSome row (λ kind.
+    IsTrue (follows kind (part_before kind c 0 j content) (part_after kind c (suc j) content)))

@@ -35,12 +35,17 @@ EndsInAttribute end = (uri : List ℕ) × ((local : List ℕ) × (end ≡ ends.A
 --     Value p    it ends in an attribute, and the steps select the element at p
 abbrev pub IsSpotOf : Tree → Selector → Spot → Type 0
 IsSpotOf t selector (Over p) = (selector.end ≡ ends.Element) × SelectsPath selector.steps t p
-IsSpotOf t selector (Under q) = (selector.end ≡ ends.Element) × SelectNothing selector.steps t × SelectsParent selector.steps t q
-IsSpotOf t selector Beside = (selector.end ≡ ends.Element) × SelectNothing selector.steps t × ((step : Step) × (selector.steps ≡ step ∷ []))
+IsSpotOf t selector (Under q) =
+    (selector.end ≡ ends.Element) × SelectNothing selector.steps t
+    × SelectsParent selector.steps t q
+IsSpotOf t selector Beside =
+    (selector.end ≡ ends.Element) × SelectNothing selector.steps t
+    × ((step : Step) × (selector.steps ≡ step ∷ []))
 IsSpotOf t selector (Value p) = EndsInAttribute selector.end × SelectsPath selector.steps t p
 
 -- the edit target of an address; where there is none, the greatest number of its first steps that
 -- select an element
 abbrev pub IsSpot : Tree → Selector → Result Spot NoParent → Type 0
 IsSpot t selector (Ok spot) = IsSpotOf t selector spot
-IsSpot t selector (Err none) = IsLongestMatch selector.steps t none.steps × ((spot : Spot) → IsSpotOf t selector spot → ⊥)
+IsSpot t selector (Err none) =
+    IsLongestMatch selector.steps t none.steps × ((spot : Spot) → IsSpotOf t selector spot → ⊥)

@@ -3,12 +3,12 @@
 use Rattle.std.specs.Prelude.{Bool, true, List, [], Option, IsTrue}
 use Rattle.std.specs.Option.{ForSome}
 use Rattle.xml_tree.specs.Tree.{last, Tree, tree_of}
-use Rattle.xml_tree.specs.declared.names.Attr.{Attr}
+use Rattle.xml_names.specs.declared.names.Attr.{Attr}
 use Rattle.usage_docs.specs.declared.schema_table.ElementKind.{ElementKind}
 use Rattle.usage_docs.specs.declared.schema_table.ElementKind.TheVariants.{ResourceList}
 use Rattle.usage_docs.specs.SchemaTable.{Scope}
 use Rattle.usage_docs.specs.Keys.{attrs_pass}
-use Rattle.xml_tree.specs.Scopes.{inside}
+use Rattle.xml_tree.specs.TreeScopes.{inside}
 use Rattle.usage_docs.specs.Forms.{is_formed}
 use Rattle.usage_docs.specs.Kinds.{kind_of_child}
 
@@ -21,7 +21,9 @@ tag_with ats e = tree_of e.name e.decls ats (last [])
 
 -- the element's kind, if it has one, allows the attributes
 abbrev pub AttrsPass : Option ElementKind → Scope → Tree → Type 0
-AttrsPass row c tag = ForSome row (λ kind. ForSome (kind_of_child kind c tag) (λ own. IsTrue (attrs_pass own (inside c tag) tag.attrs)))
+AttrsPass row c tag =
+    ForSome row (λ kind.
+    ForSome (kind_of_child kind c tag) (λ own. IsTrue (attrs_pass own (inside c tag) tag.attrs)))
 
 -- the reference among the attributes of an element of this kind has its form; a resource-list's
 -- reference is its text
@@ -31,4 +33,6 @@ attrs_formed kind ats = is_formed kind ats (last [])
 
 -- the reference of the element has its form, if it has a kind
 abbrev pub AttrsFormed : Option ElementKind → Scope → Tree → Type 0
-AttrsFormed row c tag = ForSome row (λ kind. ForSome (kind_of_child kind c tag) (λ own. IsTrue (attrs_formed own tag.attrs)))
+AttrsFormed row c tag =
+    ForSome row (λ kind.
+    ForSome (kind_of_child kind c tag) (λ own. IsTrue (attrs_formed own tag.attrs)))

@@ -1,13 +1,14 @@
 //! Laws of changes, each the contract of a function that does nothing: what has to be checked of
 //! a new document is checked beside the change.
-ghost use Rattle.std.specs.Prelude.{◌≡◌, ◌↔◌, ◌≤◌, ℕ, suc, IsTrue, List, [], ◌∷◌, ◌++◌, length, remove, slice_get, Option, Some};
+ghost use Rattle.std.specs.Prelude.{◌≡◌, ◌↔◌, ◌≤◌, ℕ, suc, IsTrue, List, [], ◌∷◌, ◌++◌, length};
+ghost use Rattle.std.specs.Prelude.{remove, slice_get, Option, Some};
 ghost use Rattle.std.specs.Option.{ForSome};
 ghost use Rattle.node_select.specs.InsertionPoints.{IsLawfulInsertion};
 ghost use Rattle.doc_names.specs.declared.usages.Usage.{Usage};
 ghost use Rattle.xml_tree.specs.Tree.{Tree, at, child_elements_of};
 ghost use Rattle.xml_tree.specs.Edits.{change_at, put_in, put_over, take_in};
-ghost use Rattle.xml_tree.specs.Scopes.{scope_at};
-ghost use Rattle.xml_tree.specs.declared.names.Attr.{Attr};
+ghost use Rattle.xml_tree.specs.TreeScopes.{scope_at};
+ghost use Rattle.xml_names.specs.declared.names.Attr.{Attr};
 ghost use Rattle.xml_tree.specs.declared.tree.Node.TheVariants.{Elem};
 ghost use Rattle.node_select.specs.Selection.{SelectsPath, is_named, is_tested};
 ghost use Rattle.node_select.specs.declared.selector.Step.{Step};
@@ -87,27 +88,42 @@ pub fn clashes_beside_a_change()
         → at q t ≡ Some parent → gap ≤ length (child_elements_of parent) → HasUniqueKeys u t
         → HasUniqueKeys u (put_in q gap new t)
         ↔ ForSome (kind_at u t q)
-        (λ kind. NoDuplicate kind (scope_at q t) (child_elements_of parent) new
+        (λ kind. NoDuplicate
+        (record { kind = kind; scope = scope_at q t; elements = child_elements_of parent }) new
         × UniqueInside kind (scope_at q t) new) }
     ensures insertion_first { (u : Usage) (t parent new : Tree) (q : List ℕ) (gap : ℕ)
         (kind : ElementKind) (found : Option Clash)
         → at q t ≡ Some parent → gap ≤ length (child_elements_of parent) → HasUniqueKeys u t
         → kind_at u t q ≡ Some kind
-        → IsFirst (ClashesBeside kind (scope_at q t) (child_elements_of parent) new gap) q found
+        → IsFirst (ClashesBeside
+        (record { kind = kind; scope = scope_at q t; elements = child_elements_of parent }) new
+        gap) q found
         ↔ IsFirstClash u (put_in q gap new t) found }
     ensures on_replacement { (u : Usage) (t parent child_element new : Tree) (q : List ℕ) (i : ℕ)
         → at q t ≡ Some parent → slice_get (child_elements_of parent) i ≡ Some child_element
         → HasUniqueKeys u t
         → HasUniqueKeys u (put_over (q ++ i ∷ []) new t)
         ↔ ForSome (kind_at u t q)
-        (λ kind. NoDuplicate kind (scope_at q t) (remove (child_elements_of parent) i) new
+        (λ kind. NoDuplicate
+        (record {
+          kind = kind;
+          scope = scope_at q t;
+          elements = remove (child_elements_of parent) i;
+        })
+        new
         × UniqueInside kind (scope_at q t) new) }
     ensures replacement_first { (u : Usage) (t parent child_element new : Tree) (q : List ℕ) (i : ℕ)
         (kind : ElementKind) (found : Option Clash)
         → at q t ≡ Some parent → slice_get (child_elements_of parent) i ≡ Some child_element
         → HasUniqueKeys u t → kind_at u t q ≡ Some kind
-        → IsFirst (ClashesBeside kind (scope_at q t) (remove (child_elements_of parent) i) new i) q
-        found ↔ IsFirstClash u (put_over (q ++ i ∷ []) new t) found }
+        → IsFirst (ClashesBeside
+        (record {
+          kind = kind;
+          scope = scope_at q t;
+          elements = remove (child_elements_of parent) i;
+        })
+        new i) q found
+        ↔ IsFirstClash u (put_over (q ++ i ∷ []) new t) found }
     ensures on_removal { (u : Usage) (t parent : Tree) (q : List ℕ) (i : ℕ) → at q t ≡ Some parent
         → HasUniqueKeys u t → HasUniqueKeys u (take_in q i t) }
 {}
@@ -159,7 +175,12 @@ pub fn new_attributes_beside_a_change()
         (attrs : List Attr) (kind : ElementKind) (found : Option Clash)
         → at q t ≡ Some parent → slice_get (child_elements_of parent) i ≡ Some child_element
         → at (q ++ i ∷ []) t ≡ Some child_element → HasUniqueKeys u t → kind_at u t q ≡ Some kind
-        → IsFirst (ClashesBeside kind (scope_at q t) (remove (child_elements_of parent) i)
+        → IsFirst (ClashesBeside
+        (record {
+          kind = kind;
+          scope = scope_at q t;
+          elements = remove (child_elements_of parent) i;
+        })
         (tag_with attrs child_element) i) q found
         ↔ IsFirstClash u (put_over (q ++ i ∷ []) (with_attrs attrs child_element) t) found }
 {}

@@ -3,11 +3,11 @@
 //! nothing (RFC 4825, sections 8.2.3, 8.2.4 and 8.4; RFC 9110, section 9.2.2).
 ghost use Rattle.std.specs.Prelude.{◌≡◌, ◌≤◌, ℕ, List, [], None, Some, Result, Ok, IsTrue};
 ghost use Rattle.doc_names.specs.declared.usages.Usage.{Usage};
-ghost use Rattle.xml_tree.specs.Limits.{max_levels};
-ghost use Rattle.xml_tree.specs.Characters.{all_chars};
+ghost use Rattle.xml_names.specs.Limits.{max_levels};
+ghost use Rattle.xml_names.specs.Characters.{all_chars};
 ghost use Rattle.xml_tree.specs.Proper.{ProperIn};
 ghost use Rattle.xml_tree.specs.Tree.{Tree, at, height};
-ghost use Rattle.xml_tree.specs.declared.names.Decl.{Decl};
+ghost use Rattle.xml_names.specs.declared.names.Decl.{Decl};
 ghost use Rattle.node_select.specs.Faults.{IsSelectorAnswer};
 ghost use Rattle.node_select.specs.Selection.{Found, SelectsPath};
 ghost use Rattle.node_select.specs.declared.selector.End.{End};
@@ -22,6 +22,7 @@ ghost use Rattle.edit_rules.specs.declared.spot.Spot.TheVariants.{Over, Value};
 ghost use Rattle.edit_rules.specs.declared.spot.NoParent.{NoParent};
 ghost use Rattle.edit_rules.specs.declared.refusal.EditRefusal.{EditRefusal};
 ghost use Rattle.edit_rules.specs.Attributes.{FindsValue, IsAttrPlan, IsWritable};
+ghost use Rattle.edit_rules.specs.Contexts.{PutContext};
 ghost use Rattle.edit_rules.specs.Deletions.{IsDeletePlan};
 ghost use Rattle.edit_rules.specs.Plans.{LeavesProper};
 ghost use Rattle.edit_rules.specs.Puts.{HasRoomAt, IsProperAt, IsPutPlan};
@@ -30,26 +31,25 @@ ghost use Rattle.edit_rules.specs.Spots.{IsSpot, IsSpotOf};
 /// After the planned PUT of an element the address selects exactly it, and the document has no
 /// fault.
 pub fn what_was_put_is_selected()
-    ensures put_is_selected { (u : Usage) (t : Tree) (selector : Selector) (spot : Spot) (e : Tree)
-        (change : Change) → IsPutPlan u t selector.steps spot e (Ok change)
-        → (p : List ℕ) × SelectsPath selector.steps (edited t change) p
-        × (at p (edited t change) ≡ Some e) }
-    ensures without_fault { (u : Usage) (t : Tree) (selector : Selector) (spot : Spot) (e : Tree)
-        (change : Change) → IsPutPlan u t selector.steps spot e (Ok change)
-        → HasFirstFault u (edited t change) None }
+    ensures put_is_selected { (context : PutContext) (spot : Spot) (e : Tree) (change : Change)
+        → IsPutPlan context spot e (Ok change)
+        → (p : List ℕ) × SelectsPath context.steps (edited context.document change) p
+        × (at p (edited context.document change) ≡ Some e) }
+    ensures without_fault { (context : PutContext) (spot : Spot) (e : Tree) (change : Change)
+        → IsPutPlan context spot e (Ok change)
+        → HasFirstFault context.usage (edited context.document change) None }
 {}
 
 /// After the planned PUT of an attribute the address finds it with the value, and the document has
 /// no fault.
 pub fn what_was_written_is_found()
-    ensures value_found { (u : Usage) (t : Tree) (selector : Selector) (uri local p value : List ℕ)
-        (change : Change) → IsAttrPlan u t selector.steps (ends.Attribute uri local) p value
-        (Ok change)
-        → FindsValue selector.steps uri local (edited t change) p value }
-    ensures without_fault { (u : Usage) (t : Tree) (selector : Selector)
-        (uri local p value : List ℕ) (change : Change)
-        → IsAttrPlan u t selector.steps (ends.Attribute uri local) p value (Ok change)
-        → HasFirstFault u (edited t change) None }
+    ensures value_found { (context : PutContext) (uri local p value : List ℕ) (change : Change)
+        → IsAttrPlan context (ends.Attribute uri local) p value (Ok change)
+        → FindsValue context.steps (record { path = p; uri = uri; local = local })
+        (edited context.document change) value }
+    ensures without_fault { (context : PutContext) (uri local p value : List ℕ) (change : Change)
+        → IsAttrPlan context (ends.Attribute uri local) p value (Ok change)
+        → HasFirstFault context.usage (edited context.document change) None }
 {}
 
 /// After the planned DELETE the address finds nothing, and the document has no fault.
@@ -65,9 +65,11 @@ pub fn what_was_deleted_is_not_found()
 pub fn an_element_is_put_twice()
     ensures same_plan { (u : Usage) (t : Tree) (selector : Selector) (spot : Spot) (e : Tree)
         (change : Change) → selector.end ≡ ends.Element
-        → IsPutPlan u t selector.steps spot e (Ok change)
+        → IsPutPlan (record { usage = u; document = t; steps = selector.steps }) spot e (Ok change)
         → (p : List ℕ) × IsSpotOf (edited t change) selector (Over p)
-        × IsPutPlan u (edited t change) selector.steps (Over p) e (Ok (Replace p e))
+        × IsPutPlan
+        (record { usage = u; document = edited t change; steps = selector.steps }) (Over p) e
+        (Ok (Replace p e))
         × (edited (edited t change) (Replace p e) ≡ edited t change) }
 {}
 
@@ -76,23 +78,24 @@ pub fn an_element_is_put_twice()
 pub fn an_attribute_is_put_twice()
     ensures same_plan { (u : Usage) (t : Tree) (selector : Selector) (uri local p value : List ℕ)
         (change : Change) → selector.end ≡ ends.Attribute uri local
-        → IsAttrPlan u t selector.steps (ends.Attribute uri local) p value (Ok change)
+        → IsAttrPlan (record { usage = u; document = t; steps = selector.steps })
+        (ends.Attribute uri local) p value (Ok change)
         → IsSpotOf (edited t change) selector (Value p)
-        × IsAttrPlan u (edited t change) selector.steps (ends.Attribute uri local) p value
-        (Ok change) × (edited (edited t change) change ≡ edited t change) }
+        × IsAttrPlan (record { usage = u; document = edited t change; steps = selector.steps })
+        (ends.Attribute uri local) p value (Ok change)
+        × (edited (edited t change) change ≡ edited t change) }
 {}
 
 /// The rules allow one result each: one edit target, and one plan of a PUT and of a DELETE.
 pub fn each_plan_has_one_answer()
     ensures for_spot { (t : Tree) (selector : Selector) (r s : Result Spot NoParent)
         → IsSpot t selector r → IsSpot t selector s → r ≡ s }
-    ensures for_element { (u : Usage) (t : Tree) (selector : Selector) (spot : Spot) (e : Tree)
-        (r s : Result Change EditRefusal) → IsPutPlan u t selector.steps spot e r
-        → IsPutPlan u t selector.steps spot e s → r ≡ s }
-    ensures for_attribute { (u : Usage) (t : Tree) (selector : Selector) (end : End)
-        (p value : List ℕ) (r s : Result Change EditRefusal)
-        → IsAttrPlan u t selector.steps end p value r → IsAttrPlan u t selector.steps end p value s
-        → r ≡ s }
+    ensures for_element { (context : PutContext) (spot : Spot) (e : Tree)
+        (r s : Result Change EditRefusal) → IsPutPlan context spot e r
+        → IsPutPlan context spot e s → r ≡ s }
+    ensures for_attribute { (context : PutContext) (end : End) (p value : List ℕ)
+        (r s : Result Change EditRefusal) → IsAttrPlan context end p value r
+        → IsAttrPlan context end p value s → r ≡ s }
     ensures for_deletion { (u : Usage) (t : Tree) (selector : Selector)
         (r s : Result Change EditRefusal) → IsDeletePlan u t selector r
         → IsDeletePlan u t selector s → r ≡ s }
@@ -105,10 +108,11 @@ pub fn each_plan_has_an_answer()
         × IsSpot t selector r }
     ensures for_element { (u : Usage) (t : Tree) (selector : Selector) (spot : Spot) (e : Tree)
         → selector.end ≡ ends.Element → IsSpotOf t selector spot → (r : Result Change EditRefusal)
-        × IsPutPlan u t selector.steps spot e r }
+        × IsPutPlan (record { usage = u; document = t; steps = selector.steps }) spot e r }
     ensures for_attribute { (u : Usage) (t : Tree) (selector : Selector) (p value : List ℕ)
         → IsSpotOf t selector (Value p) → (r : Result Change EditRefusal)
-        × IsAttrPlan u t selector.steps selector.end p value r }
+        × IsAttrPlan (record { usage = u; document = t; steps = selector.steps }) selector.end p
+        value r }
     ensures for_deletion { (u : Usage) (t : Tree) (selector : Selector)
         → (selector.end ≡ ends.Namespaces → ⊥) → (r : Result Change EditRefusal)
         × IsDeletePlan u t selector r }
@@ -118,15 +122,16 @@ pub fn each_plan_has_an_answer()
 /// what is put is proper in the scope of its place and within the levels that are left there.
 pub fn planned_changes_leave_proper_documents()
     ensures for_element { (u : Usage) (t : Tree) (selector : Selector) (spot : Spot) (e : Tree)
-        (change : Change) → IsPutPlan u t selector.steps spot e (Ok change)
-        → IsSpotOf t selector spot
-        → ProperIn [] t → height t ≤ max_levels → IsProperAt t spot e → HasRoomAt spot e
+        (change : Change)
+        → IsPutPlan (record { usage = u; document = t; steps = selector.steps }) spot e (Ok change)
+        → IsSpotOf t selector spot → ProperIn [] t → height t ≤ max_levels → IsProperAt t spot e
+        → HasRoomAt spot e
         → LeavesProper t change }
-    ensures for_attribute { (u : Usage) (t : Tree) (selector : Selector)
-        (uri local p value : List ℕ) (change : Change)
-        → IsAttrPlan u t selector.steps (ends.Attribute uri local) p value (Ok change)
-        → ProperIn [] t → height t ≤ max_levels → IsWritable uri local → IsTrue (all_chars value)
-        → LeavesProper t change }
+    ensures for_attribute { (context : PutContext) (uri local p value : List ℕ) (change : Change)
+        → IsAttrPlan context (ends.Attribute uri local) p value (Ok change)
+        → ProperIn [] context.document → height context.document ≤ max_levels
+        → IsWritable uri local → IsTrue (all_chars value)
+        → LeavesProper context.document change }
     ensures for_deletion { (u : Usage) (t : Tree) (selector : Selector) (change : Change)
         → IsDeletePlan u t selector (Ok change) → ProperIn [] t → height t ≤ max_levels
         → LeavesProper t change }

@@ -7,7 +7,7 @@ use Rattle.std.specs.Str.{bytes_eq}
 use Rattle.std.proofs.lemmas.Option.{same_Some}
 use Rattle.std.proofs.lemmas.Slice.Eq.{bytes_eq-Decides}
 use Rattle.xml_tree.specs.Tree.{Tree, child_elements_of}
-use Rattle.xml_tree.specs.Expanded.{element_name}
+use Rattle.xml_names.specs.Expanded.{element_name}
 use Rattle.node_select.specs.Names.{uri_of}
 use Rattle.node_select.specs.Selection.{is_named, SelectsAmong, SelectsChild, SelectsPath}
 use Rattle.node_select.specs.declared.selector.NameTest.{NameTest}
@@ -22,7 +22,7 @@ use Rattle.usage_docs.specs.declared.schema_table.ElementKind.{ElementKind}
 use Rattle.usage_docs.specs.declared.schema_table.Key.{Key}
 use Rattle.usage_docs.specs.SchemaTable.{Scope, kind_by, kind_of, root_kind}
 use Rattle.usage_docs.specs.Keys.{key_of, word}
-use Rattle.xml_tree.specs.Scopes.{inside}
+use Rattle.xml_tree.specs.TreeScopes.{inside}
 use Rattle.edit_rules.specs.KeyAddresses.{AreKeySteps, HaveKinds, IsKeyAddressOf, IsKeyStep, root_step}
 use Rattle.element_watch.specs.inner.KeyAddresses.{are_key_steps, are_steps_along, ends_in_element, has_name, is_key_address, is_name_alone, is_step_of, tests_key, tests_key_of}
 use Rattle.edit_rules.proofs.KindWords.{kind_is_by, one_kind}

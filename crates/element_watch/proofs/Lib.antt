@@ -1,7 +1,9 @@
 pub mod Addresses
 pub mod Bounds
+pub mod BuiltElements
 pub mod Chain
 pub mod Coming
+pub mod ElementWords
 pub mod SinceTag
 pub mod SmallPaths
 pub mod States

@@ -16,9 +16,9 @@ use Rattle.node_select.proofs.Along.{one_path, path_there}
 use Rattle.edit_ops.specs.Notes.{Note}
 use Rattle.edit_ops.specs.Operations.{weight}
 use Rattle.edit_rules.specs.KeyAddresses.{IsKeyAddressOf}
-use Rattle.patch_write.specs.Elements.{element_notice}
-use Rattle.patch_write.specs.declared.element_states.ElementState.{ElementState}
-use Rattle.patch_write.specs.declared.element_states.ElementState.TheVariants.{Unchanged, Exists, Missing}
+use Rattle.element_watch.specs.Elements.{element_notice}
+use Rattle.element_watch.specs.declared.element_states.ElementState.{ElementState}
+use Rattle.element_watch.specs.declared.element_states.ElementState.TheVariants.{Unchanged, Exists, Missing}
 use Rattle.store_core.specs.DocumentChanges.{document_in, document_name, stored_name}
 use Rattle.store_core.specs.Contents.{StoredDocument, Represents, StoreContents, stored_of}
 use Rattle.store_core.specs.ValidStates.{IsKept, IsSound, IsSoundFor, IsValidState}
@@ -180,7 +180,7 @@ quiet_so : (u : Usage) (t : Tree) (selector : Selector) (ns : List Note) (usage 
 quiet_so u t selector ns usage state known unchanged is = subst (λ (x : Option Usage). IsQuiet x t selector ns) known (subst (IsStateOf usage t selector ns) unchanged is)
 
 pub find_unreported : (root : List ℕ) (c : StoreContents) (m : State) (id : DocId) (tag : ℕ) (ns : List Note) (held : StoredDocument) (u : Usage) (selector : Selector) (raw p : List ℕ) → IsValidState m → Represents c m → since c id tag ≡ ReportedChanges ns → document_in stored_name c.documents id ≡ Some held
-    → usage_of id.auid ≡ Some u → IsElementNotice root c id selector raw ns (silent_notice root) → SelectsPath selector.steps held.tree p → IsKeyAddressOf u held.tree selector p → FindSince m id tag selector.steps p
+    → usage_of id.auid ≡ Some u → IsElementNotice (record { root = root; doc = id; selector = selector; raw = raw }) c ns (silent_notice root) → SelectsPath selector.steps held.tree p → IsKeyAddressOf u held.tree selector p → FindSince m id tag selector.steps p
 find_unreported root c m id tag ns held u selector raw p kept stands told there known notice selects address =
     let same : notice.held ≡ held = same_Some notice.held held (sym notice.there ∙ there) in
     let quiet = quiet_so u notice.held.tree selector ns (usage_of id.auid) notice.state known (silent_so root (id_text id) raw notice.state notice.told) notice.is_state in

@@ -1,5 +1,6 @@
 -- What a key address selects in each version of a document since a known one.
-use Rattle.std.specs.Prelude.{◌≡◌, ℕ, ◌≤◌, List, take, reverse, Some, IsSomeAnd, slice_get, filter_map}
+use Rattle.std.specs.Prelude.{◌≡◌, ℕ, ◌≤◌, List, take, reverse, Some, IsSomeAnd, slice_get}
+use Rattle.std.specs.Prelude.{filter_map}
 use Rattle.xml_tree.specs.Tree.{Tree, at}
 use Rattle.node_select.specs.Selection.{SelectsPath}
 use Rattle.node_select.specs.declared.selector.Step.{Step}
@@ -25,11 +26,14 @@ pub record Finds (steps : List Step) (e t : Tree) (ns : List Note) (p : List ℕ
 -- in the present one
 abbrev pub FindFrom : ℕ → List Step → Document → List ℕ → Type 0
 FindFrom number steps d p =
-    IsSomeAnd (at p d.now.tree) (λ e. (k : ℕ) (v : Version) → k ≤ number → slice_get (versions d) k ≡ Some v → Finds steps e v.tree (notes_behind k (versions d)) p)
+    IsSomeAnd (at p d.now.tree) (λ e.
+    (k : ℕ) (v : Version) → k ≤ number → slice_get (versions d) k ≡ Some v
+    → Finds steps e v.tree (notes_behind k (versions d)) p)
 
 -- the document has a version with this etag, and since then the steps select in each version the
 -- element that is at p in the present one
-pub record FindSince (m : State) (id : DocId) (tag : ℕ) (steps : List Step) (p : List ℕ) : Type 0 where
+pub record FindSince (m : State) (id : DocId) (tag : ℕ) (steps : List Step)
+    (p : List ℕ) : Type 0 where
   pub document : Document
   pub there : document_in document_name m.documents id ≡ Some document
   pub from : Version

@@ -1,3 +1,4 @@
+pub mod Elements
 pub mod Finding
 pub mod TouchedElements
 pub mod WatchedElements

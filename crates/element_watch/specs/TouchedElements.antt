@@ -2,10 +2,11 @@
 -- 5874, section 3, lets a diff document report on elements; that it reports nothing of an element
 -- that no change touched is this server's own.
 use Rattle.std.specs.Prelude.{◌≡◌, ℕ, List, [], ◌∷◌, ◌⊎◌, Option, Some, option_and_then}
-use Rattle.xml_tree.specs.declared.names.Name.{Name}
+use Rattle.xml_names.specs.declared.names.Name.{Name}
 use Rattle.edit_ops.specs.MovedPaths.{moved}
 use Rattle.edit_ops.specs.declared.change.Change.{Change}
-use Rattle.edit_ops.specs.declared.change.Change.TheVariants.{Insert, Replace, Remove, SetAttr, DropAttr}
+use Rattle.edit_ops.specs.declared.change.Change.TheVariants.{Insert, Replace, Remove, SetAttr}
+use Rattle.edit_ops.specs.declared.change.Change.TheVariants.{DropAttr}
 use Rattle.edit_ops.specs.Notes.{Note}
 use Rattle.edit_rules.specs.KeyWrites.{LiesIn}
 

@@ -1,7 +1,8 @@
 -- The state of a watched element since a known version. RFC 5874, section 3, names the element by
 -- a selector and says whether it exists; RFC 4826, sections 3.4.5 and 4.4.5, name the attributes
 -- that distinguish an element from its siblings.
-use Rattle.std.specs.Prelude.{◌≡◌, ℕ, List, [], ◌⊎◌, Option, None, Some, Result, Err, MatchResult, encode_utf8_all}
+use Rattle.std.specs.Prelude.{◌≡◌, ℕ, List, [], ◌⊎◌, Option, None, Some, Result, Err, MatchResult}
+use Rattle.std.specs.Prelude.{encode_utf8_all}
 use Rattle.xml_tree.specs.Tree.{Tree}
 use Rattle.xml_tree.specs.Print.{document_print}
 use Rattle.doc_names.specs.Ids.{id_text}
@@ -12,9 +13,10 @@ use Rattle.node_select.specs.Selection.{SelectsPath}
 use Rattle.node_select.specs.declared.selector.Selector.{Selector}
 use Rattle.edit_ops.specs.Notes.{Note}
 use Rattle.patch_rules.specs.Notices.{candidate, diff}
-use Rattle.patch_write.specs.Elements.{element_notice}
-use Rattle.patch_write.specs.declared.element_states.ElementState.{ElementState}
-use Rattle.patch_write.specs.declared.element_states.ElementState.TheVariants.{Unchanged, Exists, Missing}
+use Rattle.element_watch.specs.Elements.{element_notice}
+use Rattle.element_watch.specs.declared.element_states.ElementState.{ElementState}
+use Rattle.element_watch.specs.declared.element_states.ElementState.TheVariants.{Unchanged, Exists}
+use Rattle.element_watch.specs.declared.element_states.ElementState.TheVariants.{Missing}
 use Rattle.edit_rules.specs.KeyAddresses.{IsKeyAddressOf}
 use Rattle.store_core.specs.DocumentChanges.{document_in, stored_name}
 use Rattle.store_core.specs.Contents.{StoredDocument, StoreContents}
@@ -31,7 +33,8 @@ SelectsSome selector t = (p : List ℕ) × SelectsPath selector.steps t p
 
 -- the selector is a key address that selects the element at the path, to which the change records
 -- move a former path that none touches on the way
-pub record IsUntouchedAt (u : Usage) (t : Tree) (selector : Selector) (ns : List Note) (p : List ℕ) : Type 0 where
+pub record IsUntouchedAt (u : Usage) (t : Tree) (selector : Selector) (ns : List Note)
+    (p : List ℕ) : Type 0 where
   pub selects : SelectsPath selector.steps t p
   pub by_keys : IsKeyAddressOf u t selector p
   pub former : List ℕ
@@ -55,27 +58,38 @@ IsStateOf u t selector ns Missing = (IsQuiet u t selector ns → ⊥) × (Select
 
 -- ---- the diff document
 
--- the xcap-diff document about an element of a stored document, by its selector as it was written,
--- with the change records since the known version
-pub record IsElementNotice (root : List ℕ) (c : StoreContents) (id : DocId) (selector : Selector) (raw : List ℕ) (ns : List Note) (notice : Tree) : Type 0 where
+-- a watched element: the XCAP root, its document, its selector, and that selector as it was written
+pub record WatchedElement : Type 0 where
+  pub root : List ℕ
+  pub doc : DocId
+  pub selector : Selector
+  pub raw : List ℕ
+
+-- the xcap-diff document about an element of a stored document, with the change records since the
+-- known version
+pub record IsElementNotice (watched : WatchedElement) (c : StoreContents) (ns : List Note)
+    (notice : Tree) : Type 0 where
   pub held : StoredDocument
-  pub there : document_in stored_name c.documents id ≡ Some held
+  pub there : document_in stored_name c.documents watched.doc ≡ Some held
   pub state : ElementState
-  pub is_state : IsStateOf (usage_of id.auid) held.tree selector ns state
-  pub told : notice ≡ element_notice root (id_text id) raw state
+  pub is_state : IsStateOf (usage_of watched.doc.auid) held.tree watched.selector ns state
+  pub told : notice ≡ element_notice watched.root (id_text watched.doc) watched.raw state
 
 -- the diff document that reports nothing
 abbrev pub silent_notice : List ℕ → Tree
 silent_notice root = diff (candidate 0) root []
 
 -- the text of a diff document
-abbrev pub IsNoticeText : List ℕ → StoreContents → DocId → Selector → List ℕ → List Note → List ℕ → Type 0
-IsNoticeText root c id selector raw ns text =
-    (notice : Tree) × (IsElementNotice root c id selector raw ns notice × (text ≡ encode_utf8_all (document_print notice)))
+abbrev pub IsNoticeText : WatchedElement → StoreContents → List Note → List ℕ → Type 0
+IsNoticeText watched c ns text =
+    (notice : Tree)
+    × (IsElementNotice watched c ns notice × (text ≡ encode_utf8_all (document_print notice)))
 
 -- by what became of the document since the known version: it is gone, or the version isn't known
 -- any more; or the text of the diff document, unless out of memory
-abbrev pub IsNoticeAnswer : List ℕ → StoreContents → DocId → Selector → List ℕ → ChangesSince → Result (List ℕ) ElementFault → Type 0
-IsNoticeAnswer root c id selector raw Gone r = r ≡ Err faults.Gone
-IsNoticeAnswer root c id selector raw Unknown r = r ≡ Err faults.Unknown
-IsNoticeAnswer root c id selector raw (ReportedChanges ns) r = MatchResult r (IsNoticeText root c id selector raw ns) (λ e. e ≡ faults.NoMemory)
+abbrev pub IsNoticeAnswer : WatchedElement → StoreContents → ChangesSince
+    → Result (List ℕ) ElementFault → Type 0
+IsNoticeAnswer watched c Gone r = r ≡ Err faults.Gone
+IsNoticeAnswer watched c Unknown r = r ≡ Err faults.Unknown
+IsNoticeAnswer watched c (ReportedChanges ns) r =
+    MatchResult r (IsNoticeText watched c ns) (λ e. e ≡ faults.NoMemory)

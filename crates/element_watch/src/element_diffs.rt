@@ -1,29 +1,31 @@
 //! The xcap-diff document about an element (RFC 5874, section 3).
 ghost use Rattle.std.specs.Prelude.{◌≡◌, ◌≤◌, ◌+◌, All, Some, IfOk, length, if◌then◌else◌};
-ghost use Rattle.xml_tree.specs.Limits.{max_levels};
+ghost use Rattle.xml_names.specs.Limits.{max_levels};
 ghost use Rattle.xml_tree.specs.Tree.{height};
 ghost use Rattle.node_select.specs.Selection.{SelectsPath};
 ghost use Rattle.edit_ops.specs.Recorded.{all_notes};
 ghost use Rattle.store_core.specs.Limits.{max_notes};
 ghost use Rattle.store_core.specs.ValidStates.{IsSoundFor};
 ghost use Rattle.store_core.specs.Since.{ReportedChanges, since};
-ghost use Rattle.patch_write.specs.inner.Lists.{is_none};
-ghost use Rattle.patch_write.specs.declared.element_states.ElementState.TheVariants.{Unchanged, Missing};
+ghost use Rattle.patch_rules.specs.inner.Lists.{is_none};
+ghost use Rattle.element_watch.specs.declared.element_states.ElementState.TheVariants.{Unchanged};
+ghost use Rattle.element_watch.specs.declared.element_states.ElementState.TheVariants.{Missing};
 ghost use Rattle.element_watch.specs.WatchedElements.{IsNoticeAnswer, IsNoticeText};
 ghost use Rattle.element_watch.specs.inner.ElementStates.{is_untouched_at, state_at, state_in};
 
+use crate::element_states::{ElementState, notice_of_element};
 use crate::fault::ElementFault;
 use crate::key_addresses::key_address;
 use crate::path_history::trace;
 use doc_names::{DocId, Usage};
 use edit_ops::Notes;
 use node_select::{Selector, select};
-use patch_write::{ElementState, notice_of_element};
 use std::alloc::{AllocError, Global};
 use store_core::{Since, Store, notes_since_a_version_lead_from_it};
 use xcap_io::Bytes;
 use xcap_uri::Root;
-use xml_tree::{Element, Path, Text};
+use xml_names::Text;
+use xml_tree::{Element, Path};
 
 /// What is asked about an element: the etag of the known version, the document, the element's
 /// selector, and that selector as it was written.
@@ -127,8 +129,14 @@ fn notice_since(
         ≡ ReportedChanges (all_notes notes.older.now notes.newer.now) }
     requires within_max { length notes.older.now + length notes.newer.now ≤ max_notes }
     ensures diff_text { IfOk result
-        (IsNoticeText root.now store.now.content watch.entry.doc.now watch.entry.selector.now
-        watch.entry.raw.now (all_notes notes.entry.older.now notes.entry.newer.now)) }
+        (IsNoticeText
+        (record {
+          root = root.now;
+          doc = watch.entry.doc.now;
+          selector = watch.entry.selector.now;
+          raw = watch.entry.raw.now;
+        })
+        store.now.content (all_notes notes.entry.older.now notes.entry.newer.now)) }
 {
     let Some((tree, _tag)) = store.get(watch.doc) else {
         unreachable!();
@@ -153,8 +161,14 @@ pub fn element_notice(
     root: &Root,
     watch: Watch<'_>,
 ) -> Result<Bytes, ElementFault>
-    ensures answers_by_changes { IsNoticeAnswer root.now store.now.content watch.entry.doc.now
-        watch.entry.selector.now watch.entry.raw.now
+    ensures answers_by_changes { IsNoticeAnswer
+        (record {
+          root = root.now;
+          doc = watch.entry.doc.now;
+          selector = watch.entry.selector.now;
+          raw = watch.entry.raw.now;
+        })
+        store.now.content
         (since store.now.content watch.entry.doc.now watch.entry.tag) result }
 {
     store.represents_valid_state();

@@ -6,12 +6,15 @@ ghost use Rattle.xml_tree.specs.Tree.{child_elements_of};
 ghost use Rattle.node_select.specs.Selection.{SelectsPath};
 ghost use Rattle.usage_docs.specs.Keys.{word};
 ghost use Rattle.edit_rules.specs.KeyAddresses.{IsKeyAddressOf};
-ghost use Rattle.element_watch.specs.inner.KeyAddresses.{are_key_steps, are_steps_along, ends_in_element, has_name, is_name_alone, is_step_of, tests_key, tests_key_of};
+ghost use Rattle.element_watch.specs.inner.KeyAddresses.{are_key_steps, are_steps_along};
+ghost use Rattle.element_watch.specs.inner.KeyAddresses.{ends_in_element, has_name, is_name_alone};
+ghost use Rattle.element_watch.specs.inner.KeyAddresses.{is_step_of, tests_key, tests_key_of};
 
 use doc_names::Usage;
 use node_select::{AttrTest, End, NameTest, Selector, Step};
 use usage_docs::{ElementKind, Key, key_of, kind_of, root_kind};
-use xml_tree::{Element, LinkedScope, Path, Scope, Text};
+use xml_names::Text;
+use xml_tree::{Element, LinkedScope, Path, Scope};
 
 // ---- one step
 

@@ -2,7 +2,6 @@
 ghost use Rattle.std.specs.Prelude.{◌≡◌, ℕ, List, Option, Some};
 ghost use Rattle.xml_tree.specs.Tree.{Tree};
 ghost use Rattle.doc_names.specs.Usages.{usage_of};
-ghost use Rattle.doc_names.specs.declared.doc_id.DocId.{DocId};
 ghost use Rattle.doc_names.specs.declared.usages.Usage.{Usage};
 ghost use Rattle.node_select.specs.Selection.{SelectsPath};
 ghost use Rattle.node_select.specs.declared.selector.Selector.{Selector};
@@ -13,10 +12,11 @@ ghost use Rattle.store_core.specs.Contents.{StoredDocument, Represents, StoreCon
 ghost use Rattle.store_core.specs.ValidStates.{IsValidState};
 ghost use Rattle.store_core.specs.Since.{ReportedChanges, since};
 ghost use Rattle.store_core.specs.State.{State};
-ghost use Rattle.patch_write.specs.declared.element_states.ElementState.{ElementState};
+ghost use Rattle.element_watch.specs.declared.element_states.ElementState.{ElementState};
 ghost use Rattle.element_watch.specs.Finding.{FindSince};
 ghost use Rattle.element_watch.specs.TouchedElements.{PassesThrough};
-ghost use Rattle.element_watch.specs.WatchedElements.{IsElementNotice, IsStateOf, silent_notice};
+ghost use Rattle.element_watch.specs.WatchedElements.{IsElementNotice, IsStateOf, WatchedElement};
+ghost use Rattle.element_watch.specs.WatchedElements.{silent_notice};
 
 /// A law: change records move at most one path to a path.
 pub fn one_place_passes_to_another()
@@ -31,12 +31,11 @@ pub fn each_element_has_one_notice()
         → (state : ElementState) × IsStateOf u t selector ns state }
     ensures states_are_one { (u : Option Usage) (t : Tree) (selector : Selector) (ns : List Note)
         (a b : ElementState) → IsStateOf u t selector ns a → IsStateOf u t selector ns b → a ≡ b }
-    ensures notice_exists { (root : List ℕ) (c : StoreContents) (tag : ℕ) (id : DocId)
-        (selector : Selector) (raw : List ℕ) (ns : List Note) → since c id tag ≡ ReportedChanges ns
-        → (notice : Tree) × IsElementNotice root c id selector raw ns notice }
-    ensures notices_are_one { (root : List ℕ) (c : StoreContents) (id : DocId) (selector : Selector)
-        (raw : List ℕ) (ns : List Note) (a b : Tree) → IsElementNotice root c id selector raw ns a
-        → IsElementNotice root c id selector raw ns b → a ≡ b }
+    ensures notice_exists { (watched : WatchedElement) (c : StoreContents) (tag : ℕ)
+        (ns : List Note) → since c watched.doc tag ≡ ReportedChanges ns
+        → (notice : Tree) × IsElementNotice watched c ns notice }
+    ensures notices_are_one { (watched : WatchedElement) (c : StoreContents) (ns : List Note)
+        (a b : Tree) → IsElementNotice watched c ns a → IsElementNotice watched c ns b → a ≡ b }
 {}
 
 /// A law: where a store represents a valid state and the xcap-diff document reports nothing of an
@@ -44,11 +43,13 @@ pub fn each_element_has_one_notice()
 /// content, in the known version and in each later one, at a path that the changes since move to
 /// the present one.
 pub fn unreported_elements_are_the_same()
-    ensures finds_same { (root : List ℕ) (c : StoreContents) (m : State) (id : DocId) (tag : ℕ)
-        (ns : List Note) (held : StoredDocument) (u : Usage) (selector : Selector) (raw p : List ℕ)
-        → IsValidState m → Represents c m → since c id tag ≡ ReportedChanges ns
-        → document_in stored_name c.documents id ≡ Some held → usage_of id.auid ≡ Some u
-        → IsElementNotice root c id selector raw ns (silent_notice root)
-        → SelectsPath selector.steps held.tree p → IsKeyAddressOf u held.tree selector p
-        → FindSince m id tag selector.steps p }
+    ensures finds_same { (watched : WatchedElement) (c : StoreContents) (m : State) (tag : ℕ)
+        (ns : List Note) (held : StoredDocument) (u : Usage) (p : List ℕ)
+        → IsValidState m → Represents c m → since c watched.doc tag ≡ ReportedChanges ns
+        → document_in stored_name c.documents watched.doc ≡ Some held
+        → usage_of watched.doc.auid ≡ Some u
+        → IsElementNotice watched c ns (silent_notice watched.root)
+        → SelectsPath watched.selector.steps held.tree p
+        → IsKeyAddressOf u held.tree watched.selector p
+        → FindSince m watched.doc tag watched.selector.steps p }
 {}

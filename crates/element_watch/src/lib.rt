@@ -8,6 +8,7 @@
 #![tactic(auto)]
 
 mod element_diffs;
+mod element_states;
 mod fault;
 mod key_addresses;
 mod laws;
@@ -15,6 +16,7 @@ mod path_history;
 mod paths;
 
 pub use element_diffs::{Watch, element_notice};
+pub use element_states::ElementState;
 pub use fault::ElementFault;
 pub use key_addresses::key_address;
 pub use laws::{

@@ -1,15 +1,18 @@
 //! Where an element was before changes.
-ghost use Rattle.std.specs.Prelude.{◌≡◌, ◌↔◌, ◌≤◌, ◌+◌, ◌-◌, ◌||◌, ℕ, List, All, Some, None, is_some, length, not, option_and_then, if◌then◌else◌};
+ghost use Rattle.std.specs.Prelude.{◌≡◌, ◌↔◌, ◌≤◌, ◌+◌, ◌-◌, ◌||◌, ℕ, List, All, Some, None};
+ghost use Rattle.std.specs.Prelude.{is_some, length, not, option_and_then, if◌then◌else◌};
 ghost use Rattle.store_core.specs.Limits.{max_notes};
 ghost use Rattle.edit_ops.specs.MovedPaths.{behind, made_room, under};
 ghost use Rattle.edit_ops.specs.declared.change.Change.TheVariants.{Remove};
 ghost use Rattle.edit_ops.specs.Recorded.{all_notes};
 ghost use Rattle.element_watch.specs.TouchedElements.{PassesThrough};
-ghost use Rattle.element_watch.specs.inner.PathHistory.{back, came_from, is_touched, re_routed_if, without_gap};
+ghost use Rattle.element_watch.specs.inner.PathHistory.{back, came_from, is_touched, re_routed_if};
+ghost use Rattle.element_watch.specs.inner.PathHistory.{without_gap};
 
 use crate::paths::{lies_in, way};
 use edit_ops::{Change, EditNote, Notes, through};
-use xml_tree::{Name, Path};
+use xml_names::Name;
+use xml_tree::Path;
 
 // ---- one change
 

@@ -12,7 +12,9 @@ use Rattle.http_serve.specs.Fixed.{fixed}
 -- A connection was served: the bytes that its reads gave, whether the last read found the end, and
 -- the bytes that its writes handed over are this traffic; and these edits were reported to the
 -- watchers, in order. `Keeps` relates watchers before and after such edits.
-pub record ServesStream {M W E : Type 0} (Step : M → Request → List ℕ → M → Option E → Type 0) (Keeps : List E → W → W → Type 0) (ended : CloseReason) (machine next : M) (old new : StreamState) (watchers watchers' : W) : Type 0 where
+pub record ServesStream {M W E : Type 0} (Step : M → Request → List ℕ → M → Option E → Type 0)
+    (Keeps : List E → W → W → Type 0) (ended : CloseReason) (machine next : M)
+    (old new : StreamState) (watchers watchers' : W) : Type 0 where
   pub passed : Traffic
   pub edits : List E
   pub gave : Gave old.inward new.inward passed.given

@@ -2,7 +2,8 @@
 use Rattle.std.specs.Prelude.{◌≡◌, ℕ}
 use Rattle.xcap_io.specs.Causes.{StreamState, CountRises}
 use Rattle.http_wire.specs.declared.close_reason.CloseReason.{CloseReason}
-use Rattle.http_wire.specs.declared.close_reason.CloseReason.TheVariants.{Closed, ReadFailed, WriteFailed}
+use Rattle.http_wire.specs.declared.close_reason.CloseReason.TheVariants.{Closed, ReadFailed}
+use Rattle.http_wire.specs.declared.close_reason.CloseReason.TheVariants.{WriteFailed}
 
 -- The counter of the reads or writes that failed rose where the connection ended so, else both are
 -- unchanged.

@@ -24,23 +24,29 @@ abbrev pub Stops : StopReason → ℕ → ℕ → StreamState → StreamState �
 Stops Count most connections old new = (connections ≡ most) × (new.port.faults ≡ old.port.faults)
 Stops NoMore most connections old new =
     (connections < most) × (new.port.to_come ≡ Some []) × (new.port.faults ≡ old.port.faults)
-Stops PortFailed most connections old new = (connections < most) × CountRises old.port.faults new.port.faults
+Stops PortFailed most connections old new =
+    (connections < most) × CountRises old.port.faults new.port.faults
 
 -- All bytes of connections with this traffic were the next ones to come, where the port shows
 -- them, and the other connections are still to come.
 abbrev pub Came : Option (List (List ℕ)) → Option (List (List ℕ)) → List Traffic → Type 0
 Came old new connections =
-    IfSome old (λ all. (came : List (List ℕ)) × (rest : List (List ℕ)) × (all ≡ came ++ rest) × (new ≡ Some rest) × HaveBytes came connections)
+    IfSome old (λ all.
+    (came : List (List ℕ)) × (rest : List (List ℕ))
+    × (all ≡ came ++ rest) × (new ≡ Some rest) × HaveBytes came connections)
 
 -- Connections with this traffic were served, at most the wanted number. `Keeps` relates watchers
 -- before and after such edits.
-pub record ServesPort {M W E : Type 0} (Step : M → Request → List ℕ → M → Option E → Type 0) (Keeps : List E → W → W → Type 0) (most : ℕ) (served : ServeSummary) (machine next : M) (old new : StreamState) (watchers watchers' : W) : Type 0 where
+pub record ServesPort {M W E : Type 0} (Step : M → Request → List ℕ → M → Option E → Type 0)
+    (Keeps : List E → W → W → Type 0) (most : ℕ) (served : ServeSummary) (machine next : M)
+    (old new : StreamState) (watchers watchers' : W) : Type 0 where
   pub connections : List Traffic
   pub edits : List E
   pub count : length connections ≡ served.connections
   pub came : Came old.port.to_come new.port.to_come connections
   pub all_carried : carried new ≡ carried old ++ connections
-  pub serves : ServesAll Step fixed machine connections next edits old.read_faults new.read_faults old.write_faults new.write_faults
+  pub serves : ServesAll Step fixed machine connections next edits old.read_faults new.read_faults
+      old.write_faults new.write_faults
   pub last : served.last ≡ last_of serves.endings
   pub stop : Stops served.stop most served.connections old new
   pub kept : Keeps edits watchers watchers'

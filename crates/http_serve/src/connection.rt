@@ -1,5 +1,6 @@
 //! Serves one connection to its end.
-ghost use Rattle.std.specs.Prelude.{◌≡◌, ◌≢◌, ℕ, suc, ◌+◌, true, false, None, IsTrue, MatchOption, option_to_list};
+ghost use Rattle.std.specs.Prelude.{◌≡◌, ◌≢◌, ℕ, suc, ◌+◌, true, false, None, IsTrue, MatchOption};
+ghost use Rattle.std.specs.Prelude.{option_to_list};
 ghost use Rattle.reply_text.specs.ReplyHeads.{plain};
 ghost use Rattle.reply_text.specs.Statuses.{is_status};
 ghost use Rattle.http_wire.specs.Asking.{fresh_request_reader};

@@ -1,10 +1,12 @@
 -- What a call for the next request returns, and what it leaves.
-use Rattle.std.specs.Prelude.{◌≡◌, ℕ, ◌+◌, Bool, true, false, ◌⊎◌, List, [], ◌++◌, Result, Ok, MatchResult}
+use Rattle.std.specs.Prelude.{◌≡◌, ℕ, ◌+◌, Bool, true, false, ◌⊎◌, List, [], ◌++◌, Result, Ok}
+use Rattle.std.specs.Prelude.{MatchResult}
 use Rattle.xcap_io.specs.Causes.{InputState}
 use Rattle.xcap_io.specs.StreamTraffic.{Gave, IsEnded}
 use Rattle.http_wire.specs.declared.request.Request.{Request}
 use Rattle.http_wire.specs.declared.request.Asked.{Asked}
-use Rattle.http_wire.specs.declared.request.Asked.TheVariants.{Request as Requested, Bad, TooLong, Coded, End, NoMemory}
+use Rattle.http_wire.specs.declared.request.Asked.TheVariants.{Request as Requested, Bad, TooLong}
+use Rattle.http_wire.specs.declared.request.Asked.TheVariants.{Coded, End, NoMemory}
 use Rattle.http_wire.specs.Items.{Item, bad, too_long, coded, AsksFor, FirstItem, IsUnfinished}
 
 -- A request reader at one moment: the bytes given and not used yet, how many requests it returned
@@ -33,16 +35,21 @@ IsAsked before given source Bad held = IsNext before given source bad held
 IsAsked before given source TooLong held = IsNext before given source too_long held
 IsAsked before given source Coded held = IsNext before given source coded held
 IsAsked before given source End held = (given ≡ []) × IsEnded source
-IsAsked before given source NoMemory held = (request : Request) × (rest : List ℕ) × AsksFor before given request rest
+IsAsked before given source NoMemory held =
+    (request : Request) × (rest : List ℕ) × AsksFor before given request rest
 
 -- Bytes were read from the source, and the result is decided by the buffered bytes and those read;
 -- where a read failed, no item is complete in them.
-pub record Asks {E : Type 0} (before : ℕ) (held : List ℕ) (source : InputState) (result : Result Asked E) (held' : List ℕ) (source' : InputState) : Type 0 where
+pub record Asks {E : Type 0} (before : ℕ) (held : List ℕ) (source : InputState)
+    (result : Result Asked E) (held' : List ℕ) (source' : InputState) : Type 0 where
   pub read : List ℕ
   pub given : Gave source source' read
-  pub answer : MatchResult result (λ asked. IsAsked before (held ++ read) source' asked held') (λ _. IsUnfinished (held ++ read))
+  pub answer : MatchResult result (λ asked. IsAsked before (held ++ read) source' asked held') (λ _.
+      IsUnfinished (held ++ read))
 
 -- The state of the reader after a call: it is spent, except after a request that doesn't close.
-abbrev pub IsReaderStateAfter : {E : Type 0} → RequestReaderState → Result Asked E → RequestReaderState → Type 0
-IsReaderStateAfter old (Ok (Requested request)) new = (new.requests ≡ old.requests + 1) × (new.spent ≡ request.closes)
+abbrev pub IsReaderStateAfter : {E : Type 0} → RequestReaderState → Result Asked E
+    → RequestReaderState → Type 0
+IsReaderStateAfter old (Ok (Requested request)) new =
+    (new.requests ≡ old.requests + 1) × (new.spent ≡ request.closes)
 IsReaderStateAfter old _ new = (new.requests ≡ old.requests) × (new.spent ≡ true)

@@ -1,6 +1,7 @@
 -- Chunked bodies (RFC 9112, section 7.1), as this server accepts them. Each form is a tree, a
 -- printer from the tree to its bytes, and a fact that says which trees are valid.
-use Rattle.std.specs.Prelude.{◌≡◌, ℕ, ◌+◌, ◌<◌, ◌≤◌, Bool, not, ◌||◌, ◌==◌, List, [], ◌++◌, length, IsTrue, flat_map, unwrap_or}
+use Rattle.std.specs.Prelude.{◌≡◌, ℕ, ◌+◌, ◌<◌, ◌≤◌, Bool, not, ◌||◌, ◌==◌, List, [], ◌++◌, length}
+use Rattle.std.specs.Prelude.{IsTrue, flat_map, unwrap_or}
 use Rattle.std.specs.List.{list_all, AllByRecursion}
 use Rattle.std.specs.Char.{is_digit}
 use Rattle.httparse.specs.Ascii.{line_feed, carriage_return, crlf_bytes}
@@ -64,7 +65,8 @@ pub record ChunkedBody : Type 0 where
   pub trailers : List (List ℕ)
 
 abbrev pub print_body : ChunkedBody → List ℕ
-print_body c = print_chunks c.chunks ++ (print_line c.last ++ (print_trailers c.trailers ++ crlf_bytes))
+print_body c =
+    print_chunks c.chunks ++ (print_line c.last ++ (print_trailers c.trailers ++ crlf_bytes))
 
 -- the last line's number is 0, and the trailer lines are within their limit together
 pub record IsBody (c : ChunkedBody) : Type 0 where

@@ -1,6 +1,7 @@
 -- What the fields of a head say (RFC 9110, sections 5.1, 5.6.1 and 7.6.1). A field is its name and
 -- its value, without the spaces and tabs at the value's ends.
-use Rattle.std.specs.Prelude.{◌≡◌, ℕ, ◌≤◌, ◌==◌, nat_lt, Bool, ◌&&◌, if◌then◌else◌, List, [], ◌∷◌, length, map, codes}
+use Rattle.std.specs.Prelude.{◌≡◌, ℕ, ◌≤◌, ◌==◌, nat_lt, Bool, ◌&&◌, if◌then◌else◌, List, [], ◌∷◌}
+use Rattle.std.specs.Prelude.{length, map, codes}
 use Rattle.std.specs.Str.{bytes_eq}
 use Rattle.std.specs.List.{list_all, list_any, slice_split}
 use Rattle.std.specs.Char.{to_ascii_lowercase, is_ascii_digit}
@@ -17,7 +18,8 @@ same_ignoring_case a b = bytes_eq (map to_ascii_lowercase a) (map to_ascii_lower
 abbrev pub values_of : List ℕ → List (List ℕ × List ℕ) → List (List ℕ)
 values_of name [] = []
 values_of name (field ∷ fields) =
-    if same_ignoring_case field.0 name then field.1 ∷ values_of name fields else values_of name fields
+    if same_ignoring_case field.0 name then field.1 ∷ values_of name fields
+    else values_of name fields
 
 -- the result of looking up a field that has these values
 abbrev pub Found : FieldLookup → List (List ℕ) → Type 0
@@ -31,7 +33,9 @@ is_number bytes = nat_lt 0 (length bytes) && list_all is_ascii_digit bytes
 
 -- one of the parts between commas is `close`
 unfoldable pub has_close : List ℕ → Bool
-has_close value = list_any (λ part. same_ignoring_case (trim_ows part) (codes "close")) (slice_split (λ b. b == comma) value)
+has_close value =
+    list_any (λ part. same_ignoring_case (trim_ows part) (codes "close"))
+    (slice_split (λ b. b == comma) value)
 
 -- a `Connection` field asks to end the connection after the reply
 unfoldable pub asks_to_close : List (List ℕ × List ℕ) → Bool

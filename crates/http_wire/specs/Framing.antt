@@ -1,8 +1,10 @@
 -- The framing of a body by the fields of its head (RFC 9112, sections 3.2 and 6.3).
-use Rattle.std.specs.Prelude.{ℕ, ◌==◌, nat_lt, nat_le, Bool, not, ◌&&◌, ◌||◌, if◌then◌else◌, List, [], ◌∷◌, length, codes}
+use Rattle.std.specs.Prelude.{ℕ, ◌==◌, nat_lt, nat_le, Bool, not, ◌&&◌, ◌||◌, if◌then◌else◌, List}
+use Rattle.std.specs.Prelude.{[], ◌∷◌, length, codes}
 use Rattle.std.specs.Str.Parse.{digits_value}
 use Rattle.http_wire.specs.declared.framing.Framing.{Framing}
-use Rattle.http_wire.specs.declared.framing.Framing.TheVariants.{Bad, Coded, TooLong, Length, Chunked}
+use Rattle.http_wire.specs.declared.framing.Framing.TheVariants.{Bad, Coded, TooLong, Length}
+use Rattle.http_wire.specs.declared.framing.Framing.TheVariants.{Chunked}
 use Rattle.http_wire.specs.Limits.{max_body_bytes}
 use Rattle.http_wire.specs.Fields.{same_ignoring_case, values_of, is_number}
 
@@ -15,7 +17,8 @@ unfoldable pub length_by : List (List ℕ) → Framing
 length_by [] = Length 0
 length_by (value ∷ []) =
     if not (is_number value) then Bad
-    else if nat_le (digits_value 10 value) max_body_bytes then Length (digits_value 10 value) else TooLong
+    else if nat_le (digits_value 10 value) max_body_bytes then Length (digits_value 10 value)
+    else TooLong
 length_by (value ∷ other ∷ more) = Bad
 
 -- by the values of `Transfer-Encoding` and then of `Content-Length`: the one coding is `chunked`,
@@ -31,4 +34,5 @@ coding_by minor (coding ∷ other ∷ more) lengths = Coded
 unfoldable pub framing : ℕ → List (List ℕ × List ℕ) → Framing
 framing minor fields =
     if lacks_host minor fields then Bad
-    else coding_by minor (values_of (codes "transfer-encoding") fields) (values_of (codes "content-length") fields)
+    else coding_by minor (values_of (codes "transfer-encoding") fields)
+    (values_of (codes "content-length") fields)

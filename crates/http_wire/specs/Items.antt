@@ -1,19 +1,22 @@
 -- The items that the bytes of a connection consist of (RFC 9112, sections 2.2, 6 and 9.3):
 -- requests, and what comes in place of one. Here the whole list of bytes is known, and nothing
 -- depends on how reads cut it.
-use Rattle.std.specs.Prelude.{◌≡◌, ℕ, ◌+◌, ◌-◌, ◌<◌, ◌≤◌, ◌⊎◌, ◌==◌, Bool, true, ◌||◌, List, [], ◌∷◌, ◌++◌, length, map}
+use Rattle.std.specs.Prelude.{◌≡◌, ℕ, ◌+◌, ◌-◌, ◌<◌, ◌≤◌, ◌⊎◌, ◌==◌, Bool, true, ◌||◌, List, []}
+use Rattle.std.specs.Prelude.{◌∷◌, ◌++◌, length, map}
 use Rattle.std.specs.Bool.{MatchBool}
 use Rattle.httparse.specs.Grammar.{RequestHead}
 use Rattle.httparse.specs.Spans.{name_and_value}
 use Rattle.http_wire.specs.declared.framing.Framing.{Framing}
-use Rattle.http_wire.specs.declared.framing.Framing.TheVariants.{Bad, Coded, TooLong, Length, Chunked}
+use Rattle.http_wire.specs.declared.framing.Framing.TheVariants.{Bad, Coded, TooLong, Length}
+use Rattle.http_wire.specs.declared.framing.Framing.TheVariants.{Chunked}
 use Rattle.http_wire.specs.declared.request.Field.{Field}
 use Rattle.http_wire.specs.declared.request.Request.{Request}
 use Rattle.http_wire.specs.Limits.{max_body_bytes, max_requests}
 use Rattle.http_wire.specs.Heads.{BeginsWithHead, HasNoHead}
 use Rattle.http_wire.specs.Fields.{asks_to_close}
 use Rattle.http_wire.specs.Framing.{framing}
-use Rattle.http_wire.specs.Chunked.{ChunkedBody, ReadsBody, HasNoBody, MayBecomeBody, PassesLimit, chunk_data}
+use Rattle.http_wire.specs.Chunked.{ChunkedBody, ReadsBody, HasNoBody, MayBecomeBody, PassesLimit}
+use Rattle.http_wire.specs.Chunked.{chunk_data}
 
 -- An item: a request, or what gets a 400, 413 or 501 in place of one.
 pub data Item : Type 0 where
@@ -31,13 +34,16 @@ abbrev pub request_of : ℕ → RequestHead → List ℕ → Request
 request_of before head body = record {
   method = head.method;
   target = head.target;
-  closes = (before == max_requests - 1) || ((head.minor == 0) || asks_to_close (map name_and_value head.fields));
+  closes =
+      (before == max_requests - 1)
+      || ((head.minor == 0) || asks_to_close (map name_and_value head.fields));
   fields = map field_of (map name_and_value head.fields);
   body = body;
 }
 
 -- the bytes begin with this head, whose fields give this framing, and then rest
-pub record Opens (bytes : List ℕ) (head : RequestHead) (what : Framing) (rest : List ℕ) : Type 0 where
+pub record Opens (bytes : List ℕ) (head : RequestHead) (what : Framing)
+    (rest : List ℕ) : Type 0 where
   pub begins : BeginsWithHead bytes head rest
   pub framed : framing head.minor (map name_and_value head.fields) ≡ what
 
@@ -55,10 +61,13 @@ IsFramed what bytes = (head : RequestHead) × (rest : List ℕ) × Opens bytes h
 -- The bytes begin with a complete request, whose body has the length that its head states, or is
 -- chunked and within the limit; and then rest.
 pub data AsksFor (before : ℕ) (bytes : List ℕ) (request : Request) (rest : List ℕ) : Type 0 where
-  with_length : (head : RequestHead) (body : List ℕ) → Opens bytes head (Length (length body)) (body ++ rest)
+  with_length : (head : RequestHead) (body : List ℕ)
+      → Opens bytes head (Length (length body)) (body ++ rest)
       → request ≡ request_of before head body → AsksFor before bytes request rest
-  in_chunks : (head : RequestHead) (behind : List ℕ) (body : ChunkedBody) → Opens bytes head Chunked behind → ReadsBody behind body rest
-      → length (chunk_data body.chunks) ≤ max_body_bytes → request ≡ request_of before head (chunk_data body.chunks)
+  in_chunks : (head : RequestHead) (behind : List ℕ) (body : ChunkedBody)
+      → Opens bytes head Chunked behind → ReadsBody behind body rest
+      → length (chunk_data body.chunks) ≤ max_body_bytes
+      → request ≡ request_of before head (chunk_data body.chunks)
       → AsksFor before bytes request rest
 
 -- The bytes, at least one, are no request: there is no head, or its fields are not acceptable, or
@@ -112,13 +121,17 @@ Talk before bytes (item ∷ items) =
 abbrev pub LiesWhole : ℕ → List ℕ → Item → Type 0
 LiesWhole before bytes (asks request) = (rest : List ℕ) × AsksFor before bytes request rest
 LiesWhole before bytes bad =
-    IsFramed Bad bytes ⊎ BehindHead Chunked bytes (λ rest. ¬ (MayBecomeBody rest) × HasNoBody rest × ¬ (PassesLimit rest))
+    IsFramed Bad bytes
+    ⊎ BehindHead Chunked bytes (λ rest.
+    ¬ (MayBecomeBody rest) × HasNoBody rest × ¬ (PassesLimit rest))
 LiesWhole before bytes too_long = IsTooLong bytes
 LiesWhole before bytes coded = IsFramed Coded bytes
 
 -- No item is complete in these bytes: there is no head, or its body isn't complete yet.
 pub data IsUnfinished (bytes : List ℕ) : Type 0 where
   lacks_head : HasNoHead bytes → IsUnfinished bytes
-  lacks_body : (len : ℕ) → BehindHead (Length len) bytes (λ rest. length rest < len) → IsUnfinished bytes
-  lacks_chunks : BehindHead Chunked bytes (λ rest. MayBecomeBody rest × HasNoBody rest × ¬ (PassesLimit rest))
+  lacks_body : (len : ℕ) → BehindHead (Length len) bytes (λ rest. length rest < len)
+      → IsUnfinished bytes
+  lacks_chunks : BehindHead Chunked bytes (λ rest.
+      MayBecomeBody rest × HasNoBody rest × ¬ (PassesLimit rest))
       → IsUnfinished bytes

@@ -1,7 +1,8 @@
 -- The limits of requests, which are the constants of the code. They are this server's own, as RFC
 -- 9110 (section 5.4) and RFC 9112 (sections 3 and 7.1.1) allow.
 use Rattle.std.specs.Prelude.{ℕ, ◌+◌}
-use Rattle.http_wire.specs.declared.limits.TheConstants.{MAX_HEAD, MAX_FIELDS, MAX_BODY, MAX_DIGITS, MAX_LINE, MAX_TRAILERS, MAX_REQUESTS}
+use Rattle.http_wire.specs.declared.limits.TheConstants.{MAX_HEAD, MAX_FIELDS, MAX_BODY, MAX_DIGITS}
+use Rattle.http_wire.specs.declared.limits.TheConstants.{MAX_LINE, MAX_TRAILERS, MAX_REQUESTS}
 
 -- the greatest number of bytes of a head, from its first line to the empty one
 abbrev pub max_head_bytes : ℕ

@@ -3,20 +3,25 @@
 -- and which edit was made. `fixed` gives the bytes of the reply without body that has a status and
 -- ends the connection. Of a connection only the bytes given on it matter, and whether a read found
 -- their end; so this applies to real sockets, too.
-use Rattle.std.specs.Prelude.{◌≡◌, ℕ, ◌+◌, ◌<◌, ◌⊎◌, Bool, true, false, List, [], ◌∷◌, ◌++◌, length, take, Option, None, option_to_list}
+use Rattle.std.specs.Prelude.{◌≡◌, ℕ, ◌+◌, ◌<◌, ◌⊎◌, Bool, true, false, List, [], ◌∷◌, ◌++◌, length}
+use Rattle.std.specs.Prelude.{take, Option, None, option_to_list}
 use Rattle.xcap_io.specs.Causes.{RoseBy}
 use Rattle.xcap_io.specs.Histories.{Traffic}
 use Rattle.http_wire.specs.declared.close_reason.CloseReason.{CloseReason}
-use Rattle.http_wire.specs.declared.close_reason.CloseReason.TheVariants.{Closed, ReadFailed, WriteFailed}
+use Rattle.http_wire.specs.declared.close_reason.CloseReason.TheVariants.{Closed, ReadFailed}
+use Rattle.http_wire.specs.declared.close_reason.CloseReason.TheVariants.{WriteFailed}
 use Rattle.http_wire.specs.declared.request.Request.{Request}
-use Rattle.http_wire.specs.Items.{Item, asks, bad, too_long, coded, IsFirst, AsksFor, ends_connection, IsUnfinished}
+use Rattle.http_wire.specs.Items.{Item, asks, bad, too_long, coded, IsFirst, AsksFor}
+use Rattle.http_wire.specs.Items.{ends_connection, IsUnfinished}
 
-module _ {M E : Type 0} (Step : M → Request → List ℕ → M → Option E → Type 0) (fixed : ℕ → List ℕ) where
+module _ {M E : Type 0} (Step : M → Request → List ℕ → M → Option E → Type 0)
+    (fixed : ℕ → List ℕ) where
   -- How an item is answered. An item that is no request gets a fixed reply and changes nothing.
   abbrev pub AnswersItem : M → Item → List ℕ → M → Option E → Type 0
   AnswersItem machine (asks request) reply next edit = Step machine request reply next edit
   AnswersItem machine bad reply next edit = (reply ≡ fixed 400) × (next ≡ machine) × (edit ≡ None)
-  AnswersItem machine too_long reply next edit = (reply ≡ fixed 413) × (next ≡ machine) × (edit ≡ None)
+  AnswersItem machine too_long reply next edit =
+      (reply ≡ fixed 413) × (next ≡ machine) × (edit ≡ None)
   AnswersItem machine coded reply next edit = (reply ≡ fixed 501) × (next ≡ machine) × (edit ≡ None)
 
   -- The bytes, after `before` requests, begin with these requests, none of which ends the
@@ -26,8 +31,10 @@ module _ {M E : Type 0} (Step : M → Request → List ℕ → M → Option E �
   Run before machine bytes [] written edits next rest =
       (written ≡ []) × (edits ≡ []) × (next ≡ machine) × (bytes ≡ rest)
   Run before machine bytes (request ∷ requests) written edits next rest =
-      (behind : List ℕ) × (reply : List ℕ) × (mid : M) × (edit : Option E) × (more : List ℕ) × (later : List E)
-      × AsksFor before bytes request behind × (request.closes ≡ false) × Step machine request reply mid edit
+      (behind : List ℕ) × (reply : List ℕ) × (mid : M) × (edit : Option E) × (more : List ℕ)
+      × (later : List E)
+      × AsksFor before bytes request behind × (request.closes ≡ false)
+      × Step machine request reply mid edit
       × (written ≡ reply ++ more) × (edits ≡ option_to_list edit ++ later)
       × Run (before + 1) mid behind requests more later next rest
 
@@ -35,16 +42,20 @@ module _ {M E : Type 0} (Step : M → Request → List ℕ → M → Option E �
   -- and whether a read found the end: with no further reply, where no byte was given and the end
   -- was found; with the reply to an item that ends it; or with the fixed 503 in place of a
   -- request, which means out of memory and changes nothing.
-  pub data Closes (before : ℕ) (machine : M) (given : List ℕ) (ended : Bool) (reply : List ℕ) (next : M) (edit : Option E) : Type 0 where
+  pub data Closes (before : ℕ) (machine : M) (given : List ℕ) (ended : Bool) (reply : List ℕ)
+      (next : M) (edit : Option E) : Type 0 where
     no_more : given ≡ [] → ended ≡ true → reply ≡ [] → next ≡ machine → edit ≡ None
         → Closes before machine given ended reply next edit
     last_item : (item : Item) → IsFirst before given ended item → ends_connection item ≡ true
-        → AnswersItem machine item reply next edit → Closes before machine given ended reply next edit
-    no_memory : (request : Request) (rest : List ℕ) → AsksFor before given request rest → reply ≡ fixed 503
+        → AnswersItem machine item reply next edit
+        → Closes before machine given ended reply next edit
+    no_memory : (request : Request) (rest : List ℕ) → AsksFor before given request rest
+        → reply ≡ fixed 503
         → next ≡ machine → edit ≡ None → Closes before machine given ended reply next edit
 
   -- A request that keeps the connection open is answered.
-  pub record GoesOn (before : ℕ) (machine : M) (bytes reply : List ℕ) (next : M) (edit : Option E) (rest : List ℕ) : Type 0 where
+  pub record GoesOn (before : ℕ) (machine : M) (bytes reply : List ℕ) (next : M) (edit : Option E)
+      (rest : List ℕ) : Type 0 where
     pub request : Request
     pub asked : AsksFor before bytes request rest
     pub stays : request.closes ≡ false
@@ -54,17 +65,21 @@ module _ {M E : Type 0} (Step : M → Request → List ℕ → M → Option E �
   -- written then. Where a read failed, no item is complete in these bytes. A failed write leaves a
   -- proper prefix of a reply, and the item has had its effect.
   abbrev pub EndsBy : CloseReason → ℕ → M → List ℕ → Bool → List ℕ → M → Option E → Type 0
-  EndsBy Closed before machine given ended written next edit = Closes before machine given ended written next edit
+  EndsBy Closed before machine given ended written next edit =
+      Closes before machine given ended written next edit
   EndsBy ReadFailed before machine given ended written next edit =
       IsUnfinished given × (written ≡ []) × (next ≡ machine) × (edit ≡ None)
   EndsBy WriteFailed before machine given ended written next edit =
-      (reply : List ℕ) × (n : ℕ) × (n < length reply) × (written ≡ take n reply)
-      × (Closes before machine given ended reply next edit ⊎ ((rest : List ℕ) × GoesOn before machine given reply next edit rest))
+      (reply : List ℕ) × (n : ℕ)
+      × (n < length reply) × (written ≡ take n reply)
+      × (Closes before machine given ended reply next edit
+      ⊎ ((rest : List ℕ) × GoesOn before machine given reply next edit rest))
 
   -- One connection with this traffic: requests at the front of the bytes given, after which it
   -- went on, and then what ended it. The replies to these items, one after the other, are the
   -- bytes written, and their edits are all that were reported.
-  pub record Serves (ending : CloseReason) (machine : M) (passed : Traffic) (next : M) (edits : List E) : Type 0 where
+  pub record Serves (ending : CloseReason) (machine : M) (passed : Traffic) (next : M)
+      (edits : List E) : Type 0 where
     pub requests : List Request
     pub replies : List ℕ
     pub early : List E
@@ -82,7 +97,8 @@ module _ {M E : Type 0} (Step : M → Request → List ℕ → M → Option E �
   abbrev pub ServesEach : M → List Traffic → List CloseReason → M → List E → Type 0
   ServesEach machine [] endings next edits = (endings ≡ []) × (next ≡ machine) × (edits ≡ [])
   ServesEach machine (passed ∷ connections) endings next edits =
-      (ending : CloseReason) × (others : List CloseReason) × (mid : M) × (first : List E) × (later : List E)
+      (ending : CloseReason) × (others : List CloseReason) × (mid : M) × (first : List E)
+      × (later : List E)
       × (endings ≡ ending ∷ others) × (edits ≡ first ++ later)
       × Serves ending machine passed mid first
       × ServesEach mid connections others next later
@@ -90,7 +106,8 @@ module _ {M E : Type 0} (Step : M → Request → List ℕ → M → Option E �
 -- These are all bytes of a connection with this traffic: those given, and those left, of which
 -- there are none where a read found the end.
 abbrev pub HasBytes : List ℕ → Traffic → Type 0
-HasBytes bytes passed = (left : List ℕ) × (bytes ≡ passed.given ++ left) × (passed.ended ≡ true → left ≡ [])
+HasBytes bytes passed =
+    (left : List ℕ) × (bytes ≡ passed.given ++ left) × (passed.ended ≡ true → left ≡ [])
 
 -- each list has all bytes of the connection at its place
 abbrev pub HaveBytes : List (List ℕ) → List Traffic → Type 0
@@ -109,7 +126,8 @@ abbrev pub counted_each : List Traffic → List (List ℕ) → List CloseReason 
 counted_each [] all endings = []
 counted_each (passed ∷ connections) [] endings = passed ∷ connections
 counted_each (passed ∷ connections) (bytes ∷ all) [] = passed ∷ connections
-counted_each (passed ∷ connections) (bytes ∷ all) (ending ∷ endings) = counted ending bytes passed ∷ counted_each connections all endings
+counted_each (passed ∷ connections) (bytes ∷ all) (ending ∷ endings) =
+    counted ending bytes passed ∷ counted_each connections all endings
 
 -- how many connections ended with a failed read
 abbrev pub read_failures : List CloseReason → ℕ
@@ -123,7 +141,9 @@ write_failures (WriteFailed ∷ endings) = write_failures endings + 1
 write_failures (_ ∷ endings) = write_failures endings
 
 -- All connections, where each failure is one of the reads or writes that failed.
-pub record ServesAll {M E : Type 0} (Step : M → Request → List ℕ → M → Option E → Type 0) (fixed : ℕ → List ℕ) (machine : M) (connections : List Traffic) (next : M) (edits : List E) (reads reads' writes writes' : ℕ) : Type 0 where
+pub record ServesAll {M E : Type 0} (Step : M → Request → List ℕ → M → Option E → Type 0)
+    (fixed : ℕ → List ℕ) (machine : M) (connections : List Traffic) (next : M) (edits : List E)
+    (reads reads' writes writes' : ℕ) : Type 0 where
   pub endings : List CloseReason
   pub each : ServesEach Step fixed machine connections endings next edits
   pub read_bound : RoseBy (read_failures endings) reads reads'

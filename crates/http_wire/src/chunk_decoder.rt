@@ -1,6 +1,9 @@
 // Decodes chunked bodies as their bytes arrive (RFC 9112, section 7.1).
 ghost use Rattle.std.specs.Prelude.{◌≡◌, ◌<◌, ◌≤◌, ◌+◌, length, take, false, IfOk};
-ghost use Rattle.http_wire.specs.inner.Decoding.{Decoding, start, is_settled, is_data, after_digits, in_digits, in_extension, after_line, in_trailers, if_feed, next_stage, next_decoding, ReadsOn, Fits};
+ghost use Rattle.http_wire.specs.inner.Decoding.{Decoding, start, is_settled, is_data};
+ghost use Rattle.http_wire.specs.inner.Decoding.{after_digits, in_digits, in_extension, after_line};
+ghost use Rattle.http_wire.specs.inner.Decoding.{in_trailers, if_feed, next_stage, next_decoding};
+ghost use Rattle.http_wire.specs.inner.Decoding.{ReadsOn, Fits};
 
 use crate::limits::{MAX_BODY, MAX_DIGITS, MAX_LINE, MAX_TRAILERS};
 use httparse::{is_header_value_token, is_space_or_tab, parse_hex_digit};
@@ -177,7 +180,8 @@ impl Model for Decoder {
 
     ghost view = { λ d. record { stage = d.stage; body = take d.decoded d.buffer.items } };
 
-    ghost invariant = { λ d. (length d.buffer.items ≡ MAX_BODY) × (d.decoded ≤ MAX_BODY) × Fits d.stage d.decoded };
+    ghost invariant = { λ d.
+        (length d.buffer.items ≡ MAX_BODY) × (d.decoded ≤ MAX_BODY) × Fits d.stage d.decoded };
 }
 
 impl Decoder {

@@ -1,10 +1,12 @@
 // What a head's fields say about its body and the connection (RFC 9112, sections 3.2, 6.3 and
 // 9.6).
-ghost use Rattle.std.specs.Prelude.{◌≡◌, ◌+◌, ◌==◌, ◌||◌, ℕ, List, [], ◌∷◌, ◌++◌, min, All, map, length, reverse, Some, None, nat_lt, not, codes, if◌then◌else◌};
+ghost use Rattle.std.specs.Prelude.{◌≡◌, ◌+◌, ◌==◌, ◌||◌, ℕ, List, [], ◌∷◌, ◌++◌, min, All, map};
+ghost use Rattle.std.specs.Prelude.{length, reverse, Some, None, nat_lt, not, codes, if◌then◌else◌};
 ghost use Rattle.std.specs.Str.Parse.{digits_value};
 ghost use Rattle.httparse.specs.Grammar.{skip_ows, trim_ows};
 ghost use Rattle.httparse.specs.Spans.{IsHeaderWithin, header_bytes};
-ghost use Rattle.http_wire.specs.Fields.{same_ignoring_case, values_of, is_number, has_close, asks_to_close, Found};
+ghost use Rattle.http_wire.specs.Fields.{same_ignoring_case, values_of, is_number, has_close};
+ghost use Rattle.http_wire.specs.Fields.{asks_to_close, Found};
 ghost use Rattle.http_wire.specs.Framing.{lacks_host, length_by, coding_by, framing};
 ghost use Rattle.http_wire.specs.inner.ReadBuffer.{IsWithinLimit};
 

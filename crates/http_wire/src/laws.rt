@@ -1,7 +1,8 @@
 // Laws of the definitions that the contracts cite.
 ghost use Rattle.std.specs.Prelude.{◌≡◌, ◌↔◌, ◌++◌, true, List, ℕ};
 ghost use Rattle.xcap_io.specs.Histories.{Traffic};
-ghost use Rattle.http_wire.specs.Items.{Item, FirstItem, IsFirst, SameRest, Talk, LiesWhole, IsUnfinished};
+ghost use Rattle.http_wire.specs.Items.{Item, FirstItem, IsFirst, SameRest, Talk, LiesWhole};
+ghost use Rattle.http_wire.specs.Items.{IsUnfinished};
 ghost use Rattle.http_wire.specs.Serving.{HasBytes};
 
 /// A law: a connection's bytes have one first item, and after a request one rest; so they have one

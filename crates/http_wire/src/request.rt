@@ -9,7 +9,7 @@ use crate::limits::MAX_REQUESTS;
 use httparse::spans::{HeaderSpan, RequestSpans};
 use std::alloc::Global;
 use xcap_io::{Bytes, NoMemory};
-use xml_tree::{List, Text};
+use xml_names::{List, Text};
 
 /// A field line of a head (RFC 9110, section 5): the name as it was spelled, and the value without
 /// spaces and tabs at its ends.

@@ -1,5 +1,6 @@
 // The read buffer of a connection, and the request reader around it.
-ghost use Rattle.std.specs.Prelude.{◌≡◌, ◌+◌, ◌-◌, ◌<◌, ◌≤◌, ◌↔◌, [], length, drop, take, slice_range, IfOk, OnErr, IsTrue};
+ghost use Rattle.std.specs.Prelude.{◌≡◌, ◌+◌, ◌-◌, ◌<◌, ◌≤◌, ◌↔◌, [], length, drop, take};
+ghost use Rattle.std.specs.Prelude.{slice_range, IfOk, OnErr, IsTrue};
 ghost use Rattle.xcap_io.specs.Causes.{OnlyReads};
 ghost use Rattle.http_wire.specs.Asking.{RequestReaderState, fresh_request_reader};
 ghost use Rattle.http_wire.specs.inner.ReadBuffer.{Gains, GainedOrEnded, HoldsOrEnded};
@@ -30,7 +31,8 @@ impl Model for ReadBuffer {
 
     ghost view = { λ i. slice_range i.buffer.items i.start i.end };
 
-    ghost invariant = { λ i. (i.start ≤ i.end) × (i.end ≤ MAX_HELD) × (length i.buffer.items ≡ MAX_HELD) };
+    ghost invariant = { λ i.
+        (i.start ≤ i.end) × (i.end ≤ MAX_HELD) × (length i.buffer.items ≡ MAX_HELD) };
 }
 
 // Moves a range of the buffer to its front.

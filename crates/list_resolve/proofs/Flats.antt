@@ -2,8 +2,8 @@
 use Rattle.std.proofs.Common.{◌≡◌, ◌≤◌, ◌<◌, ◌+◌, ℕ, true, false, nat_lt, cond, List, [], ◌∷◌, fold, filter_map, count_by, Result, Ok, Err, IsErrAnd, subst, refl, sym, ap, ◌∙◌, arith}
 use Rattle.std.proofs.lemmas.Grind.{common_steps}
 use Rattle.list_resolve.specs.declared.fault.FlatFault.TheVariants.{NoService, TooWide, TooLarge}
-use Rattle.xml_tree.specs.declared.read_error.ReadError.TheVariants.{Fault, NoMemory}
-use Rattle.xml_tree.specs.Memory.{Answered}
+use Rattle.xml_names.specs.declared.read_error.ReadError.TheVariants.{Fault, NoMemory}
+use Rattle.xml_names.specs.Memory.{Answered}
 use Rattle.list_resolve.specs.Walks.{Item, address, mark}
 use Rattle.list_resolve.specs.declared.uri_collector.TheConstants.{MARK_LIMIT}
 use Rattle.list_resolve.specs.Flat.{item_address, is_mark, with_address, flat_of}

@@ -11,9 +11,9 @@ use Rattle.doc_names.specs.declared.doc_id.DocId.{DocId}
 use Rattle.doc_names.proofs.SameIds.{id_exact}
 use Rattle.std.proofs.lemmas.Bool.{and_from}
 use Rattle.std.specs.Cmp.Lexicographic.{bytes_decides}
-use Rattle.xml_tree.specs.Memory.{Answered}
-use Rattle.xml_tree.specs.declared.read_error.ReadError.{ReadError}
-use Rattle.xml_tree.specs.declared.read_error.ReadError.TheVariants.{Fault}
+use Rattle.xml_names.specs.Memory.{Answered}
+use Rattle.xml_names.specs.declared.read_error.ReadError.{ReadError}
+use Rattle.xml_names.specs.declared.read_error.ReadError.TheVariants.{Fault}
 use Rattle.xcap_uri.specs.Targets.{TargetResult, is_element}
 use Rattle.xcap_uri.specs.declared.fault.UriFault.{UriFault}
 use Rattle.xcap_uri.specs.declared.target.Target.{Target}

@@ -5,8 +5,8 @@ use Rattle.doc_names.specs.declared.doc_id.DocId.{DocId}
 use Rattle.store_core.specs.Contents.{StoreContents}
 use Rattle.list_resolve.specs.declared.fault.FlatFault.{FlatFault}
 use Rattle.list_resolve.specs.declared.fault.FlatFault.TheVariants.{NoService}
-use Rattle.xml_tree.specs.declared.read_error.ReadError.TheVariants.{Fault, NoMemory}
-use Rattle.xml_tree.specs.Memory.{Answered}
+use Rattle.xml_names.specs.declared.read_error.ReadError.TheVariants.{Fault, NoMemory}
+use Rattle.xml_names.specs.Memory.{Answered}
 use Rattle.list_resolve.specs.inner.Gathering.{FlatError}
 use Rattle.list_resolve.specs.ScopedElements.{ScopedElement}
 use Rattle.list_resolve.specs.Walks.{walk}

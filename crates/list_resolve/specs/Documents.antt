@@ -1,9 +1,10 @@
 -- The document of a flat list: one list with an entry for each address. RFC 4826, section 3.2.
-use Rattle.std.specs.Prelude.{ℕ, nat_lt, min, List, [], ◌∷◌, codes, map, Result, Ok, Err, if◌then◌else◌}
+use Rattle.std.specs.Prelude.{ℕ, nat_lt, min, List, [], ◌∷◌, codes, map, Result, Ok, Err}
+use Rattle.std.specs.Prelude.{if◌then◌else◌}
 use Rattle.xml_tree.specs.Tree.{Tree, tree_of, of_children}
-use Rattle.xml_tree.specs.Limits.{u64_max}
-use Rattle.xml_tree.specs.Scopes.{decl_of}
-use Rattle.xml_tree.specs.Expanded.{name_of}
+use Rattle.xml_names.specs.Limits.{u64_max}
+use Rattle.xml_names.specs.Scopes.{decl_of}
+use Rattle.xml_names.specs.Expanded.{name_of}
 use Rattle.usage_docs.specs.SchemaTable.{lists_namespace}
 use Rattle.usage_docs.specs.Services.{document_len}
 use Rattle.list_resolve.specs.declared.document.TheConstants.{DOCUMENT_LIMIT}
@@ -12,7 +13,9 @@ use Rattle.list_resolve.specs.declared.fault.FlatFault.TheVariants.{TooLarge}
 
 -- `<entry uri="U"/>`
 abbrev pub entry_tree : List ℕ → Tree
-entry_tree uri = tree_of (name_of [] (codes "entry")) [] (record { name = name_of [] (codes "uri"); value = uri } ∷ []) (of_children [])
+entry_tree uri =
+    tree_of (name_of [] (codes "entry")) []
+    (record { name = name_of [] (codes "uri"); value = uri } ∷ []) (of_children [])
 
 -- `<list>`, the entries in order, `</list>`
 abbrev pub list_tree : List (List ℕ) → Tree
@@ -20,7 +23,9 @@ list_tree uris = tree_of (name_of [] (codes "list")) [] [] (of_children (map ent
 
 -- the root, with this list and nothing else
 abbrev pub flat_tree : List (List ℕ) → Tree
-flat_tree uris = tree_of (name_of [] (codes "resource-lists")) (decl_of [] lists_namespace ∷ []) [] (of_children (list_tree uris ∷ []))
+flat_tree uris =
+    tree_of (name_of [] (codes "resource-lists")) (decl_of [] lists_namespace ∷ []) []
+    (of_children (list_tree uris ∷ []))
 
 -- the document of a flat list, unless it would have more than `DOCUMENT_LIMIT` bytes, printed
 abbrev pub flat_document : List (List ℕ) → Result Tree FlatFault

@@ -3,9 +3,11 @@
 -- text of a resource-list).
 use Rattle.std.specs.Prelude.{ℕ, Bool, true, false, List, ◌∷◌, ◌++◌, Option, None, Some, option_map}
 use Rattle.xml_tree.specs.Tree.{Content}
-use Rattle.xml_tree.specs.declared.names.Attr.{Attr}
+use Rattle.xml_names.specs.declared.names.Attr.{Attr}
 use Rattle.usage_docs.specs.declared.schema_table.ElementKind.{ElementKind}
-use Rattle.usage_docs.specs.declared.schema_table.ElementKind.TheVariants.{EntryList, Entry, EntryRef, External, ResourceList}
+use Rattle.usage_docs.specs.declared.schema_table.ElementKind.TheVariants.{EntryList, Entry}
+use Rattle.usage_docs.specs.declared.schema_table.ElementKind.TheVariants.{EntryRef, External}
+use Rattle.usage_docs.specs.declared.schema_table.ElementKind.TheVariants.{ResourceList}
 use Rattle.usage_docs.specs.declared.schema_table.Key.TheVariants.{Ref, Anchor}
 use Rattle.usage_docs.specs.Keys.{value_of}
 use Rattle.usage_docs.specs.Forms.{trim_text}
@@ -18,9 +20,13 @@ use Rattle.list_resolve.specs.declared.reference.Reference.{Reference}
 -- the reference that an element of this kind is, under this root; in a valid document its
 -- attribute exists. The target of a `ref` is the root, a slash and the value.
 abbrev pub reference_of : List ℕ → ElementKind → List Attr → Content → Option Reference
-reference_of root EntryRef ats k = option_map (λ value. record { wanted = AnEntry; target = root ++ slash ∷ value }) (value_of Ref ats)
-reference_of root External ats k = option_map (λ value. record { wanted = AList; target = value }) (value_of Anchor ats)
-reference_of root ResourceList ats k = Some (record { wanted = AList; target = trim_text (text_of k) })
+reference_of root EntryRef ats k =
+    option_map (λ value. record { wanted = AnEntry; target = root ++ slash ∷ value })
+    (value_of Ref ats)
+reference_of root External ats k =
+    option_map (λ value. record { wanted = AList; target = value }) (value_of Anchor ats)
+reference_of root ResourceList ats k =
+    Some (record { wanted = AList; target = trim_text (text_of k) })
 reference_of root _ ats k = None
 
 -- whether a reference to such a target may lead to an element of this kind

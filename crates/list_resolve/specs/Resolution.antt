@@ -2,7 +2,8 @@
 -- addresses (RFC 4825, section 6), if that is the address of an element in the same user's
 -- documents of lists in this store, and the element is an entry or a list, as the reference
 -- requires.
-use Rattle.std.specs.Prelude.{◌≡◌, ℕ, Bool, ◌&&◌, List, Option, None, Some, Result, Ok, option_map, option_and_then, encode_utf8_all, if◌then◌else◌}
+use Rattle.std.specs.Prelude.{◌≡◌, ℕ, Bool, ◌&&◌, List, Option, None, Some, Result, Ok, option_map}
+use Rattle.std.specs.Prelude.{option_and_then, encode_utf8_all, if◌then◌else◌}
 use Rattle.xml_tree.specs.Tree.{Tree}
 use Rattle.node_select.specs.Selection.{selected_in}
 use Rattle.doc_names.specs.Equality.{same_auid, same_home}
@@ -40,20 +41,31 @@ is_own home doc = same_auid doc.auid auids.ResourceLists && same_home doc.home h
 -- the element at a path of a document with this name, if it is of the expected kind
 abbrev pub lead_at : ReferenceTarget → List ℕ → Tree → List ℕ → Option ResolvedReference
 lead_at wanted name root path =
-    option_and_then (λ scoped_element. if is_wanted wanted scoped_element.kind then Some (record { place = record { name = name; path = path }; scoped_element = scoped_element }) else None) (list_element root path)
+    option_and_then (λ scoped_element.
+    if is_wanted wanted scoped_element.kind
+    then Some
+    (record { place = record { name = name; path = path }; scoped_element = scoped_element })
+    else None)
+    (list_element root path)
 
 -- the tree of a document, if it is stored
 abbrev pub tree_held : List StoredDocument → DocId → Option Tree
 tree_held hs doc = option_map (λ h. h.tree) (document_in stored_name hs doc)
 
 -- where a target with this meaning leads: the address of a node, to what its selector selects
-abbrev pub lead_of : ResolutionContext → ReferenceTarget → Result Target UriFault → Option ResolvedReference
+abbrev pub lead_of : ResolutionContext → ReferenceTarget → Result Target UriFault
+    → Option ResolvedReference
 lead_of g wanted (Ok (Node doc selector)) =
     if is_own g.home doc && is_element selector.end
-    then option_and_then (λ root. option_and_then (lead_at wanted doc.name root) (selected_in selector.steps root)) (tree_held g.documents doc)
+    then option_and_then
+    (λ root. option_and_then (lead_at wanted doc.name root) (selected_in selector.steps root))
+    (tree_held g.documents doc)
     else None
 lead_of g wanted _ = None
 
 -- this map says of every reference where it leads, by a meaning of its target
 abbrev pub AreLeads : ResolutionContext → (Reference → Option ResolvedReference) → Type 0
-AreLeads g resolve_reference = (r : Reference) → (read : Result Target UriFault) × TargetResult g.root (encode_utf8_all r.target) read × (resolve_reference r ≡ lead_of g r.wanted read)
+AreLeads g resolve_reference =
+    (r : Reference)
+    → (read : Result Target UriFault) × TargetResult g.root (encode_utf8_all r.target) read
+    × (resolve_reference r ≡ lead_of g r.wanted read)

@@ -1,8 +1,9 @@
 -- Elements of an element kind, each with the scope inside it. RFC 4826, sections 3.2 and 4.2;
 -- Namespaces in XML 1.0, section 6.
-use Rattle.std.specs.Prelude.{ℕ, List, [], ◌∷◌, Option, Some, option_map, option_and_then, slice_get}
+use Rattle.std.specs.Prelude.{ℕ, List, [], ◌∷◌, Option, Some, option_map, option_and_then}
+use Rattle.std.specs.Prelude.{slice_get}
 use Rattle.xml_tree.specs.Tree.{Tree, child_elements_of}
-use Rattle.xml_tree.specs.Scopes.{inside}
+use Rattle.xml_tree.specs.TreeScopes.{inside}
 use Rattle.usage_docs.specs.declared.schema_table.ElementKind.{ElementKind}
 use Rattle.usage_docs.specs.declared.schema_table.ElementKind.TheVariants as kinds
 use Rattle.usage_docs.specs.SchemaTable.{Scope, kind_of}
@@ -15,12 +16,17 @@ pub record ScopedElement : Type 0 where
 
 -- a child of such an element, if it has an element kind itself
 abbrev pub child_spot : ScopedElement → Tree → Option ScopedElement
-child_spot s child_element = option_map (λ kind. record { kind = kind; scope = inside s.scope child_element; element = child_element }) (kind_of s.kind (inside s.scope child_element) child_element.name)
+child_spot s child_element =
+    option_map
+    (λ kind. record { kind = kind; scope = inside s.scope child_element; element = child_element })
+    (kind_of s.kind (inside s.scope child_element) child_element.name)
 
 -- the element at a path from there, if all on the path have element kinds
 abbrev pub scoped_element_below : ScopedElement → List ℕ → Option ScopedElement
 scoped_element_below s [] = Some s
-scoped_element_below s (n ∷ p) = option_and_then (λ k. scoped_element_below k p) (option_and_then (child_spot s) (slice_get (child_elements_of s.element) n))
+scoped_element_below s (n ∷ p) =
+    option_and_then (λ k. scoped_element_below k p)
+    (option_and_then (child_spot s) (slice_get (child_elements_of s.element) n))
 
 -- the root of a document whose root is of this kind
 abbrev pub root_element : ElementKind → Tree → ScopedElement

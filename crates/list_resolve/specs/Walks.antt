@@ -5,7 +5,7 @@
 use Rattle.std.specs.Prelude.{ℕ, zero, suc, List, [], ◌∷◌, ◌++◌, Option, if◌then◌else◌}
 use Rattle.std.specs.Option.{option_map_or}
 use Rattle.xml_tree.specs.Tree.{Content, last, more, comment_node}
-use Rattle.xml_tree.specs.declared.names.Attr.{Attr}
+use Rattle.xml_names.specs.declared.names.Attr.{Attr}
 use Rattle.usage_docs.specs.declared.schema_table.ElementKind.{ElementKind}
 use Rattle.usage_docs.specs.declared.schema_table.ElementKind.TheVariants.{EntryList, Entry}
 use Rattle.usage_docs.specs.declared.schema_table.Key.TheVariants.{Uri}
@@ -27,10 +27,13 @@ pub data Item : Type 0 where
 -- what an element of this kind gives, where a list gives these items: an entry its address, which
 -- it has in a valid document; a list its walk; a reference a mark, and then what it leads to; and
 -- any other element nothing
-abbrev pub kind_items : (Reference → List Item) → List ℕ → ElementKind → List Attr → Content → List Item → List Item
-kind_items behind root Entry ats k items = option_map_or (λ uri. address uri ∷ []) (value_of Uri ats) []
+abbrev pub kind_items : (Reference → List Item) → List ℕ → ElementKind → List Attr → Content
+    → List Item → List Item
+kind_items behind root Entry ats k items =
+    option_map_or (λ uri. address uri ∷ []) (value_of Uri ats) []
 kind_items behind root EntryList ats k items = items
-kind_items behind root kind ats k items = option_map_or (λ r. mark ∷ behind r) (reference_of root kind ats k) []
+kind_items behind root kind ats k items =
+    option_map_or (λ r. mark ∷ behind r) (reference_of root kind ats k) []
 
 -- the walk of the content of an element of this kind, in the scope inside it: what its children
 -- that have element kinds give, in order
@@ -38,20 +41,31 @@ abbrev pub walked : (Reference → List Item) → List ℕ → ElementKind → S
 walked behind root row c (last t) = []
 walked behind root row c (comment_node t x rest) = walked behind root row c rest
 walked behind root row c (more t n ds ats k rest) =
-    option_map_or (λ kind. kind_items behind root kind ats k (walked behind root EntryList (c ++ ds ∷ []) k)) (kind_of row (c ++ ds ∷ []) n) [] ++ walked behind root row c rest
+    option_map_or
+    (λ kind. kind_items behind root kind ats k (walked behind root EntryList (c ++ ds ∷ []) k))
+    (kind_of row (c ++ ds ∷ []) n) []
+    ++ walked behind root row c rest
 
 -- what an element of an element kind gives
 abbrev pub scoped_element_items : (Reference → List Item) → List ℕ → ScopedElement → List Item
-scoped_element_items behind root s = kind_items behind root s.kind s.element.attrs s.element.content (walked behind root EntryList s.scope s.element.content)
+scoped_element_items behind root s =
+    kind_items behind root s.kind s.element.attrs s.element.content
+    (walked behind root EntryList s.scope s.element.content)
 
 -- what comes after a mark: what the element that the reference leads to gives, unless it is
 -- already on the chain of elements that the walk is in, to which n more may be added
-abbrev pub walk_after : (Reference → Option ResolvedReference) → List ℕ → ℕ → List Place → Reference → List Item
+abbrev pub walk_after : (Reference → Option ResolvedReference) → List ℕ → ℕ → List Place → Reference
+    → List Item
 walk_after resolve_reference root zero chain r = []
 walk_after resolve_reference root (suc left) chain r =
-    option_map_or (λ l. if is_on chain l.place then [] else scoped_element_items (walk_after resolve_reference root left (l.place ∷ chain)) root l.scoped_element) (resolve_reference r) []
+    option_map_or (λ l.
+    if is_on chain l.place then []
+    else scoped_element_items (walk_after resolve_reference root left (l.place ∷ chain)) root
+    l.scoped_element)
+    (resolve_reference r) []
 
 -- the walk of an element of an element kind, with an empty chain, which may have at most
 -- `CHAIN_LIMIT` elements
 abbrev pub walk : (Reference → Option ResolvedReference) → List ℕ → ScopedElement → List Item
-walk resolve_reference root s = walked (walk_after resolve_reference root CHAIN_LIMIT []) root s.kind s.scope s.element.content
+walk resolve_reference root s =
+    walked (walk_after resolve_reference root CHAIN_LIMIT []) root s.kind s.scope s.element.content

@@ -2,16 +2,15 @@
 ghost use Rattle.std.specs.Prelude.{◌≡◌, [], ◌∷◌, ◌++◌, IfOk, IsTrue, OnOk, codes, min};
 ghost use Rattle.usage_docs.specs.Services.{document_len};
 ghost use Rattle.usage_docs.specs.Words.{is_ascii};
-ghost use Rattle.xml_tree.specs.Expanded.{name_of};
-ghost use Rattle.xml_tree.specs.Memory.{Answered};
+ghost use Rattle.xml_names.specs.Expanded.{name_of};
+ghost use Rattle.xml_names.specs.Memory.{Answered};
 ghost use Rattle.xml_tree.specs.Tree.{of_children, tree_of};
 ghost use Rattle.list_resolve.specs.Documents.{entry_tree, flat_document, flat_tree, list_tree};
 
 use crate::fault::FlatFault;
 use std::alloc::Global;
-use xml_tree::{
-    Attr, Decl, Element, LocalName, Name, NoMemory, Prefix, ReadError, Text, printed_len,
-};
+use xml_names::{Attr, Decl, LocalName, Name, NoMemory, Prefix, ReadError, Text};
+use xml_tree::{Element, printed_len};
 
 /// The greatest number of bytes of the printed document.
 const DOCUMENT_LIMIT: usize = 16_777_216;
@@ -62,7 +61,10 @@ fn empty(alloc: Global, local: &str) -> Result<Element, NoMemory>
 // Adds an address to an entry.
 fn push_uri(alloc: Global, entry: &mut Element, uri: &Text) -> Result<(), NoMemory>
     ensures ok { OnOk result
-        (entry.new ≡ record entry.old { attrs = entry.old.attrs ++ record { name = name_of [] (codes "uri"); value = uri.now } ∷ [] }) }
+        (entry.new ≡ record entry.old {
+          attrs =
+              entry.old.attrs ++ record { name = name_of [] (codes "uri"); value = uri.now } ∷ [];
+        }) }
 {
     let name = plain(alloc, "uri")?;
     let value = uri.copy(alloc)?;

@@ -3,7 +3,8 @@ ghost use Rattle.std.specs.Prelude.{◌≡◌};
 ghost use Rattle.list_resolve.specs.Places.{same_place};
 
 use std::hash::{Hash, Hasher};
-use xml_tree::{Path, Text};
+use xml_names::Text;
+use xml_tree::Path;
 
 /// The name of a document, and the path of an element in it.
 #[derive(Drop)]

@@ -1,7 +1,7 @@
 //! Why there is no flat list.
 
 use thiserror::Error;
-use xml_tree::ReadError;
+use xml_names::ReadError;
 
 /// Why there is no flat list, or out of memory.
 pub(crate) type FlatError = ReadError<FlatFault>;

@@ -2,7 +2,7 @@
 ghost use Rattle.std.specs.Prelude.{◌≡◌, chars, false, length, option_and_then, option_map};
 ghost use Rattle.std.specs.Str.{bytes_eq};
 ghost use Rattle.std.specs.Option.{option_map_or};
-ghost use Rattle.xml_tree.specs.Memory.{Answered};
+ghost use Rattle.xml_names.specs.Memory.{Answered};
 ghost use Rattle.usage_docs.specs.declared.schema_table.Key.TheVariants.{Uri};
 ghost use Rattle.usage_docs.specs.Keys.{value_of};
 ghost use Rattle.list_resolve.specs.Flat.{IsFlatList, flat_of, service_of, service_element};
@@ -22,7 +22,8 @@ use std::alloc::Global;
 use store_core::Store;
 use usage_docs::{ElementKind, Key, value_of};
 use xcap_uri::Root;
-use xml_tree::{Attr, Element, LinkedScope, List, Node, ReadError, Text};
+use xml_names::{Attr, List, ReadError, Text};
+use xml_tree::{Element, LinkedScope, Node};
 
 /// The greatest number of elements of a chain.
 const CHAIN_LIMIT: usize = 16;

@@ -1,18 +1,20 @@
 //! References, and their targets (RFC 4826, sections 3.4.5 and 4.4.5).
 ghost use Rattle.std.specs.Prelude.{◌≡◌, ◌∷◌, ◌++◌, [], IfOk, chars};
-ghost use Rattle.usage_docs.specs.declared.schema_table.ElementKind.TheVariants.{EntryRef, External};
+ghost use Rattle.usage_docs.specs.declared.schema_table.ElementKind.TheVariants.{EntryRef};
+ghost use Rattle.usage_docs.specs.declared.schema_table.ElementKind.TheVariants.{External};
 ghost use Rattle.usage_docs.specs.Forms.{trim_text, trim_front, trim_back};
 ghost use Rattle.usage_docs.specs.Texts.{text_of};
-ghost use Rattle.xml_tree.specs.Characters.{is_space};
+ghost use Rattle.xml_names.specs.Characters.{is_space};
 ghost use Rattle.xml_tree.specs.Tree.{last};
 ghost use Rattle.xcap_uri.specs.Roots.{slash};
 ghost use Rattle.list_resolve.specs.References.{is_wanted, reference_of};
 
 use std::alloc::Global;
-use tree_text::{chars_of_text, no_text, text_of};
 use usage_docs::{ElementKind, Key, value_of};
 use xcap_uri::Root;
-use xml_tree::{Attr, Element, NoMemory, Node, Text, is_space};
+use xml_names::{Attr, NoMemory, Text, is_space};
+use xml_tokens::{chars_of_text, no_text, text_of};
+use xml_tree::{Element, Node};
 
 /// The kind of element that a reference has to lead to.
 #[derive(Clone, Copy)]

@@ -1,13 +1,14 @@
 //! Resolves references.
 ghost use Rattle.std.specs.Prelude.{◌≡◌, ◌≤◌, option_and_then, option_map, IfOk, IfSome, Ok, Some};
-ghost use Rattle.xml_tree.specs.Limits.{max_levels};
+ghost use Rattle.xml_names.specs.Limits.{max_levels};
 ghost use Rattle.xml_tree.specs.Tree.{height};
 ghost use Rattle.doc_names.specs.Equality.{same_home};
 ghost use Rattle.node_select.specs.Selection.{selected_in};
 ghost use Rattle.xcap_uri.specs.Targets.{is_element};
 ghost use Rattle.xcap_uri.specs.declared.target.Target.TheVariants.{Node};
 ghost use Rattle.list_resolve.specs.Resolution.{is_own, lead_at, lead_of};
-ghost use Rattle.list_resolve.specs.inner.SkippedElements.{reference_resolved_in, scoped_element_at};
+ghost use Rattle.list_resolve.specs.inner.SkippedElements.{reference_resolved_in};
+ghost use Rattle.list_resolve.specs.inner.SkippedElements.{scoped_element_at};
 ghost use Rattle.list_resolve.specs.inner.Views.{context_in, lead_in, scoped_element_in};
 
 use crate::document_place::Place;
@@ -18,7 +19,8 @@ use node_select::{End, Selector, select};
 use std::alloc::{AllocError, Global};
 use store_core::Store;
 use xcap_uri::{Root, Target, read_target};
-use xml_tree::{Element, NoMemory, Path, ReadError, Text};
+use xml_names::{NoMemory, ReadError, Text};
+use xml_tree::{Element, Path};
 
 /// The context in which references are resolved: the stored documents, the XCAP root, and the home
 /// whose documents they may lead to.

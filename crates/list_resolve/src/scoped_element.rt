@@ -1,5 +1,6 @@
 //! Elements of an element kind, each with the scope inside it.
-ghost use Rattle.std.specs.Prelude.{◌≡◌, ◌+◌, ◌≤◌, ◌<◌, length, option_map, option_and_then, slice_get, IfSome};
+ghost use Rattle.std.specs.Prelude.{◌≡◌, ◌+◌, ◌≤◌, ◌<◌, length, option_map, option_and_then};
+ghost use Rattle.std.specs.Prelude.{slice_get, IfSome};
 ghost use Rattle.xml_tree.specs.declared.scope.TheConstants.{SCOPE_LIMIT};
 ghost use Rattle.xml_tree.specs.Tree.{height, child_elements_of};
 ghost use Rattle.list_resolve.specs.ScopedElements.{child_spot, list_element, root_element};

@@ -9,7 +9,7 @@ use crate::fault::{FlatError, FlatFault};
 use indexmap::IndexSet;
 use std::alloc::Global;
 use std::marker::Model;
-use xml_tree::{List, NoMemory, Text};
+use xml_names::{List, NoMemory, Text};
 
 /// The greatest number of references that a walk may meet.
 pub(crate) const MARK_LIMIT: usize = 4096;
@@ -33,7 +33,10 @@ impl Model for UriCollector {
 
     ghost coded = { gathered_code };
 
-    ghost view = { λ g. record { tally = record { uris = g.uris.keys; marks = g.marks }; passed = g.passed.keys } };
+    ghost view = { λ g. record {
+      tally = record { uris = g.uris.keys; marks = g.marks };
+      passed = g.passed.keys;
+    } };
 
     ghost invariant = { λ g. g.marks ≤ MARK_LIMIT };
 }

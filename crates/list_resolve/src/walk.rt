@@ -2,16 +2,19 @@
 //! 4.2).
 ghost use Rattle.std.specs.Prelude.{◌≡◌, ◌≤◌, ◌∷◌, [], Some, OnOk, if◌then◌else◌};
 ghost use Rattle.std.specs.Option.{option_map_or};
-ghost use Rattle.xml_tree.specs.Limits.{max_levels};
+ghost use Rattle.xml_names.specs.Limits.{max_levels};
 ghost use Rattle.xml_tree.specs.Tree.{height};
 ghost use Rattle.usage_docs.specs.declared.schema_table.Key.TheVariants.{Uri};
 ghost use Rattle.usage_docs.specs.declared.schema_table.ElementKind.TheVariants.{EntryList};
 ghost use Rattle.usage_docs.specs.Keys.{value_of};
 ghost use Rattle.list_resolve.specs.References.{reference_of};
 ghost use Rattle.list_resolve.specs.Places.{is_on};
-ghost use Rattle.list_resolve.specs.Walks.{address, walk_after, kind_items, mark, scoped_element_items, walked};
+ghost use Rattle.list_resolve.specs.Walks.{address, walk_after, kind_items, mark};
+ghost use Rattle.list_resolve.specs.Walks.{scoped_element_items, walked};
 ghost use Rattle.list_resolve.specs.inner.Kids.{child_items};
-ghost use Rattle.list_resolve.specs.inner.SkippedElements.{Gathers, IsPassed, IsSound, reference_resolved_in, scoped_element_at};
+ghost use Rattle.list_resolve.specs.inner.SkippedElements.{Gathers, IsPassed, IsSound};
+ghost use Rattle.list_resolve.specs.inner.SkippedElements.{reference_resolved_in};
+ghost use Rattle.list_resolve.specs.inner.SkippedElements.{scoped_element_at};
 ghost use Rattle.list_resolve.specs.inner.Views.{context_in, scoped_element_in};
 
 use crate::document_place::Place;
@@ -21,7 +24,8 @@ use crate::resolution::{ResolutionContext, ResolvedReference, resolve_reference}
 use crate::uri_collector::UriCollector;
 use crate::visit_chain::VisitChain;
 use usage_docs::{ElementKind, Key, kind_of, value_of};
-use xml_tree::{Attr, Element, IndexedDecls, LinkedScope, NoMemory, Node};
+use xml_names::{Attr, IndexedDecls, NoMemory};
+use xml_tree::{Element, LinkedScope, Node};
 
 // Collects the address of an entry with these attributes.
 fn add_entry(

@@ -8,12 +8,12 @@ use Rattle.xml_grammar.specs.Reading.{Stop, Faulty, Reader, ◌>>=◌, read_sequ
 use Rattle.xml_grammar.specs.readers.Functions.{read_either, read_at_most, read_many, read_sized, read_empty, read_judged, judgement, read_optional}
 use Rattle.xml_grammar.specs.Answers.{Faults}
 use Rattle.xml_grammar.proofs.Exact.{Rest, Exact, Outcome}
-use Rattle.xml_tree.specs.declared.names.Name.{Name}
-use Rattle.xml_tree.specs.declared.names.Decl.{Decl}
-use Rattle.tree_text.specs.declared.fault_kind.FaultKind.{FaultKind}
-use Rattle.tree_text.specs.declared.fault_kind.FaultKind.TheVariants.{Unbound}
-use Rattle.tree_text.specs.Pieces.{written}
-use Rattle.tree_text.specs.Grammar.{qname}
+use Rattle.xml_names.specs.declared.names.Name.{Name}
+use Rattle.xml_names.specs.declared.names.Decl.{Decl}
+use Rattle.xml_tokens.specs.declared.fault_kind.FaultKind.{FaultKind}
+use Rattle.xml_tokens.specs.declared.fault_kind.FaultKind.TheVariants.{Unbound}
+use Rattle.xml_tokens.specs.Values.{written}
+use Rattle.xml_tokens.specs.Tokens.{qname}
 use Rattle.node_select.specs.Names.{is_unbound}
 use Rattle.node_select.specs.readers.Raw.{first_of, unbound_at}
 use Rattle.node_select.proofs.Judging.{judge}

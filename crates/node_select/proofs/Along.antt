@@ -3,9 +3,9 @@ use Rattle.std.proofs.Common.{◌≡◌, ℕ, List, [], ◌∷◌, ◌++◌, Opt
 use Rattle.std.proofs.lemmas.Option.{same_Some}
 use Rattle.std.specs.Prelude.{unwrap_or}
 use Rattle.xml_tree.specs.Tree.{Tree, child_elements_of, at}
-use Rattle.xml_tree.specs.Scopes.{scope_at, scope_below, inside}
-use Rattle.xml_tree.specs.declared.names.Decl.{Decl}
-use Rattle.xml_tree.proofs.ScopeLemmas.{scope_at-below}
+use Rattle.xml_tree.specs.TreeScopes.{scope_at, scope_below, inside}
+use Rattle.xml_names.specs.declared.names.Decl.{Decl}
+use Rattle.xml_tree.proofs.TreeScopeLemmas.{scope_at-below}
 use Rattle.node_select.specs.declared.selector.Step.{Step}
 use Rattle.node_select.specs.Selection.{SelectsChild, SelectsAmong, SelectsPath}
 use Rattle.node_select.specs.LastStep.{Parent}

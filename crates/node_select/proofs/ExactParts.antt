@@ -5,7 +5,7 @@ use Rattle.std.specs.Prelude.{◌||◌, ◌&&◌, not, ◌==◌}
 use Rattle.std.proofs.lemmas.Bool.{eqb-true, eq-eqb}
 use Rattle.std.specs.Int.{is_in_range as within}
 use Rattle.std.specs.Char.{is_ascii_digit as is_digit, is_ascii_hexdigit as is_hex_digit}
-use Rattle.xml_tree.specs.Characters.{is_char, is_name_start, is_name_char}
+use Rattle.xml_names.specs.Characters.{is_char, is_name_start, is_name_char}
 use Rattle.xml_grammar.specs.Digits.{decimal_digits, hexadecimal}
 use Rattle.xml_grammar.specs.Rules.{word, run, either, valued, optional, between, keeping_first, keeping_second, number}
 use Rattle.xml_grammar.specs.Reading.{starts, read_word, read_valued}
@@ -21,12 +21,12 @@ use Rattle.xml_grammar.proofs.Laws.{Lawful, Quiet, Inside, inside_ahead, quiet_v
 use Rattle.xml_grammar.proofs.Led.{led_valued, led_word}
 use Rattle.xml_grammar.proofs.Shapes.{exact_before, exact_behind, exact_name_of, exact_some_of, exact_quoted, starts_name_of, starts_behind}
 use Rattle.xml_grammar.proofs.Tests.{exact_either_head, exact_optional_head, exact_between_run_head, exact_either_next}
-use Rattle.xml_tree.specs.declared.names.Decl.{Decl}
-use Rattle.tree_text.specs.declared.fault_kind.FaultKind.{FaultKind}
-use Rattle.tree_text.specs.readers.Words.{colon, ampersand, semicolon, hash, small_x, amp, lt, gt, quot, apos}
-use Rattle.tree_text.specs.Pieces.{qname_of}
-use Rattle.tree_text.specs.Grammar.{name, qname, stands_for, entity, char_ref, reference, last_char, is_quote, is_raw, is_raw_in}
-use Rattle.tree_text.specs.readers.Texts.{read_qname, read_stands_for, read_entity, read_numbered, read_reference}
+use Rattle.xml_names.specs.declared.names.Decl.{Decl}
+use Rattle.xml_tokens.specs.declared.fault_kind.FaultKind.{FaultKind}
+use Rattle.xml_tokens.specs.readers.Words.{colon, ampersand, semicolon, hash, small_x, amp, lt, gt, quot, apos}
+use Rattle.xml_tokens.specs.Values.{qname_of}
+use Rattle.xml_tokens.specs.Tokens.{name, qname, stands_for, entity, char_ref, reference, last_char, is_quote, is_raw, is_raw_in}
+use Rattle.xml_tokens.specs.readers.Tokens.{read_qname, read_stands_for, read_entity, read_numbered, read_reference}
 use Rattle.node_select.specs.declared.selector.NameTest.TheVariants.{Any}
 use Rattle.node_select.specs.Grammar.{position_of, node_name, position, IsUnbound, names_attribute, attribute, literal_value, value, test}
 use Rattle.node_select.specs.readers.SelectorValues.{attr_test, element_test}

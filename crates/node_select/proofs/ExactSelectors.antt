@@ -3,7 +3,7 @@ use Rattle.std.proofs.Common.{◌≡◌, ℕ, Bool, true, false, List, [], ◌�
 use Rattle.std.specs.Prelude.{◌||◌, not, ◌==◌, Option, None, Some}
 use Rattle.std.proofs.lemmas.Bool.{eqb-true}
 use Rattle.std.proofs.lemmas.List.{append_cancel_right, append_cancel_left, length-append, take-append-drop}
-use Rattle.xml_tree.specs.Characters.{is_name_start}
+use Rattle.xml_names.specs.Characters.{is_name_start}
 use Rattle.xml_grammar.specs.Rules.{Event, Begin, Mark, Rule, word, many, only, judged, optional, keeping_second, valued}
 use Rattle.xml_grammar.specs.Reading.{Stop, Syntax, Faulty, ◌>>=◌, Reader, head_is, starts, read_word, read_valued}
 use Rattle.xml_grammar.specs.readers.Functions.{all_of, read_behind, read_optional, read_whole}
@@ -19,9 +19,9 @@ use Rattle.xml_grammar.proofs.Fronts.{starts_is}
 use Rattle.xml_grammar.proofs.Shapes.{exact_behind, covers_by, covers_empty, covered_valued, covered_sequence, starts_behind}
 use Rattle.xml_grammar.proofs.Tests.{exact_either_head, exact_optional_head, failed_covers, heads_covers}
 use Rattle.xml_grammar.proofs.Whole.{ends, heads_ends, inside_ends, answers_whole, told_alike}
-use Rattle.xml_tree.specs.declared.names.Name.{Name}
-use Rattle.tree_text.specs.declared.fault_kind.FaultKind.{FaultKind}
-use Rattle.tree_text.specs.Grammar.{qname}
+use Rattle.xml_names.specs.declared.names.Name.{Name}
+use Rattle.xml_tokens.specs.declared.fault_kind.FaultKind.{FaultKind}
+use Rattle.xml_tokens.specs.Tokens.{qname}
 use Rattle.node_select.specs.declared.selector.NameTest.TheVariants.{Named}
 use Rattle.node_select.specs.declared.selector.Step.{Step}
 use Rattle.node_select.specs.declared.selector.End.{End}
@@ -33,13 +33,13 @@ use Rattle.node_select.specs.Grammar.{IsUnbound, names_attribute, position}
 use Rattle.node_select.specs.readers.SelectorValues.{attribute_end, patch_attribute_end, first_step_of, end_or_element, selector_of, patch_end_or_element, patch_selector_of}
 use Rattle.node_select.specs.readers.Words.{slash, at_sign, namespaces, text_test}
 use Rattle.node_select.specs.readers.Selectors.{step_follows, patch_step_follows, slash_follows, namespace_axis, text_call}
-use Rattle.xml_tree.specs.declared.names.Decl.{Decl}
+use Rattle.xml_names.specs.declared.names.Decl.{Decl}
 use Rattle.node_select.specs.declared.selector.Selector.{Selector}
 use Rattle.node_select.specs.declared.selector.PatchSelector.{PatchSelector}
 use Rattle.std.specs.Str.{chars}
-use Rattle.xml_tree.specs.Memory.{Answered}
-use Rattle.xml_tree.specs.declared.read_error.ReadError.{ReadError}
-use Rattle.tree_text.proofs.Answering.{answered_so}
+use Rattle.xml_names.specs.Memory.{Answered}
+use Rattle.xml_names.specs.declared.read_error.ReadError.{ReadError}
+use Rattle.xml_tokens.proofs.Answering.{answered_so}
 use Rattle.node_select.specs.declared.fault.SelectorFault.{SelectorFault}
 use Rattle.node_select.specs.declared.fault.SelectorFault.TheVariants.{BadSelector, UnboundPrefix}
 use Rattle.node_select.specs.readers.Raw

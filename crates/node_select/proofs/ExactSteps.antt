@@ -2,8 +2,8 @@
 use Rattle.std.proofs.Common.{◌≡◌, ℕ, ◌≤◌, Bool, true, false, List, [], ◌∷◌, ◌++◌, length, ◌⊎◌, inl, inr, ⊎_elim, refl, sym, ap, ◌∙◌, subst, arith, append_assoc}
 use Rattle.std.specs.Prelude.{◌&&◌, not, ◌==◌, Some}
 use Rattle.std.proofs.lemmas.List.{append_cancel_left, append-nil, length-append}
-use Rattle.xml_tree.specs.Characters.{is_name_start}
-use Rattle.xml_tree.specs.declared.names.Decl.{Decl}
+use Rattle.xml_names.specs.Characters.{is_name_start}
+use Rattle.xml_names.specs.declared.names.Decl.{Decl}
 use Rattle.std.specs.Char.{is_ascii_digit as is_digit}
 use Rattle.xml_grammar.specs.Rules.{Event, Begin, Mark, Rule, word, sequence, optional, keeping_first, keeping_second, valued, some_of}
 use Rattle.xml_grammar.specs.Reading.{head_is, starts}
@@ -17,7 +17,7 @@ use Rattle.xml_grammar.proofs.Laws.{Lawful, Inside, inside_ahead, lawful_valued,
 use Rattle.xml_grammar.proofs.Led.{Led, led_valued, led_then}
 use Rattle.xml_grammar.proofs.Shapes.{exact_optional, covers_by, covers_empty, starts_behind, starts_before, starts_some_of}
 use Rattle.xml_grammar.proofs.Tests.{exact_optional_head, passed_covers, failed_covers, next_covers, other_covers}
-use Rattle.tree_text.specs.declared.fault_kind.FaultKind.{FaultKind}
+use Rattle.xml_tokens.specs.declared.fault_kind.FaultKind.{FaultKind}
 use Rattle.node_select.specs.declared.selector.NameTest.TheVariants.{Any}
 use Rattle.node_select.specs.declared.selector.AttrTest.{AttrTest}
 use Rattle.node_select.specs.Grammar.{IsUnbound, node_name, position_of, position, attribute, value, test, step}

@@ -5,20 +5,20 @@ use Rattle.std.specs.Prelude.{◌&&◌, not, ◌==◌, Option, None, Some}
 use Rattle.std.specs.Str.{bytes_eq}
 use Rattle.std.proofs.lemmas.Bool.{eqb-true, eqb-false}
 use Rattle.std.proofs.lemmas.List.{length-append, append-nil}
-use Rattle.xml_tree.specs.declared.names.Name.{Name}
-use Rattle.xml_tree.specs.declared.names.Decl.{Decl}
-use Rattle.xml_tree.specs.Characters.{is_name_start, is_name_char}
+use Rattle.xml_names.specs.declared.names.Name.{Name}
+use Rattle.xml_names.specs.declared.names.Decl.{Decl}
+use Rattle.xml_names.specs.Characters.{is_name_start, is_name_char}
 use Rattle.xml_grammar.specs.Rules.{Event, Begin, Mark, Rule, AllPass, word, only, judged, optional, keeping_second}
 use Rattle.xml_grammar.specs.Reading.{Stop, Syntax, Faulty, Reader, ◌>>=◌, front_of, after_front}
 use Rattle.xml_grammar.specs.readers.Functions.{read_judged, read_only, judgement}
 use Rattle.xml_grammar.proofs.Exact.{Rest, ahead, Exact, IsRead, IsAtFault, Outcome, Passed, Behind, Later}
 use Rattle.xml_grammar.proofs.Laws.{Lawful, Quiet, Inside, inside_ahead, lawful_judged}
-use Rattle.tree_text.specs.declared.fault_kind.FaultKind.{FaultKind}
-use Rattle.tree_text.specs.declared.fault_kind.FaultKind.TheVariants.{Unbound}
-use Rattle.tree_text.specs.readers.Words.{colon}
-use Rattle.tree_text.specs.Pieces.{written, qname_of}
-use Rattle.tree_text.specs.Grammar.{name, qname}
-use Rattle.tree_text.specs.readers.Texts.{read_name, read_qname}
+use Rattle.xml_tokens.specs.declared.fault_kind.FaultKind.{FaultKind}
+use Rattle.xml_tokens.specs.declared.fault_kind.FaultKind.TheVariants.{Unbound}
+use Rattle.xml_tokens.specs.readers.Words.{colon}
+use Rattle.xml_tokens.specs.Values.{written, qname_of}
+use Rattle.xml_tokens.specs.Tokens.{name, qname}
+use Rattle.xml_tokens.specs.readers.Tokens.{read_name, read_qname}
 use Rattle.node_select.specs.Names.{is_unbound}
 use Rattle.node_select.specs.Grammar.{IsUnbound, names_attribute}
 use Rattle.node_select.specs.Faults.{marks}

@@ -2,14 +2,14 @@
 -- prefix where that counts.
 use Rattle.std.proofs.Common.{ℕ, Bool, List, length}
 use Rattle.std.specs.Prelude.{◌&&◌, Option, None, Some, if◌then◌else◌}
-use Rattle.xml_tree.specs.declared.names.Name.{Name}
-use Rattle.xml_tree.specs.declared.names.Decl.{Decl}
+use Rattle.xml_names.specs.declared.names.Name.{Name}
+use Rattle.xml_names.specs.declared.names.Decl.{Decl}
 use Rattle.xml_grammar.specs.Reading.{Reader, read_word, read_sequence, read_valued}
 use Rattle.xml_grammar.specs.readers.Functions.{read_either, read_many, read_judged, read_only, read_optional, read_before, read_behind}
-use Rattle.tree_text.specs.declared.fault_kind.FaultKind.{FaultKind}
-use Rattle.tree_text.specs.declared.fault_kind.FaultKind.TheVariants.{Unbound}
-use Rattle.tree_text.specs.Pieces.{written}
-use Rattle.tree_text.specs.readers.Texts.{read_qname}
+use Rattle.xml_tokens.specs.declared.fault_kind.FaultKind.{FaultKind}
+use Rattle.xml_tokens.specs.declared.fault_kind.FaultKind.TheVariants.{Unbound}
+use Rattle.xml_tokens.specs.Values.{written}
+use Rattle.xml_tokens.specs.readers.Tokens.{read_qname}
 use Rattle.node_select.specs.declared.selector.NameTest.{NameTest}
 use Rattle.node_select.specs.declared.selector.NameTest.TheVariants.{Any}
 use Rattle.node_select.specs.declared.selector.AttrTest.{AttrTest}

@@ -1,6 +1,6 @@
 -- A scope with lists of declarations inside it, one after the other.
 use Rattle.std.proofs.Common.{◌≡◌, ◌≤◌, ◌<◌, ◌-◌, ℕ, List, [], ◌∷◌, ◌++◌, Bor, length, map, take, drop, get_or, refl, ap, arith, append-nil, append_assoc}
-use Rattle.xml_tree.specs.declared.names.Decl.{Decl}
+use Rattle.xml_names.specs.declared.names.Decl.{Decl}
 
 -- what borrowed lists hold
 abbrev held : List (Bor (List Decl)) → List (List Decl)

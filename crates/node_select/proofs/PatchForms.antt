@@ -5,7 +5,7 @@ use Rattle.std.specs.declared.alloc.AllocError.{AllocError}
 use Rattle.xml_grammar.specs.Reading.{Stop, ◌>>=◌}
 use Rattle.xml_grammar.specs.readers.Functions.{all_of, read_whole}
 use Rattle.xml_grammar.proofs.Whole.{told_alike}
-use Rattle.tree_text.specs.declared.fault_kind.FaultKind.{FaultKind}
+use Rattle.xml_tokens.specs.declared.fault_kind.FaultKind.{FaultKind}
 use Rattle.node_select.specs.declared.selector.PatchForm.{PatchForm}
 use Rattle.node_select.specs.declared.selector.PatchSelector.{PatchSelector}
 use Rattle.node_select.specs.Faults.{IsPatchFormAnswer, form_of, form_if_parsed, marks}

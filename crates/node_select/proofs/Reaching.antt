@@ -4,8 +4,8 @@ use Rattle.std.proofs.lemmas.Option.{same_Some, none-some}
 use Rattle.node_select.specs.StepSelection.{Matches, Selects, matches, selected, only_item}
 use Rattle.node_select.proofs.Selecting.{matches_is, selected_is}
 use Rattle.xml_tree.specs.Tree.{Tree, child_elements_of}
-use Rattle.xml_tree.specs.declared.names.Decl.{Decl}
-use Rattle.xml_tree.specs.Scopes.{inside}
+use Rattle.xml_names.specs.declared.names.Decl.{Decl}
+use Rattle.xml_tree.specs.TreeScopes.{inside}
 use Rattle.node_select.specs.declared.selector.Step.{Step}
 use Rattle.node_select.specs.Selection.{is_named, is_tested, SelectsChild, SelectsAmong, SelectsPath, IsLongestMatch, selected_child, selected_among, selected_in, deeper, depth_among, longest_in}
 

@@ -10,11 +10,11 @@ use Rattle.xml_grammar.proofs.Leaves.{exact_word}
 use Rattle.xml_grammar.proofs.Closed.{exact_only, heads_unless}
 use Rattle.xml_grammar.proofs.Shapes.{exact_behind}
 use Rattle.xml_grammar.proofs.Whole.{ends, heads_ends}
-use Rattle.xml_tree.specs.declared.names.Name.{Name}
-use Rattle.xml_tree.specs.declared.names.Decl.{Decl}
-use Rattle.tree_text.specs.declared.fault_kind.FaultKind.{FaultKind}
-use Rattle.tree_text.specs.Grammar.{qname}
-use Rattle.tree_text.specs.readers.Texts.{read_qname}
+use Rattle.xml_names.specs.declared.names.Name.{Name}
+use Rattle.xml_names.specs.declared.names.Decl.{Decl}
+use Rattle.xml_tokens.specs.declared.fault_kind.FaultKind.{FaultKind}
+use Rattle.xml_tokens.specs.Tokens.{qname}
+use Rattle.xml_tokens.specs.readers.Tokens.{read_qname}
 use Rattle.node_select.specs.declared.selector.NameTest.TheVariants.{Any}
 use Rattle.node_select.specs.declared.selector.Step.{Step}
 use Rattle.node_select.specs.declared.selector.End.TheVariants.{Namespaces}

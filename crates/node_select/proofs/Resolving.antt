@@ -1,6 +1,6 @@
 -- Places of unbound prefixes in steps and then in an end, and the errors for them.
 use Rattle.std.proofs.Common.{◌≡◌, ℕ, ◌+◌, List, [], ◌∷◌, Option, Some, None, refl, sym, ap, ◌∙◌, arith, add-zero}
-use Rattle.xml_tree.specs.declared.names.Decl.{Decl}
+use Rattle.xml_names.specs.declared.names.Decl.{Decl}
 use Rattle.node_select.specs.declared.name_resolution.Unresolved.{Unresolved}
 use Rattle.node_select.specs.declared.name_resolution.Unresolved.TheVariants.{Prefix, Memory}
 use Rattle.node_select.specs.readers.Resolving.{Fails}

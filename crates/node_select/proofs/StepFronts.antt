@@ -1,13 +1,13 @@
 -- Each front of a beginning of a step is a beginning of it too.
 use Rattle.std.proofs.Common.{ℕ, List, inl, refl}
-use Rattle.xml_tree.specs.Characters.{is_char}
-use Rattle.xml_tree.specs.declared.names.Decl.{Decl}
+use Rattle.xml_names.specs.Characters.{is_char}
+use Rattle.xml_names.specs.declared.names.Decl.{Decl}
 use Rattle.xml_grammar.specs.Digits.{decimal_digits, hexadecimal}
 use Rattle.xml_grammar.proofs.Laws.{Lawful, lawful_valued, lawful_sequence, lawful_optional, lawful_behind, lawful_word, lawful_name_of, lawful_either, lawful_number, lawful_between, lawful_run, lawful_some_of}
 use Rattle.xml_grammar.proofs.Beginnings.{Fronted, fronted_word, fronted_run, fronted_number, fronted_sequence, fronted_either, fronted_valued, fronted_only, fronted_judged, fronted_optional, fronted_before, fronted_behind, fronted_name_of, fronted_some_of, fronted_quoted, fronted_between}
-use Rattle.tree_text.specs.readers.Words.{colon, ampersand, semicolon, hash, small_x, amp, lt, gt, quot, apos}
-use Rattle.tree_text.specs.Grammar.{qname, reference, last_char, stands_for, char_ref, entity}
-use Rattle.tree_text.specs.Pieces.{qname_of}
+use Rattle.xml_tokens.specs.readers.Words.{colon, ampersand, semicolon, hash, small_x, amp, lt, gt, quot, apos}
+use Rattle.xml_tokens.specs.Tokens.{qname, reference, last_char, stands_for, char_ref, entity}
+use Rattle.xml_tokens.specs.Values.{qname_of}
 use Rattle.node_select.specs.declared.selector.NameTest.TheVariants.{Any}
 use Rattle.node_select.specs.Grammar.{IsUnbound, names_attribute, literal_value, node_name, position_of, position, attribute, value, test, step}
 use Rattle.node_select.specs.readers.SelectorValues.{step_of, element_test, attr_test}

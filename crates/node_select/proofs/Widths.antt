@@ -1,16 +1,16 @@
 -- The widths of what is read: steps and what is left after them fill the text.
 use Rattle.std.proofs.Common.{◌≡◌, ℕ, zero, suc, ◌+◌, ◌-◌, ◌≤◌, ◌<◌, ◌^◌, Bool, true, false, cond, List, [], ◌∷◌, length, encode_utf8_all, Option, Some, None, Result, Ok, Err, refl, ap, ◌∙◌, subst, arith, eqb-true}
 use Rattle.std.specs.Prelude.{nat_eq}
-use Rattle.xml_tree.specs.declared.names.Name.{Name}
+use Rattle.xml_names.specs.declared.names.Name.{Name}
 use Rattle.std.specs.Char.{is_ascii_digit as is_digit}
 use Rattle.xml_grammar.specs.Reading.{Stop, Syntax, Reader, ◌>>=◌, read_word, read_sequence, read_valued}
 use Rattle.xml_grammar.specs.readers.Functions.{read_at_most, read_many, read_sized, read_only, read_optional, read_name_of, read_before, read_behind, read_whole, all_of}
-use Rattle.tree_text.specs.declared.fault_kind.FaultKind.{FaultKind}
-use Rattle.tree_text.specs.Grammar.{is_quote, is_raw_in}
-use Rattle.tree_text.specs.readers.Texts.{reference_follows}
-use Rattle.tree_text.proofs.TagLemmas.{shrinks_qname, shrinks_reference}
-use Rattle.tree_text.specs.readers.Ends.{EndsWith}
-use Rattle.tree_text.proofs.Shrinks.{Left, Shrinks, ok_left, ok_small, shrinks_one, shrinks_word, shrinks_run, shrinks_empty, shrinks_sequence, shrinks_valued, shrinks_either, shrinks_many}
+use Rattle.xml_tokens.specs.declared.fault_kind.FaultKind.{FaultKind}
+use Rattle.xml_tokens.specs.Tokens.{is_quote, is_raw_in}
+use Rattle.xml_tokens.specs.readers.Tokens.{reference_follows}
+use Rattle.xml_tokens.proofs.TagLemmas.{shrinks_qname, shrinks_reference}
+use Rattle.xml_tokens.specs.readers.Ends.{EndsWith}
+use Rattle.xml_tokens.proofs.Shrinks.{Left, Shrinks, ok_left, ok_small, shrinks_one, shrinks_word, shrinks_run, shrinks_empty, shrinks_sequence, shrinks_valued, shrinks_either, shrinks_many}
 use Rattle.node_select.specs.Grammar.{position_of, names_attribute, literal_value}
 use Rattle.node_select.specs.readers.SelectorValues.{first_step_of}
 use Rattle.node_select.specs.readers.Words.{star, at_sign, open_bracket, close_bracket, equals_sign, slash}

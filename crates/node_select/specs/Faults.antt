@@ -1,10 +1,11 @@
 -- The result of reading a selector: the selector, or why there is none, with the byte at which
 -- that shows.
-use Rattle.std.specs.Prelude.{◌≡◌, ℕ, ◌-◌, Bool, true, false, List, [], length, drop, Option, None, Some, Result, Ok, Err, encode_utf8_all, chars}
+use Rattle.std.specs.Prelude.{◌≡◌, ℕ, ◌-◌, Bool, true, false, List, [], length, drop, Option, None}
+use Rattle.std.specs.Prelude.{Some, Result, Ok, Err, encode_utf8_all, chars}
 use Rattle.xml_grammar.specs.Reading.{Stop, Syntax, Faulty}
 use Rattle.xml_grammar.specs.Answers as grammar
-use Rattle.tree_text.specs.declared.fault_kind.FaultKind.{FaultKind}
-use Rattle.xml_tree.specs.declared.names.Decl.{Decl}
+use Rattle.xml_tokens.specs.declared.fault_kind.FaultKind.{FaultKind}
+use Rattle.xml_names.specs.declared.names.Decl.{Decl}
 use Rattle.node_select.specs.declared.fault.SelectorFault.{SelectorFault}
 use Rattle.node_select.specs.declared.fault.SelectorFault.TheVariants.{BadSelector, UnboundPrefix}
 use Rattle.node_select.specs.declared.selector.Selector.{Selector}
@@ -30,7 +31,8 @@ stop_place text (Faulty kind left) = byte_of text (length (chars text) - length 
 
 -- the result for a text, by its form and its names: first that it isn't a selector, then that a
 -- prefix isn't bound
-abbrev pub selector_result : {A : Type 0} → List ℕ → Result A (Stop FaultKind) → Result A (Stop FaultKind) → Result A SelectorFault
+abbrev pub selector_result : {A : Type 0} → List ℕ → Result A (Stop FaultKind)
+    → Result A (Stop FaultKind) → Result A SelectorFault
 selector_result text (Err stop) names = Err (BadSelector (stop_place text stop))
 selector_result text (Ok value) (Err stop) = Err (UnboundPrefix (stop_place text stop))
 selector_result text (Ok value) (Ok same) = Ok same
@@ -39,18 +41,21 @@ selector_result text (Ok value) (Ok same) = Ok same
 
 -- the answer by the grammar: the selector that the text spells and no other; after the longest
 -- beginning `BadSelector`; else at the first name with an unbound prefix `UnboundPrefix`
-pub record IsSelectorAnswer (bindings : List Decl) (default text : List ℕ) (answer : Result Selector SelectorFault) : Type 0 where
+pub record IsSelectorAnswer (bindings : List Decl) (default text : List ℕ)
+    (answer : Result Selector SelectorFault) : Type 0 where
   pub form_is : Result Selector (Stop FaultKind)
   pub by_form : grammar.Answers (marks false) (selector bindings default) (chars text) form_is
   pub names_are : Result Selector (Stop FaultKind)
   pub by_names : grammar.Answers (marks true) (selector bindings default) (chars text) names_are
   pub is_told : answer ≡ selector_result text form_is names_are
 
-pub record IsPatchSelectorAnswer (bindings : List Decl) (default text : List ℕ) (answer : Result PatchSelector SelectorFault) : Type 0 where
+pub record IsPatchSelectorAnswer (bindings : List Decl) (default text : List ℕ)
+    (answer : Result PatchSelector SelectorFault) : Type 0 where
   pub form_is : Result PatchSelector (Stop FaultKind)
   pub by_form : grammar.Answers (marks false) (patch_selector bindings default) (chars text) form_is
   pub names_are : Result PatchSelector (Stop FaultKind)
-  pub by_names : grammar.Answers (marks true) (patch_selector bindings default) (chars text) names_are
+  pub by_names : grammar.Answers (marks true) (patch_selector bindings default) (chars text)
+      names_are
   pub is_told : answer ≡ selector_result text form_is names_are
 
 -- ---- the last part of a patch's selector

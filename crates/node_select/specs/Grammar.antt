@@ -11,18 +11,21 @@
 --
 -- A rule spells what its texts mean by the bindings of their prefixes. A name whose prefix isn't
 -- bound is marked.
-use Rattle.std.specs.Prelude.{◌≡◌, ℕ, Bool, true, not, ◌&&◌, nat_le, codes, List, [], ◌∷◌, ◌++◌, length, unwrap_or, if◌then◌else◌}
+use Rattle.std.specs.Prelude.{◌≡◌, ℕ, Bool, true, not, ◌&&◌, nat_le, codes, List, [], ◌∷◌, ◌++◌}
+use Rattle.std.specs.Prelude.{length, unwrap_or, if◌then◌else◌}
 use Rattle.std.specs.Str.{bytes_eq}
 use Rattle.std.specs.Char.{is_ascii_digit}
-use Rattle.xml_tree.specs.Scopes.{xmlns_prefix}
-use Rattle.xml_tree.specs.declared.names.Name.{Name}
-use Rattle.xml_tree.specs.declared.names.Decl.{Decl}
+use Rattle.xml_names.specs.Scopes.{xmlns_prefix}
+use Rattle.xml_names.specs.declared.names.Name.{Name}
+use Rattle.xml_names.specs.declared.names.Decl.{Decl}
 use Rattle.xml_grammar.specs.Digits.{decimal_digits}
-use Rattle.xml_grammar.specs.Rules.{Rule, word, run, number_from, sequence, either, many, valued, only, judged, optional, between, some_of, keeping_first, keeping_second, quoted}
-use Rattle.tree_text.specs.declared.fault_kind.FaultKind.{FaultKind}
-use Rattle.tree_text.specs.declared.fault_kind.FaultKind.TheVariants.{Unbound}
-use Rattle.tree_text.specs.Pieces.{written}
-use Rattle.tree_text.specs.Grammar.{qname, reference, is_quote, is_raw_in}
+use Rattle.xml_grammar.specs.Rules.{Rule, word, run, number_from, sequence, either, many, valued}
+use Rattle.xml_grammar.specs.Rules.{only, judged, optional, between, some_of, keeping_first}
+use Rattle.xml_grammar.specs.Rules.{keeping_second, quoted}
+use Rattle.xml_tokens.specs.declared.fault_kind.FaultKind.{FaultKind}
+use Rattle.xml_tokens.specs.declared.fault_kind.FaultKind.TheVariants.{Unbound}
+use Rattle.xml_tokens.specs.Values.{written}
+use Rattle.xml_tokens.specs.Tokens.{qname, reference, is_quote, is_raw_in}
 use Rattle.node_select.specs.declared.steps.TheConstants.{MAX_POSITION}
 use Rattle.node_select.specs.declared.selector.NameTest.{NameTest}
 use Rattle.node_select.specs.declared.selector.NameTest.TheVariants.{Any, Named}
@@ -54,11 +57,16 @@ abbrev pub greatest_position : ℕ
 greatest_position = MAX_POSITION
 
 abbrev pub position_of : List ℕ → ℕ
-position_of digits = if nat_le (number_from decimal_digits 0 digits) greatest_position then number_from decimal_digits 0 digits else 0
+position_of digits =
+    if nat_le (number_from decimal_digits 0 digits) greatest_position
+    then number_from decimal_digits 0 digits
+    else 0
 
 -- "[" 1*DIGIT "]"
 abbrev pub position : Rule FaultKind ℕ
-position = keeping_second (word (codes "[")) (keeping_first (valued position_of (some_of is_ascii_digit)) (word (codes "]")))
+position =
+    keeping_second (word (codes "["))
+    (keeping_first (valued position_of (some_of is_ascii_digit)) (word (codes "]")))
 
 -- `xmlns`, which declares, isn't an attribute's name
 abbrev pub names_attribute : Name → Bool
@@ -66,7 +74,8 @@ names_attribute n = not (bytes_eq n.prefix [] && bytes_eq n.local xmlns_prefix)
 
 -- A name with an unbound prefix is marked, at its first character.
 abbrev pub IsUnbound : List Decl → Name → FaultKind → ℕ → Type 0
-IsUnbound bindings name kind back = (is_unbound bindings name ≡ true) × (kind ≡ Unbound) × (back ≡ length (written name))
+IsUnbound bindings name kind back =
+    (is_unbound bindings name ≡ true) × (kind ≡ Unbound) × (back ≡ length (written name))
 
 -- prefixes have these bindings, and an element's name without prefix is in this namespace
 module _ (bindings : List Decl) (default : List ℕ) where
@@ -74,35 +83,49 @@ module _ (bindings : List Decl) (default : List ℕ) where
 
   -- QName / "*"
   abbrev pub node_name : Rule FaultKind NameTest
-  node_name = either (valued (λ _. Any) (word (codes "*"))) (valued (λ name. Named (name_uri bindings default name) name.local) (judged (IsUnbound bindings) qname))
+  node_name =
+      either (valued (λ _. Any) (word (codes "*")))
+      (valued (λ name. Named (name_uri bindings default name) name.local)
+      (judged (IsUnbound bindings) qname))
 
   -- "@" QName
   abbrev pub attribute : Rule FaultKind Name
-  attribute = keeping_second (word (codes "@")) (judged (IsUnbound bindings) (only names_attribute qname))
+  attribute =
+      keeping_second (word (codes "@")) (judged (IsUnbound bindings) (only names_attribute qname))
 
   -- "[" "@" QName "=" value "]"
   abbrev pub test : Rule FaultKind AttrTest
   test =
-      keeping_second (word (codes "[")) (keeping_first (valued (λ x. record { uri = attr_uri bindings x.0; local = x.0.local; value = x.1 })
-      (sequence attribute (λ _. keeping_second (word (codes "=")) value))) (word (codes "]")))
+      keeping_second (word (codes "["))
+      (keeping_first (valued
+      (λ x. record { uri = attr_uri bindings x.0; local = x.0.local; value = x.1 })
+      (sequence attribute (λ _. keeping_second (word (codes "=")) value)))
+      (word (codes "]")))
 
   abbrev pub step : Rule FaultKind Step
-  step = valued (λ x. record { name = x.0.0; position = x.0.1; test = x.1 }) (sequence (sequence node_name (λ _. optional position)) (λ _. optional test))
+  step =
+      valued (λ x. record { name = x.0.0; position = x.0.1; test = x.1 })
+      (sequence (sequence node_name (λ _. optional position)) (λ _. optional test))
 
   -- step *( "/" step )
   abbrev pub steps : Rule FaultKind (List Step)
-  steps = valued (λ x. x.0 ∷ x.1) (sequence step (λ _. many (keeping_second (word (codes "/")) step)))
+  steps =
+      valued (λ x. x.0 ∷ x.1) (sequence step (λ _. many (keeping_second (word (codes "/")) step)))
 
   -- ---- selectors
 
   -- "@" QName / "namespace::*"
   abbrev pub end : Rule FaultKind End
-  end = either (valued (λ name. Attribute (attr_uri bindings name) name.local) attribute) (valued (λ _. Namespaces) (word (codes "namespace::*")))
+  end =
+      either (valued (λ name. Attribute (attr_uri bindings name) name.local) attribute)
+      (valued (λ _. Namespaces) (word (codes "namespace::*")))
 
   -- without an end it selects an element
   abbrev pub selector : Rule FaultKind Selector
   selector =
-      valued (λ x. record { steps = x.0; end = x.1 }) (sequence steps (λ _. valued (λ o. unwrap_or o Element) (optional (keeping_second (word (codes "/")) end))))
+      valued (λ x. record { steps = x.0; end = x.1 })
+      (sequence steps (λ _.
+      valued (λ o. unwrap_or o Element) (optional (keeping_second (word (codes "/")) end))))
 
   -- ---- selectors of patches
 
@@ -110,10 +133,13 @@ module _ (bindings : List Decl) (default : List ℕ) where
   abbrev pub patch_end : Rule FaultKind PatchEnd
   patch_end =
       either (valued (λ name. patch_ends.Attribute (attr_uri bindings name) name.local) attribute)
-      (valued (λ n. patch_ends.Chars n) (keeping_second (word (codes "text()")) (optional position)))
+      (valued (λ n. patch_ends.Chars n)
+      (keeping_second (word (codes "text()")) (optional position)))
 
   abbrev pub patch_selector : Rule FaultKind PatchSelector
   patch_selector =
       keeping_second (optional (word (codes "/")))
       (valued (λ x. record { steps = x.0; end = x.1 })
-      (sequence steps (λ _. valued (λ o. unwrap_or o patch_ends.Element) (optional (keeping_second (word (codes "/")) patch_end)))))
+      (sequence steps (λ _.
+      valued (λ o. unwrap_or o patch_ends.Element)
+      (optional (keeping_second (word (codes "/")) patch_end)))))

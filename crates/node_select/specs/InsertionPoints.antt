@@ -1,12 +1,15 @@
 -- Where a new child may be inserted so that the step selects exactly it (RFC 4825, section
 -- 8.2.3). Gap j is before the j-th child, and the last gap after all children. Which of the
 -- lawful gaps is taken is this server's choice: the last one at which the result is valid.
-use Rattle.std.specs.Prelude.{◌≡◌, ◌⊎◌, ℕ, zero, suc, ◌<◌, ◌≤◌, Bool, true, false, List, insert, Option, None, Some, Result, Ok, Err}
+use Rattle.std.specs.Prelude.{◌≡◌, ◌⊎◌, ℕ, zero, suc, ◌<◌, ◌≤◌, Bool, true, false, List, insert}
+use Rattle.std.specs.Prelude.{Option, None, Some, Result, Ok, Err}
 use Rattle.node_select.specs.StepSelection.{Matches, Selects}
 
 -- after the new child is inserted into the gap, the step selects exactly it
-abbrev pub IsLawfulInsertion : {A : Type 0} → (A → Bool) → (A → Bool) → Option ℕ → List A → A → ℕ → Type 0
-IsLawfulInsertion named tested position child_elements new gap = Selects named tested position (insert child_elements gap new) gap
+abbrev pub IsLawfulInsertion : {A : Type 0} → (A → Bool) → (A → Bool) → Option ℕ → List A → A → ℕ
+    → Type 0
+IsLawfulInsertion named tested position child_elements new gap =
+    Selects named tested position (insert child_elements gap new) gap
 
 -- no child keeps the new one from being selected, whichever gap it is inserted into: without a
 -- position no child matches yet
@@ -36,7 +39,8 @@ pub record NoneValid (lawful valid : ℕ → Type 0) (gaps : ℕ) : Type 0 where
 -- refusal where none is lawful, the second where none of the lawful ones is valid
 abbrev pub PlanIs : {E : Type 0} → E → E → (ℕ → Type 0) → (ℕ → Type 0) → ℕ → Result ℕ E → Type 0
 PlanIs unlawful invalid lawful valid gaps (Ok gap) = IsLastPlace lawful valid gaps gap
-PlanIs unlawful invalid lawful valid gaps (Err e) = ((e ≡ unlawful) × NoneLawful lawful gaps) ⊎ ((e ≡ invalid) × NoneValid lawful valid gaps)
+PlanIs unlawful invalid lawful valid gaps (Err e) =
+    ((e ≡ unlawful) × NoneLawful lawful gaps) ⊎ ((e ≡ invalid) × NoneValid lawful valid gaps)
 
 -- ---- the computed plan, where both properties are tests
 
@@ -58,4 +62,5 @@ plan_with invalid plan gap true true = Ok gap
 -- the plan over `gaps` gaps
 abbrev pub plan_of : {E : Type 0} → E → E → (ℕ → Bool) → (ℕ → Bool) → ℕ → Result ℕ E
 plan_of unlawful invalid lawful valid zero = no_plan unlawful
-plan_of unlawful invalid lawful valid (suc gaps) = plan_with invalid (plan_of unlawful invalid lawful valid gaps) gaps (lawful gaps) (valid gaps)
+plan_of unlawful invalid lawful valid (suc gaps) =
+    plan_with invalid (plan_of unlawful invalid lawful valid gaps) gaps (lawful gaps) (valid gaps)

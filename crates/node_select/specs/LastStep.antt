@@ -1,8 +1,8 @@
 -- The last step of a path, seen from the element that the steps before it select.
 use Rattle.std.specs.Prelude.{◌≡◌, ℕ, List, ◌++◌, Some}
 use Rattle.xml_tree.specs.Tree.{Tree, child_elements_of, at}
-use Rattle.xml_tree.specs.Scopes.{scope_below}
-use Rattle.xml_tree.specs.declared.names.Decl.{Decl}
+use Rattle.xml_tree.specs.TreeScopes.{scope_below}
+use Rattle.xml_names.specs.declared.names.Decl.{Decl}
 use Rattle.node_select.specs.declared.selector.Step.{Step}
 use Rattle.node_select.specs.Selection.{SelectsChild}
 

@@ -1,11 +1,12 @@
 -- What the names in selectors mean. RFC 4825, sections 6.3 and 6.4; Namespaces in XML 1.0,
 -- sections 3 and 6.2.
-use Rattle.std.specs.Prelude.{ℕ, Bool, not, ◌&&◌, List, [], ◌∷◌, Option, None, is_none, unwrap_or, if◌then◌else◌}
+use Rattle.std.specs.Prelude.{ℕ, Bool, not, ◌&&◌, List, [], ◌∷◌, Option, None, is_none, unwrap_or}
+use Rattle.std.specs.Prelude.{if◌then◌else◌}
 use Rattle.std.specs.Str.{bytes_eq}
-use Rattle.xml_tree.specs.Scopes.{bound, xmlns_prefix}
-use Rattle.xml_tree.specs.Expanded.{ExpandedName}
-use Rattle.xml_tree.specs.declared.names.Decl.{Decl}
-use Rattle.xml_tree.specs.declared.names.Name.{Name}
+use Rattle.xml_names.specs.Scopes.{bound, xmlns_prefix}
+use Rattle.xml_names.specs.Expanded.{ExpandedName}
+use Rattle.xml_names.specs.declared.names.Decl.{Decl}
+use Rattle.xml_names.specs.declared.names.Name.{Name}
 
 -- the URI that a prefix is bound to, where the bindings are read as the declarations of one
 -- element; `xmlns` is never bound
@@ -24,12 +25,14 @@ is_named_so uri local name = bytes_eq name.local local && bytes_eq (uri_of name)
 
 -- whether a name has a prefix that isn't bound
 abbrev pub is_unbound : List Decl → Name → Bool
-is_unbound bindings name = not (bytes_eq name.prefix []) && is_none (prefix_uri bindings name.prefix)
+is_unbound bindings name =
+    not (bytes_eq name.prefix []) && is_none (prefix_uri bindings name.prefix)
 
 -- the URI of a name, where a name without prefix has this one: an element's name the default
 -- namespace, an attribute's name none
 abbrev pub name_uri : List Decl → List ℕ → Name → List ℕ
-name_uri bindings none name = if bytes_eq name.prefix [] then none else unwrap_or (prefix_uri bindings name.prefix) []
+name_uri bindings none name =
+    if bytes_eq name.prefix [] then none else unwrap_or (prefix_uri bindings name.prefix) []
 
 abbrev pub attr_uri : List Decl → Name → List ℕ
 attr_uri bindings = name_uri bindings []

@@ -1,14 +1,16 @@
 -- What a selector selects in a tree. RFC 4825, section 6.3: each step must match exactly one
 -- child element. Each child is tested by itself, among its siblings; the document has the root
 -- element as its one child.
-use Rattle.std.specs.Prelude.{◌≡◌, ◌<◌, ◌≤◌, ℕ, suc, Bool, true, ◌&&◌, List, [], ◌∷◌, Option, None, Some, IsTrue, length, take, slice_get, option_map, option_and_then, if◌then◌else◌}
+use Rattle.std.specs.Prelude.{◌≡◌, ◌<◌, ◌≤◌, ℕ, suc, Bool, true, ◌&&◌, List, [], ◌∷◌, Option, None}
+use Rattle.std.specs.Prelude.{Some, IsTrue, length, take, slice_get, option_map, option_and_then}
+use Rattle.std.specs.Prelude.{if◌then◌else◌}
 use Rattle.std.specs.List.{list_any}
 use Rattle.std.specs.Str.{bytes_eq}
 use Rattle.xml_tree.specs.Tree.{Tree, child_elements_of, at}
-use Rattle.xml_tree.specs.Scopes.{scope_at, inside}
-use Rattle.xml_tree.specs.Expanded.{ExpandedName, element_name, attr_name}
-use Rattle.xml_tree.specs.declared.names.Decl.{Decl}
-use Rattle.xml_tree.specs.declared.names.Attr.{Attr}
+use Rattle.xml_tree.specs.TreeScopes.{scope_at, inside}
+use Rattle.xml_names.specs.Expanded.{ExpandedName, element_name, attr_name}
+use Rattle.xml_names.specs.declared.names.Decl.{Decl}
+use Rattle.xml_names.specs.declared.names.Attr.{Attr}
 use Rattle.node_select.specs.StepSelection as step_laws
 use Rattle.node_select.specs.declared.selector.NameTest.{NameTest}
 use Rattle.node_select.specs.declared.selector.NameTest.TheVariants.{Any, Named}
@@ -28,7 +30,8 @@ passes (Named uri local) name = is_named_so uri local name
 
 -- whether a child passes a step's name test
 abbrev pub is_named : List (List Decl) → Step → Tree → Bool
-is_named c step child_element = passes step.name (element_name (inside c child_element) child_element.name)
+is_named c step child_element =
+    passes step.name (element_name (inside c child_element) child_element.name)
 
 -- whether an attribute has this name, in the scope at its element
 abbrev pub is_attr : List (List Decl) → List ℕ → List ℕ → Attr → Bool
@@ -51,7 +54,8 @@ is_tested c step child_element = has_asked (inside c child_element) step.test ch
 
 -- the i-th of these children, in the scope around them, matches the step, and no other does
 abbrev pub SelectsChild : List (List Decl) → Step → List Tree → ℕ → Type 0
-SelectsChild c step child_elements i = step_laws.Selects (is_named c step) (is_tested c step) step.position child_elements i
+SelectsChild c step child_elements i =
+    step_laws.Selects (is_named c step) (is_tested c step) step.position child_elements i
 
 -- at each depth the child on the path matches its step, and no other does
 abbrev pub SelectsAmong : List (List Decl) → List Tree → List Step → List ℕ → Type 0
@@ -59,7 +63,9 @@ SelectsAmong c child_elements [] [] = Unit {0}
 SelectsAmong c child_elements [] (i ∷ p) = ⊥
 SelectsAmong c child_elements (step ∷ steps) [] = ⊥
 SelectsAmong c child_elements (step ∷ steps) (i ∷ p) =
-    SelectsChild c step child_elements i × ((child_element : Tree) × (slice_get child_elements i ≡ Some child_element) × SelectsAmong (inside c child_element) (child_elements_of child_element) steps p)
+    SelectsChild c step child_elements i
+    × ((child_element : Tree) × (slice_get child_elements i ≡ Some child_element)
+    × SelectsAmong (inside c child_element) (child_elements_of child_element) steps p)
 
 -- the steps select the element at this path: from the document, whose one child is the root
 abbrev pub SelectsPath : List Step → Tree → List ℕ → Type 0
@@ -84,19 +90,25 @@ pub record Found (root : Tree) (selector : Selector) : Type 0 where
 pub record IsLongestMatch (steps : List Step) (root : Tree) (k : ℕ) : Type 0 where
   pub within : k ≤ length steps
   pub selects : 0 < k → (p : List ℕ) × SelectsPath (take k steps) root p
-  pub longest : (j : ℕ) (p : List ℕ) → k < j → j ≤ length steps → SelectsPath (take j steps) root p → ⊥
+  pub longest : (j : ℕ) (p : List ℕ) → k < j → j ≤ length steps → SelectsPath (take j steps) root p
+      → ⊥
 
 -- ---- selection, computed
 
 -- the number of the only child that matches
 abbrev pub selected_child : List (List Decl) → Step → List Tree → Option ℕ
-selected_child c step child_elements = step_laws.selected (is_named c step) (is_tested c step) step.position child_elements
+selected_child c step child_elements =
+    step_laws.selected (is_named c step) (is_tested c step) step.position child_elements
 
 -- the path from these children down
 abbrev pub selected_among : List (List Decl) → List Tree → List Step → Option (List ℕ)
 selected_among c child_elements [] = Some []
 selected_among c child_elements (step ∷ steps) =
-    option_and_then (λ i. option_map (λ p. i ∷ p) (option_and_then (λ child_element. selected_among (inside c child_element) (child_elements_of child_element) steps) (slice_get child_elements i)))
+    option_and_then (λ i.
+    option_map (λ p. i ∷ p)
+    (option_and_then (λ child_element.
+    selected_among (inside c child_element) (child_elements_of child_element) steps)
+    (slice_get child_elements i)))
     (selected_child c step child_elements)
 
 -- the path of the element that the steps select
@@ -115,7 +127,10 @@ deeper (Some n) = suc n
 -- how many first steps select one element after the other, from these children down
 abbrev pub depth_among : List (List Decl) → List Tree → List Step → ℕ
 depth_among c child_elements [] = 0
-depth_among c child_elements (step ∷ steps) = deeper (option_map (λ child_element. depth_among (inside c child_element) (child_elements_of child_element) steps) (option_and_then (slice_get child_elements) (selected_child c step child_elements)))
+depth_among c child_elements (step ∷ steps) =
+    deeper (option_map
+    (λ child_element. depth_among (inside c child_element) (child_elements_of child_element) steps)
+    (option_and_then (slice_get child_elements) (selected_child c step child_elements)))
 
 -- the greatest number of first steps that select an element
 abbrev pub longest_in : List Step → Tree → ℕ

@@ -1,7 +1,9 @@
 -- Which child of an element a step of a node selector selects (RFC 4825, section 6.3), for
 -- children of any type. A step has a name test (`named`), an optional position, and an attribute
 -- test (`tested`); a step without one of the tests passes every child there.
-use Rattle.std.specs.Prelude.{◌≡◌, ℕ, zero, suc, ◌+◌, Bool, true, false, cond, ◌&&◌, nat_eq, IsTrue, List, [], ◌∷◌, length, map, take, count_by, slice_get, Option, None, Some}
+use Rattle.std.specs.Prelude.{◌≡◌, ℕ, zero, suc, ◌+◌, Bool, true, false, cond, ◌&&◌, nat_eq, IsTrue}
+use Rattle.std.specs.Prelude.{List, [], ◌∷◌, length, map, take, count_by, slice_get, Option, None}
+use Rattle.std.specs.Prelude.{Some}
 
 -- where there is a position n, the child is the n-th of the children that pass the name test, by
 -- the number of these before it
@@ -11,7 +13,8 @@ IsAtPosition (Some n) before = before + 1 ≡ n
 
 -- the i-th child passes the name test, is at the position among the children that pass it, and
 -- passes the attribute test
-pub record Matches {A : Type 0} (named tested : A → Bool) (position : Option ℕ) (child_elements : List A) (i : ℕ) : Type 0 where
+pub record Matches {A : Type 0} (named tested : A → Bool) (position : Option ℕ)
+    (child_elements : List A) (i : ℕ) : Type 0 where
   pub child_element : A
   pub there : slice_get child_elements i ≡ Some child_element
   pub is_named : IsTrue (named child_element)
@@ -19,12 +22,14 @@ pub record Matches {A : Type 0} (named tested : A → Bool) (position : Option �
   pub is_tested : IsTrue (tested child_element)
 
 -- the i-th child matches, and no other child does
-pub record Selects {A : Type 0} (named tested : A → Bool) (position : Option ℕ) (child_elements : List A) (i : ℕ) : Type 0 where
+pub record Selects {A : Type 0} (named tested : A → Bool) (position : Option ℕ)
+    (child_elements : List A) (i : ℕ) : Type 0 where
   pub this : Matches named tested position child_elements i
   pub alone : (k : ℕ) → Matches named tested position child_elements k → k ≡ i
 
 -- the tests give the two lists of children the same results, one by one
-pub record AreAlike {A B : Type 0} (named tested : A → Bool) (named' tested' : B → Bool) (child_elements : List A) (child_elements' : List B) : Type 0 where
+pub record AreAlike {A B : Type 0} (named tested : A → Bool) (named' tested' : B → Bool)
+    (child_elements : List A) (child_elements' : List B) : Type 0 where
   pub same_named : map named child_elements ≡ map named' child_elements'
   pub same_tested : map tested child_elements ≡ map tested' child_elements'
 
@@ -39,16 +44,20 @@ is_at_position (Some n) before = nat_eq (before + 1) n
 -- test
 abbrev pub child_matches : {A : Type 0} → (A → Bool) → (A → Bool) → Option ℕ → ℕ → Option A → Bool
 child_matches named tested position before None = false
-child_matches named tested position before (Some child_element) = named child_element && (is_at_position position before && tested child_element)
+child_matches named tested position before (Some child_element) =
+    named child_element && (is_at_position position before && tested child_element)
 
 -- whether the i-th child matches
 abbrev pub matches : {A : Type 0} → (A → Bool) → (A → Bool) → Option ℕ → List A → ℕ → Bool
-matches named tested position child_elements i = child_matches named tested position (count_by named (take i child_elements)) (slice_get child_elements i)
+matches named tested position child_elements i =
+    child_matches named tested position (count_by named (take i child_elements))
+    (slice_get child_elements i)
 
 -- the numbers that pass, of a range from the first one on
 abbrev pub passing : (ℕ → Bool) → ℕ → ℕ → List ℕ
 passing p first zero = []
-passing p first (suc many) = cond (p first) (first ∷ passing p (suc first) many) (passing p (suc first) many)
+passing p first (suc many) =
+    cond (p first) (first ∷ passing p (suc first) many) (passing p (suc first) many)
 
 -- the only item of a list
 abbrev pub only_item : List ℕ → Option ℕ
@@ -58,4 +67,5 @@ only_item (i ∷ j ∷ more) = None
 
 -- the number of the only child that matches
 abbrev pub selected : {A : Type 0} → (A → Bool) → (A → Bool) → Option ℕ → List A → Option ℕ
-selected named tested position child_elements = only_item (passing (matches named tested position child_elements) 0 (length child_elements))
+selected named tested position child_elements =
+    only_item (passing (matches named tested position child_elements) 0 (length child_elements))

@@ -4,7 +4,8 @@ ghost use Rattle.node_select.specs.Names.{prefix_uri};
 
 use std::alloc::{AllocError, Global};
 use std::marker::Model;
-use xml_tree::{Decl, IndexedDecls, Prefix, Scope, Text, declared_in, is_xmlns};
+use xml_names::{Decl, IndexedDecls, Prefix, Text, declared_in, is_xmlns};
+use xml_tree::Scope;
 
 /// Prefixes with their URIs, as declarations: the last one of a prefix counts, and an empty URI
 /// binds nothing. `xml` is always bound to its own namespace, and `xmlns` never.
@@ -16,8 +17,8 @@ pub struct Bindings {
 
 impl Model for Bindings {
     ghost use Rattle.std.specs.Prelude.{List};
-    ghost use Rattle.xml_tree.specs.declared.names.Decl.{Decl};
-    ghost use Rattle.xml_tree.specs.inner.Codes.{decls_code};
+    ghost use Rattle.xml_names.specs.declared.names.Decl.{Decl};
+    ghost use Rattle.xml_names.specs.inner.Codes.{decls_code};
 
     ghost Value = { List Decl };
 

@@ -1,6 +1,6 @@
 //! How far the steps of a selector lead, in one descent.
 ghost use Rattle.std.specs.Prelude.{◌≡◌, ◌<◌, ◌≤◌, ◌+◌, ◌∷◌, [], length, take};
-ghost use Rattle.xml_tree.specs.Limits.{max_levels};
+ghost use Rattle.xml_names.specs.Limits.{max_levels};
 ghost use Rattle.xml_tree.specs.Tree.{height, child_elements_of};
 ghost use Rattle.node_select.specs.inner.LongestMatches.{ReachesBelow};
 ghost use Rattle.node_select.specs.Selection.{IsLongestMatch, SelectsPath};
@@ -8,7 +8,8 @@ ghost use Rattle.node_select.specs.Selection.{IsLongestMatch, SelectsPath};
 use crate::selector::Step;
 use crate::step_match::{is_match, select_child};
 use std::alloc::Global;
-use xml_tree::{Element, LinkedScope, Path, declared_in};
+use xml_names::declared_in;
+use xml_tree::{Element, LinkedScope, Path};
 
 /// How far steps lead from the document down.
 #[derive(Drop)]

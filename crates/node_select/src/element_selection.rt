@@ -1,13 +1,16 @@
 //! What a selector selects in a tree.
-ghost use Rattle.std.specs.Prelude.{◌≡◌, ◌≤◌, ◌+◌, ◌++◌, ◌↔◌, ℕ, List, [], ◌∷◌, length, option_map, Some};
-ghost use Rattle.xml_tree.specs.Limits.{max_levels};
+ghost use Rattle.std.specs.Prelude.{◌≡◌, ◌≤◌, ◌+◌, ◌++◌, ◌↔◌, ℕ, List, [], ◌∷◌, length, option_map};
+ghost use Rattle.std.specs.Prelude.{Some};
+ghost use Rattle.xml_names.specs.Limits.{max_levels};
 ghost use Rattle.xml_tree.specs.Tree.{height, child_elements_of};
-ghost use Rattle.node_select.specs.Selection.{IsLongestMatch, SelectsPath, depth_among, longest_in, selected_among, selected_in};
+ghost use Rattle.node_select.specs.Selection.{IsLongestMatch, SelectsPath, depth_among, longest_in};
+ghost use Rattle.node_select.specs.Selection.{selected_among, selected_in};
 
 use crate::selector::{Selector, Step};
 use crate::step_match::{is_match, select_child};
 use std::alloc::Global;
-use xml_tree::{Element, LinkedScope, Path, declared_in};
+use xml_names::declared_in;
+use xml_tree::{Element, LinkedScope, Path};
 
 /// The element that a selector's steps select: None exactly when some step matches no element or
 /// several. Each level is visited once. Only indexes of declarations allocate, and the result is

@@ -1,18 +1,23 @@
 //! What the names of a selector mean, by the bindings of their prefixes.
 ghost use Rattle.std.specs.Prelude.{◌≡◌, ◌+◌, ◌<◌, ◌^◌, IfOk, chars, map, Option, option_map};
-ghost use Rattle.tree_text.specs.readers.Views.{name_in};
+ghost use Rattle.xml_tokens.specs.readers.TokenViews.{name_in};
 ghost use Rattle.node_select.specs.declared.name_resolution.Unresolved.TheVariants as troubles;
 ghost use Rattle.node_select.specs.readers.Resolving.{Means};
 ghost use Rattle.node_select.specs.Names.{prefix_uri, attr_uri, name_uri};
-ghost use Rattle.node_select.specs.readers.Raw.{HasRoom, attr_test, end_of, name_test, patch_end_of, step_of, steps_of, unbound_at, unbound_end, unbound_from, unbound_in, unbound_name, unbound_patch_end, unbound_test, no_end, steps_size};
+ghost use Rattle.node_select.specs.readers.Raw.{HasRoom, attr_test, end_of, name_test};
+ghost use Rattle.node_select.specs.readers.Raw.{patch_end_of, step_of, steps_of, unbound_at};
+ghost use Rattle.node_select.specs.readers.Raw.{unbound_end, unbound_from, unbound_in};
+ghost use Rattle.node_select.specs.readers.Raw.{unbound_name, unbound_patch_end, unbound_test};
+ghost use Rattle.node_select.specs.readers.Raw.{no_end, steps_size};
 ghost use Rattle.node_select.specs.readers.Views.{end_in, patch_end_in, step_in, test_in};
 
 use crate::raw_selectors::{RawEnd, RawPatchEnd, RawStep, RawTest};
 use crate::selector::{AttrTest, End, NameTest, PatchEnd, Step};
 use crate::step_match::no_uri;
 use std::alloc::{AllocError, AllocFailed, Global};
-use tree_text::{RawName, split_first};
-use xml_tree::{IndexedDecls, LinkedScope, List, Prefix, Text, is_xmlns};
+use xml_names::{IndexedDecls, List, Prefix, Text, is_xmlns};
+use xml_tokens::{RawName, split_first};
+use xml_tree::LinkedScope;
 
 /// Why names can't be resolved.
 #[derive(Drop)]
@@ -182,8 +187,10 @@ pub fn steps(
     at: usize,
 ) -> Result<(List<Step>, usize), Unresolved>
     requires { HasRoom at (map step_in steps.now) }
-    ensures means_steps { Means (unbound_from bindings.now at (map step_in steps.now) no_end)
-        (steps_of bindings.now (chars default.now) (map step_in steps.now), at + steps_size (map step_in steps.now))
+    ensures means_steps { Means (unbound_from bindings.now at (map step_in steps.now) no_end) (
+      steps_of bindings.now (chars default.now) (map step_in steps.now),
+      at + steps_size (map step_in steps.now),
+    )
         result }
 {
     let mut made = List::empty(alloc);

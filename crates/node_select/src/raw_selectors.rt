@@ -1,7 +1,7 @@
 //! Selectors as written in a text: names with their prefixes, and the widths that give the place
 //! of each name.
-use tree_text::RawName;
-use xml_tree::Text;
+use xml_names::Text;
+use xml_tokens::RawName;
 
 /// Which of the two grammars is read.
 #[derive(Clone, Copy)]

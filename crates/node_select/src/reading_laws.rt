@@ -1,12 +1,14 @@
 //! Laws of reading, each the contract of a function that does nothing.
 ghost use Rattle.std.specs.Prelude.{◌≡◌, ℕ, List, Option, Result};
-ghost use Rattle.xml_tree.specs.declared.names.Decl.{Decl};
-ghost use Rattle.node_select.specs.Faults.{IsPatchFormAnswer, IsPatchSelectorAnswer, IsSelectorAnswer};
+ghost use Rattle.xml_names.specs.declared.names.Decl.{Decl};
+ghost use Rattle.node_select.specs.Faults.{IsPatchFormAnswer, IsPatchSelectorAnswer};
+ghost use Rattle.node_select.specs.Faults.{IsSelectorAnswer};
 ghost use Rattle.node_select.specs.declared.fault.SelectorFault.{SelectorFault};
 ghost use Rattle.node_select.specs.declared.selector.PatchForm.{PatchForm};
 ghost use Rattle.node_select.specs.declared.selector.PatchSelector.{PatchSelector};
 ghost use Rattle.node_select.specs.declared.selector.Selector.{Selector};
-ghost use Rattle.node_select.specs.readers.Whole.{patch_form_read, patch_selector_read, selector_read};
+ghost use Rattle.node_select.specs.readers.Whole.{patch_form_read, patch_selector_read};
+ghost use Rattle.node_select.specs.readers.Whole.{selector_read};
 
 /// By the grammar each text has one answer, with any bindings and any namespace of unprefixed
 /// elements: the selector that it spells, or its one fault (RFC 4825, section 6.3). Reading from

@@ -3,7 +3,7 @@
 ghost use Rattle.std.specs.Prelude.{◌≡◌, IfOk};
 
 use std::alloc::{AllocError, Global};
-use xml_tree::{List, Text};
+use xml_names::{List, Text};
 
 /// The test of an element's name in a step.
 #[derive(Drop)]

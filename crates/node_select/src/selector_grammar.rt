@@ -2,16 +2,20 @@
 ghost use Rattle.std.specs.Prelude.{chars, map, IfOk, Ok};
 ghost use Rattle.xml_grammar.specs.Reading.{read_valued, read_word};
 ghost use Rattle.xml_grammar.specs.readers.Functions.{read_behind, read_optional, read_whole};
-ghost use Rattle.tree_text.specs.readers.Results.{Gives};
+ghost use Rattle.xml_tokens.specs.readers.Results.{Gives};
 ghost use Rattle.node_select.specs.readers.Words.{slash};
-ghost use Rattle.node_select.specs.readers.Raw.{HasRoom, end_or_element, patch_end_or_element, slash_width};
-ghost use Rattle.node_select.specs.readers.Selectors.{read_end, read_patch_end, read_patch_selector, read_position, read_selector, slash_follows, test_follows};
-ghost use Rattle.node_select.specs.readers.Views.{end_in, patch_end_in, patch_selector_in, selector_in, step_in};
+ghost use Rattle.node_select.specs.readers.Raw.{HasRoom, end_or_element, patch_end_or_element};
+ghost use Rattle.node_select.specs.readers.Raw.{slash_width};
+ghost use Rattle.node_select.specs.readers.Selectors.{read_end, read_patch_end};
+ghost use Rattle.node_select.specs.readers.Selectors.{read_patch_selector, read_position};
+ghost use Rattle.node_select.specs.readers.Selectors.{read_selector, slash_follows, test_follows};
+ghost use Rattle.node_select.specs.readers.Views.{end_in, patch_end_in, patch_selector_in};
+ghost use Rattle.node_select.specs.readers.Views.{selector_in, step_in};
 
 use crate::raw_selectors::{Form, RawEnd, RawPatchEnd, RawPatchSelector, RawSelector};
 use crate::steps::{attribute, position, slash_follows, steps, test_follows};
 use std::alloc::Global;
-use tree_text::{ParseError, is_first, is_over, word};
+use xml_tokens::{ParseError, is_first, is_over, word};
 
 // An attribute or all namespaces, and what follows them.
 fn end(text: &str) -> Result<(RawEnd<'_>, &str), ParseError<'_>>

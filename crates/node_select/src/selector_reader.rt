@@ -1,12 +1,16 @@
 //! Reading selectors.
 ghost use Rattle.std.specs.Prelude.{◌≡◌, ◌-◌, length, map, IfOk, chars};
-ghost use Rattle.xml_tree.specs.Memory.{Answered};
-ghost use Rattle.node_select.specs.Faults.{IsPatchFormAnswer, IsPatchSelectorAnswer, IsSelectorAnswer, byte_of};
-ghost use Rattle.node_select.specs.readers.Raw.{HasRoom, first_unbound, first_unbound_in_patch, patch_selector_of, selector_of};
-ghost use Rattle.node_select.specs.readers.Views.{patch_end_in, patch_selector_in, selector_in, step_in};
+ghost use Rattle.xml_names.specs.Memory.{Answered};
+ghost use Rattle.node_select.specs.Faults.{IsPatchFormAnswer, IsPatchSelectorAnswer};
+ghost use Rattle.node_select.specs.Faults.{IsSelectorAnswer, byte_of};
+ghost use Rattle.node_select.specs.readers.Raw.{HasRoom, first_unbound, first_unbound_in_patch};
+ghost use Rattle.node_select.specs.readers.Raw.{patch_selector_of, selector_of};
+ghost use Rattle.node_select.specs.readers.Views.{patch_end_in, patch_selector_in, selector_in};
+ghost use Rattle.node_select.specs.readers.Views.{step_in};
 ghost use Rattle.node_select.specs.readers.Resolving.{Means};
 ghost use Rattle.node_select.specs.readers.ParseErrors.{Tells, TellsUnresolved};
-ghost use Rattle.node_select.specs.readers.Whole.{patch_form_read, patch_selector_read, raw_form_of, selector_read};
+ghost use Rattle.node_select.specs.readers.Whole.{patch_form_read, patch_selector_read};
+ghost use Rattle.node_select.specs.readers.Whole.{raw_form_of, selector_read};
 
 use crate::bindings::Bindings;
 use crate::fault::SelectorFault;
@@ -15,8 +19,8 @@ use crate::raw_selectors::{RawPatchEnd, RawPatchSelector, RawSelector};
 use crate::selector::{PatchForm, PatchSelector, Selector};
 use crate::selector_grammar::{raw_patch_selector, raw_selector};
 use std::alloc::{AllocError, Global};
-use tree_text::{ParseError, count, skip};
-use xml_tree::ReadError;
+use xml_names::ReadError;
+use xml_tokens::{ParseError, count, skip};
 
 // The byte after the first `n` characters of a text.
 fn byte_of(text: &str, n: usize) -> usize

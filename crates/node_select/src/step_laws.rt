@@ -1,8 +1,11 @@
 //! Laws of selection among the children of an element, for children of any type: which child a
 //! step selects, and which gaps are lawful for a new child (RFC 4825, sections 6.3, 8.2 and 8.4).
 //! Each is the contract of a function that does nothing.
-ghost use Rattle.std.specs.Prelude.{◌≡◌, ◌↔◌, ℕ, ◌≤◌, Bool, IsTrue, List, length, take, insert, remove, slice_set, slice_get, count_by, Option, None, Some, Result};
-ghost use Rattle.node_select.specs.StepSelection.{AreAlike, IsAtPosition, Matches, Selects, selected};
+ghost use Rattle.std.specs.Prelude.{◌≡◌, ◌↔◌, ℕ, ◌≤◌, Bool, IsTrue, List, length, take, insert};
+ghost use Rattle.std.specs.Prelude.{remove, slice_set, slice_get, count_by, Option, None, Some};
+ghost use Rattle.std.specs.Prelude.{Result};
+ghost use Rattle.node_select.specs.StepSelection.{AreAlike, IsAtPosition, Matches, Selects};
+ghost use Rattle.node_select.specs.StepSelection.{selected};
 ghost use Rattle.node_select.specs.InsertionPoints.{IsFree, IsLawfulInsertion, PlanIs, plan_of};
 ghost use Rattle.node_select.specs.Edits.{IsNextMatch, IsPassedOver, shifted};
 

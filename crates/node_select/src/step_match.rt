@@ -1,20 +1,21 @@
 //! Which child of an element a step selects, and which attribute a name means.
-ghost use Rattle.std.specs.Prelude.{◌≡◌, ◌↔◌, ◌<◌, ◌+◌, ◌++◌, ◌^◌, ℕ, [], IsTrue, map, chars, position, cond, None, Some};
-ghost use Rattle.xml_tree.specs.Scopes.{inside};
+ghost use Rattle.std.specs.Prelude.{◌≡◌, ◌↔◌, ◌<◌, ◌+◌, ◌++◌, ◌^◌, ℕ, [], IsTrue, map, chars};
+ghost use Rattle.std.specs.Prelude.{position, cond, None, Some};
+ghost use Rattle.xml_tree.specs.TreeScopes.{inside};
 ghost use Rattle.std.specs.List.{find, list_any};
 ghost use Rattle.std.specs.Option.{option_copied};
 ghost use Rattle.std.specs.Str.{bytes_eq};
 ghost use Rattle.xml_tree.specs.Tree.{child_elements_of};
-ghost use Rattle.xml_tree.specs.Expanded.{element_name, attr_name};
+ghost use Rattle.xml_names.specs.Expanded.{element_name, attr_name};
 ghost use Rattle.node_select.specs.StepSelection.{is_at_position, child_matches};
 ghost use Rattle.node_select.specs.Names.{is_named_so, uri_of};
-ghost use Rattle.node_select.specs.Selection.{has_asked, is_asked, is_attr, is_named, is_tested, selected_child};
+ghost use Rattle.node_select.specs.Selection.{has_asked, is_asked, is_attr, is_named, is_tested};
+ghost use Rattle.node_select.specs.Selection.{selected_child};
 
 use crate::selector::{AttrTest, NameTest, Step};
 use std::alloc::Global;
-use xml_tree::{
-    Attr, Decl, Element, IndexedDecls, LinkedScope, Name, Node, Scope, Text, declared_in,
-};
+use xml_names::{Attr, Decl, IndexedDecls, Name, Text, declared_in};
+use xml_tree::{Element, LinkedScope, Node, Scope};
 
 /// The number of the first attribute of this namespace and local name, in the scope at the
 /// element: None exactly when there is none. An attribute without prefix is in no namespace,

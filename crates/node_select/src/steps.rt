@@ -1,22 +1,27 @@
 //! Steps of selectors, read from left to right.
-ghost use Rattle.std.specs.Prelude.{◌≡◌, ◌<◌, ◌^◌, ◌++◌, [], ◌∷◌, chars, map, Some, option_map, OnOk, Ok};
+ghost use Rattle.std.specs.Prelude.{◌≡◌, ◌<◌, ◌^◌, ◌++◌, [], ◌∷◌, chars, map, Some, option_map};
+ghost use Rattle.std.specs.Prelude.{OnOk, Ok};
 ghost use Rattle.xml_grammar.specs.Digits.{decimal_digits};
 ghost use Rattle.std.specs.Str.{bytes_eq};
 ghost use Rattle.xml_grammar.specs.Reading.{read_sequence};
 ghost use Rattle.xml_grammar.specs.readers.Functions.{read_optional};
-ghost use Rattle.tree_text.specs.readers.Results.{Gives};
-ghost use Rattle.tree_text.specs.readers.Views.{name_in};
+ghost use Rattle.xml_tokens.specs.readers.Results.{Gives};
+ghost use Rattle.xml_tokens.specs.readers.TokenViews.{name_in};
 ghost use Rattle.node_select.specs.Grammar.{position_of, names_attribute};
-ghost use Rattle.node_select.specs.readers.Selectors.{position_follows, read_attribute, read_inside_quotes, read_next_step, read_node_name, read_position, read_step, read_steps, read_test, read_value, slash_follows, test_follows};
+ghost use Rattle.node_select.specs.readers.Selectors.{position_follows, read_attribute};
+ghost use Rattle.node_select.specs.readers.Selectors.{read_inside_quotes, read_next_step};
+ghost use Rattle.node_select.specs.readers.Selectors.{read_node_name, read_position, read_step};
+ghost use Rattle.node_select.specs.readers.Selectors.{read_steps, read_test, read_value};
+ghost use Rattle.node_select.specs.readers.Selectors.{slash_follows, test_follows};
 ghost use Rattle.node_select.specs.readers.Views.{follows_in, step_in, test_in};
 
 use crate::raw_selectors::{Form, RawStep, RawTest};
 use std::alloc::{AllocError, Global};
-use tree_text::{
+use xml_names::{Text, is_xmlns};
+use xml_tokens::{
     ParseError, RawName, count_before, digits, is_first, no_text, qname, quote, raw_run, reference,
     reference_follows, split_first, starts, word,
 };
-use xml_tree::{Text, is_xmlns};
 
 /// The greatest position; a greater one is read as 0.
 const MAX_POSITION: u64 = 4_294_967_295;

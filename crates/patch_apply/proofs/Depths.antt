@@ -7,7 +7,7 @@ use Rattle.xml_tree.specs.Edits.{change_at, put_over}
 use Rattle.xml_tree.specs.inner.Heights.{content_height-before}
 use Rattle.xml_tree.specs.Nodes.{content_of, exchange_nodes, nodes_of, text_node}
 use Rattle.xml_tree.specs.Tree.{Tree, at, height, content_height}
-use Rattle.xml_tree.specs.declared.names.Attr.{Attr}
+use Rattle.xml_names.specs.declared.names.Attr.{Attr}
 use Rattle.xml_tree.specs.declared.tree.Node.{Node}
 use Rattle.xml_tree.specs.declared.tree.Node.TheVariants.{Elem, Chars, Comment}
 use Rattle.xml_tree.proofs.HeightLaws.{height-bounded, height-put_over}

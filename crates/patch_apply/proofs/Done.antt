@@ -4,15 +4,15 @@ use Rattle.std.proofs.lemmas.Bool.{ltb-true}
 use Rattle.std.proofs.lemmas.Option.{cond_some}
 use Rattle.std.specs.List.{position, position_or_len, slice_get}
 use Rattle.std.specs.Prelude.{nat_lt}
-use Rattle.xml_tree.specs.Attributes.{remove_first, with_new_value, with_value}
+use Rattle.xml_names.specs.Attributes.{remove_first, with_new_value, with_value}
 use Rattle.xml_tree.specs.Edits.{change_at, put_over}
-use Rattle.xml_tree.specs.Expanded.{attr_name, same_expanded}
+use Rattle.xml_names.specs.Expanded.{attr_name, same_expanded}
 use Rattle.xml_tree.specs.Nodes.{exchange_nodes, nodes_of, text_node}
-use Rattle.xml_tree.specs.Scopes.{scope_around, scope_at}
+use Rattle.xml_tree.specs.TreeScopes.{scope_around, scope_at}
 use Rattle.xml_tree.specs.Tree.{Content, Tree, at}
-use Rattle.xml_tree.specs.declared.names.Attr.{Attr}
-use Rattle.xml_tree.specs.declared.names.Decl.{Decl}
-use Rattle.xml_tree.specs.declared.names.Name.{Name}
+use Rattle.xml_names.specs.declared.names.Attr.{Attr}
+use Rattle.xml_names.specs.declared.names.Decl.{Decl}
+use Rattle.xml_names.specs.declared.names.Name.{Name}
 use Rattle.xml_tree.specs.declared.tree.Node.{Node}
 use Rattle.xml_tree.proofs.PathLemmas.{put_over-made}
 use Rattle.patch_rules.specs.PatchOperations.{OperationError, Prefix, RootTouched, WrongNodes, NoSpace, Position, Behind, Prepend, Before, After, AtElement, AtAttr, AtText, attr_done, attr_of, cut_element, given, is_bare, is_below, made, means_alike, is_off_root, put_at, put_done, remove_done, replace_done, rewritten, scope_of_put, sole_element, space_fits, tested, value_in, with_attrs, within_depth}

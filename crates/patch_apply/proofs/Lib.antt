@@ -1,4 +1,3 @@
-pub mod ByNodes
 pub mod Depths
 pub mod Done
 pub mod Located
@@ -6,9 +5,6 @@ pub mod Lows
 pub mod Making
 pub mod Operating
 pub mod Replaying
-pub mod SameNames
-pub mod Selecting
 pub mod Sites
 pub mod Spotted
 pub mod Turning
-pub mod Words

@@ -1,14 +1,14 @@
 -- No operation makes a tree deeper than a document may be.
 use Rattle.std.proofs.Common.{◌≡◌, ◌≤◌, ℕ, suc, Bool, true, false, codes, not, List, [], ◌∷◌, ◌++◌, Option, None, Some, is_some, option_and_then, option_map, unwrap_or, Result, Ok, refl, subst}
 use Rattle.std.specs.List.{list_all, list_any, slice_get}
-use Rattle.xml_tree.specs.Attributes.{remove_first}
+use Rattle.xml_names.specs.Attributes.{remove_first}
 use Rattle.xml_tree.specs.Edits.{change_at, put_over}
-use Rattle.xml_tree.specs.Expanded.{attr_name, same_expanded}
+use Rattle.xml_names.specs.Expanded.{attr_name, same_expanded}
 use Rattle.xml_tree.specs.Nodes.{exchange_nodes, nodes_of, text_node}
-use Rattle.xml_tree.specs.Scopes.{scope_around, scope_at}
+use Rattle.xml_tree.specs.TreeScopes.{scope_around, scope_at}
 use Rattle.xml_tree.specs.Tree.{Content, Tree, at, height}
-use Rattle.xml_tree.specs.declared.names.Decl.{Decl}
-use Rattle.xml_tree.specs.declared.names.Name.{Name}
+use Rattle.xml_names.specs.declared.names.Decl.{Decl}
+use Rattle.xml_names.specs.declared.names.Name.{Name}
 use Rattle.node_select.specs.declared.selector.PatchSelector.{PatchSelector}
 use Rattle.patch_rules.specs.PatchOperations.{Directive, NoSpace, Prefix, RootTouched, Unlocated, OperationError, WrongNodes, PatchAction, Put, NewAttr, Replace, Remove, Location, AtElement, AtAttr, AtText, attr_of, cut_element, cut_nodes, done, given, is_bare, is_below, is_bound_type, is_known, locate, made, means_alike, is_off_root, spot_path, plain_value, put_at, rewritten, scope_of_put, sole_element, space_fits, suits, task_of, tested, value_in, with_attrs, within_depth, operation_word}
 use Rattle.patch_rules.specs.Selectors.{Reading}

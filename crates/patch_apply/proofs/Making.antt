@@ -1,15 +1,15 @@
 -- What each patch action makes where its tests pass, by the depth of what it puts.
 use Rattle.std.proofs.Common.{◌≡◌, ◌≤◌, ℕ, suc, ◌+◌, ◌-◌, Bool, true, false, List, [], ◌∷◌, ◌++◌, length, remove, Some, IsSome, Ok, Err, refl, ◌∙◌, if◌then◌else◌}
 use Rattle.std.specs.Prelude.{nat_le}
-use Rattle.xml_tree.specs.Attributes.{with_value}
+use Rattle.xml_names.specs.Attributes.{with_value}
 use Rattle.xml_tree.specs.Edits.{change_at, parent_path, put_over}
-use Rattle.xml_tree.specs.Expanded.{attr_name, same_expanded}
+use Rattle.xml_names.specs.Expanded.{attr_name, same_expanded}
 use Rattle.xml_tree.specs.Nodes.{exchange_nodes, nodes_of, text_node}
-use Rattle.xml_tree.specs.Scopes.{scope_around, scope_at}
+use Rattle.xml_tree.specs.TreeScopes.{scope_around, scope_at}
 use Rattle.xml_tree.specs.Tree.{Content, Tree, at, height}
-use Rattle.xml_tree.specs.declared.names.Attr.{Attr}
-use Rattle.xml_tree.specs.declared.names.Decl.{Decl}
-use Rattle.xml_tree.specs.declared.names.Name.{Name}
+use Rattle.xml_names.specs.declared.names.Attr.{Attr}
+use Rattle.xml_names.specs.declared.names.Decl.{Decl}
+use Rattle.xml_names.specs.declared.names.Name.{Name}
 use Rattle.patch_rules.specs.PatchOperations.{Prefix, WrongNodes, AtElement, AtText, attr_done, attr_of, cut_element, is_bare, is_below, means_alike, own_place, remove_done, replace_done, sole_element, space_fits, value_in, with_attrs}
 use Rattle.patch_apply.specs.inner.ByNodes.{nodes_height}
 use Rattle.patch_apply.specs.inner.Stages.{gap_done, is_there_already, take_done, value_done}

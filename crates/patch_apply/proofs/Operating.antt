@@ -1,23 +1,25 @@
 -- The stages of an operation, one after another.
 use Rattle.std.proofs.Common.{◌≡◌, ℕ, Bool, codes, true, false, List, [], ◌∷◌, ◌++◌, Option, None, Some, Result, Ok, Err, sym, ap, ◌∙◌, subst}
 use Rattle.std.specs.List.{list_all}
-use Rattle.xml_tree.specs.Memory.{Answered}
-use Rattle.xml_tree.specs.declared.read_error.ReadError.{ReadError}
-use Rattle.xml_tree.specs.declared.read_error.ReadError.TheVariants.{Fault, NoMemory}
+use Rattle.xml_names.specs.Memory.{Answered}
+use Rattle.xml_names.specs.declared.read_error.ReadError.{ReadError}
+use Rattle.xml_names.specs.declared.read_error.ReadError.TheVariants.{Fault, NoMemory}
 use Rattle.xml_tree.specs.Tree.{Tree}
-use Rattle.xml_tree.specs.declared.names.Attr.{Attr}
-use Rattle.xml_tree.specs.declared.names.Decl.{Decl}
+use Rattle.xml_names.specs.declared.names.Attr.{Attr}
+use Rattle.xml_names.specs.declared.names.Decl.{Decl}
 use Rattle.node_select.specs.declared.selector.PatchSelector.{PatchSelector}
 use Rattle.patch_rules.specs.PatchOperations.{OperationError, Directive, Prefix, Unlocated, PatchAction, done, given, is_bound_type, is_known, locate, plain_value, suits, tested}
 use Rattle.patch_rules.specs.readers.Applied.{apply_operation, reading_in}
-use Rattle.patch_apply.specs.inner.Results.{IsGiven}
-use Rattle.patch_apply.specs.inner.Stages.{done_where, said_done, selector_tested, task_done, task_said}
-use Rattle.patch_apply.specs.inner.PrivateTypes.{wrong_in}
-use Rattle.patch_apply.specs.declared.fault.OperationError.{OperationError as CodeWrong}
+use Rattle.patch_parse.specs.Views.{IsGiven}
+use Rattle.patch_apply.specs.inner.Results.{EditsAs}
+use Rattle.patch_parse.specs.Operations.{selector_tested, task_said}
+use Rattle.patch_apply.specs.inner.Stages.{done_where, said_done, task_done}
+use Rattle.patch_parse.specs.Views.{wrong_in}
+use Rattle.patch_parse.specs.declared.operation_error.OperationError.{OperationError as CodeWrong}
 
--- `IsGiven` also holds of an equal stated result
-pub gives_same : {X : Type 0} (a b : Result X OperationError) (r : Result X (ReadError CodeWrong)) → a ≡ b → Answered (IsGiven a) r → Answered (IsGiven b) r
-gives_same a b r same h = subst (λ s. Answered (IsGiven s) r) same h
+-- `EditsAs` also holds of an equal stated result
+pub edits_same : (a b : Result Tree OperationError) (new : Tree) (r : Result (Unit {0}) (ReadError CodeWrong)) → a ≡ b → Answered (EditsAs a new) r → Answered (EditsAs b new) r
+edits_same a b new r same h = subst (λ s. Answered (EditsAs s new) r) same h
 
 -- an attribute without prefix, where its name is a literal of the code
 pub plain_is : (w v : List ℕ) (attrs given : List Attr) (o : Option (List ℕ)) → w ≡ v → given ≡ attrs → o ≡ plain_value w given → plain_value v attrs ≡ o
@@ -71,10 +73,10 @@ module _ (here : List (List Decl)) (sel : List ℕ) (o t : Tree) where
   said_next task s e tests = said_some task e ∙ goes_on (λ r. r.means here) (next task) (reading_in sel) (λ r. suits task r.ends) (is_bound_type here task) s tests
 
   -- a call that refuses the selector refuses the operation
-  pub said_error : (task : PatchAction) (error : ReadError CodeWrong) → task_said o.name o.attrs ≡ Some task → Answered (IsGiven {X = PatchSelector} (selector_tested here sel task)) (Err error)
-      → Answered (IsGiven {X = Tree} (said_done here sel o t)) (Err error)
-  said_error task (Fault wrong) e h = said_refused task (wrong_in wrong) e h
-  said_error task NoMemory e h = tt
+  pub said_error : (task : PatchAction) (error : ReadError CodeWrong) (new : Tree) → task_said o.name o.attrs ≡ Some task → Answered (IsGiven {X = PatchSelector} (selector_tested here sel task)) (Err error)
+      → Answered (EditsAs (said_done here sel o t) new) (Err error)
+  said_error task (Fault wrong) new e h = said_refused task (wrong_in wrong) e h
+  said_error task NoMemory new e h = tt
 
 -- ---- the whole operation, in the scope around it
 

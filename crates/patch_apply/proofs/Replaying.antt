@@ -1,7 +1,7 @@
 -- A whole diff document, `document` after `document`.
 use Rattle.std.proofs.Common.{◌≡◌, ℕ, ◌<◌, Bool, true, cond, List, [], ◌∷◌, length, Some, Result, Ok, Err, refl, sym, ap, ◌∙◌, subst, arith, is_some, Option, if◌then◌else◌}
-use Rattle.xml_tree.specs.declared.read_error.ReadError.{ReadError}
-use Rattle.xml_tree.specs.declared.read_error.ReadError.TheVariants.{Fault, NoMemory}
+use Rattle.xml_names.specs.declared.read_error.ReadError.{ReadError}
+use Rattle.xml_names.specs.declared.read_error.ReadError.TheVariants.{Fault, NoMemory}
 use Rattle.xml_tree.specs.Proper.{ProperIn}
 use Rattle.xml_tree.specs.Tree.{Tree}
 use Rattle.patch_rules.specs.Replay as replay

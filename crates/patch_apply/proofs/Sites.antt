@@ -2,7 +2,7 @@
 use Rattle.std.proofs.Common.{◌≡◌, ℕ, ◌<◌, List, [], ◌∷◌, ◌++◌, length, Option, None, Some, IsSome, option_map, option_and_then, unwrap_or, refl, sym, ap, ◌∙◌, subst}
 use Rattle.xml_tree.specs.Edits.{parent_path}
 use Rattle.xml_tree.specs.Nodes.{nodes_of, place}
-use Rattle.xml_tree.specs.Scopes.{scope_around, scope_at}
+use Rattle.xml_tree.specs.TreeScopes.{scope_around, scope_at}
 use Rattle.xml_tree.specs.Tree.{Content, Tree, at, child_elements, child_elements_of}
 use Rattle.xml_tree.proofs.PathLemmas.{at-snoc, final-snoc, front-snoc, from_there, kid_there}
 use Rattle.xml_tree.proofs.Places.{content_of-nodes_of, place_there}

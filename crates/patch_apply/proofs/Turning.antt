@@ -1,21 +1,22 @@
 -- Operations and documents, one after another.
 use Rattle.std.proofs.Common.{◌≡◌, Bor, ℕ, zero, suc, ◌+◌, ◌<◌, min, List, [], ◌∷◌, length, map, get_or, drop, Option, Result, Ok, Err, refl, sym, ap, ◌∙◌, subst, add-one, arith}
-use Rattle.xml_tree.specs.Memory.{Answered}
-use Rattle.xml_tree.specs.declared.read_error.ReadError.{ReadError}
-use Rattle.xml_tree.specs.declared.read_error.ReadError.TheVariants as errors
-use Rattle.xml_tree.specs.Limits.{u64_max}
+use Rattle.xml_names.specs.Memory.{Answered}
+use Rattle.xml_names.specs.declared.read_error.ReadError.{ReadError}
+use Rattle.xml_names.specs.declared.read_error.ReadError.TheVariants as errors
+use Rattle.xml_names.specs.Limits.{u64_max}
 use Rattle.xml_tree.specs.Tree.{Tree}
-use Rattle.xml_tree.specs.declared.names.Decl.{Decl}
+use Rattle.xml_names.specs.declared.names.Decl.{Decl}
 use Rattle.patch_rules.specs.PatchOperations.{OperationError}
 use Rattle.patch_rules.specs.readers.Applied.{apply_operation}
 use Rattle.patch_rules.specs.Replay.{AtOperation, CopyFault, ReplicaContents, Now, DocumentOutcome, numbered, operation_count, then_next, unless_missing}
 use Rattle.patch_rules.specs.readers.Replay.{all_applied, all_taken, document_taken}
 use Rattle.patch_apply.specs.inner.Results.{AreGiven}
 use Rattle.patch_apply.specs.Views.{operation_fault}
-use Rattle.patch_apply.specs.inner.PrivateTypes.{fault_at, wrong_in}
+use Rattle.patch_parse.specs.Views.{wrong_in}
+use Rattle.patch_apply.specs.inner.PrivateTypes.{fault_at}
 use Rattle.patch_apply.specs.declared.fault.ApplyFault.{ApplyFault}
-use Rattle.patch_apply.specs.declared.fault.OperationError.{OperationError as CodeWrong}
-use Rattle.patch_apply.specs.declared.fault.OperationError.TheVariants as wrongs
+use Rattle.patch_parse.specs.declared.operation_error.OperationError.{OperationError as CodeWrong}
+use Rattle.patch_parse.specs.declared.operation_error.OperationError.TheVariants as wrongs
 
 -- ---- operations
 
@@ -41,12 +42,6 @@ item_here (y ∷ xs) (suc i) x h is = item_here xs i x (omega arith) is
 
 pub item_now : (xs : List (Bor Tree)) (i : ℕ) (x : Bor Tree) → i < length xs → x ≡ get_or xs i x → map (λ y. y.now) (drop i xs) ≡ x.now ∷ map (λ y. y.now) (drop (i + 1) xs)
 item_now xs i x h is = rw add-one (item_here xs i x h is)
-
--- the only item
-pub one_item : (xs : List (Bor Tree)) (x : Bor Tree) → 0 < length xs → length xs < 2 → x ≡ get_or xs 0 x → map (λ y. y.now) xs ≡ x.now ∷ []
-one_item [] x some one is = absurd (omega arith)
-one_item (y ∷ []) x some one is = ap (λ (z : Bor Tree). z.now ∷ []) (sym is)
-one_item (y ∷ z ∷ xs) x some one is = absurd (omega arith)
 
 pub some_item : (xs : List (Bor Tree)) → 0 < length xs → 0 < length (map (λ y. y.now) xs)
 some_item [] some = absurd (omega arith)

@@ -1,6 +1,6 @@
 -- What the types of the code mean in the terms of `patch_rules`.
 use Rattle.std.specs.Prelude.{◌≤◌, ℕ, min, List, Option, None, Some, option_map}
-use Rattle.xml_tree.specs.Limits.{u64_max, max_levels}
+use Rattle.xml_names.specs.Limits.{u64_max, max_levels}
 use Rattle.xml_tree.specs.Tree.{Tree, height}
 use Rattle.patch_rules.specs.PatchOperations as words
 use Rattle.patch_rules.specs.Replay as replay

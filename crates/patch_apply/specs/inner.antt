@@ -1,6 +1,5 @@
 -- What private functions and proofs use; no public contract cites it.
 pub mod ByNodes
-pub mod Forms
 pub mod Locating
 pub mod PrivateTypes
 pub mod Results

@@ -1,36 +1,40 @@
 //! Applying a whole diff document.
-ghost use Rattle.std.specs.Prelude.{◌≡◌, ◌<◌, ℕ, [], codes, IfOk, length, map, min, unwrap_or, is_some, if◌then◌else◌};
+ghost use Rattle.std.specs.Prelude.{◌≡◌, ◌<◌, ℕ, [], codes, IfOk, length, map, min, unwrap_or};
+ghost use Rattle.std.specs.Prelude.{is_some, if◌then◌else◌, OnOk};
 ghost use Rattle.std.specs.Option.{option_copied};
-ghost use Rattle.xml_tree.specs.Memory.{Answered};
+ghost use Rattle.xml_names.specs.Memory.{Answered};
 ghost use Rattle.xml_tree.specs.declared.scope.TheConstants.{SCOPE_LIMIT};
-ghost use Rattle.xml_tree.specs.Limits.{u64_max};
+ghost use Rattle.xml_names.specs.Limits.{u64_max};
 ghost use Rattle.patch_rules.specs.PatchOperations.{plain_value};
-ghost use Rattle.patch_rules.specs.Replay.{Patched, Removed, is_all_mine, last_new, operation_count};
+ghost use Rattle.patch_rules.specs.Replay.{Patched, Removed, is_all_mine, last_new};
+ghost use Rattle.patch_rules.specs.Replay.{operation_count};
 ghost use Rattle.patch_rules.specs.readers.Replay.{all_taken, replayed, document_taken};
 ghost use Rattle.patch_rules.specs.Replay as words;
 ghost use Rattle.patch_rules.specs.Replayed.{HoldsSound};
 ghost use Rattle.patch_apply.specs.ApplyAnswers.{Applies};
 ghost use Rattle.patch_apply.specs.inner.Results.{AppliesAs, AreGiven};
-ghost use Rattle.patch_apply.specs.declared.document_outcomes.DocumentOutcome.{DocumentOutcome as TheTurn};
+ghost use Rattle.patch_apply.specs.declared.document_outcomes.DocumentOutcome.{
+  DocumentOutcome as TheTurn,
+};
 ghost use Rattle.xcap_uri.specs.Naming.{is_name_of};
-ghost use Rattle.patch_apply.specs.inner.Stages.{ours_in};
+ghost use Rattle.patch_parse.specs.Operations.{ours_in};
 ghost use Rattle.patch_apply.specs.Views.{IsWithinLevels, answer_in, stored_in};
-ghost use Rattle.patch_apply.specs.inner.PrivateTypes.{IsLowOutcome, IsLowTurn, outcome_in, turn_in};
+ghost use Rattle.patch_apply.specs.inner.PrivateTypes.{contents_in, turn_in};
 
 use crate::diff_reader::Notice;
 use crate::document_ids::is_name_of;
 use crate::document_outcomes::{DocumentDiff, DocumentOutcome, document_outcome, operation_count};
-use crate::documents::{documents, new_tag, operations_in, previous_tag};
 use crate::fault::ApplyFault;
-use crate::names::plain_value;
 use crate::replica::{Applied, Replica, ReplicaVersion, copy_replica_version};
 use doc_names::DocId;
+use patch_parse::{documents, new_tag, operations_in, plain_value, previous_tag};
 use std::alloc::{AllocError, Global};
-use tree_text::no_text;
-use xml_tree::{Element, ReadError, Scope, Text};
+use xml_names::{ReadError, Text};
+use xml_tokens::no_text;
+use xml_tree::{Element, Scope};
 
 // Whether a `document` of a diff document has this name.
-#[tactic(auto, using(crate::proofs::Words::words))]
+#[tactic(auto, using(patch_parse::proofs::Words::words))]
 fn is_mine(alloc: Global, doc: &DocId, document: &Element) -> Result<bool, AllocError>
     ensures ok { IfOk result
         (λ is. is ≡ is_name_of doc.now
@@ -110,15 +114,15 @@ fn turn_of(
     before: usize,
     scope: &Scope<'_>,
     document: &Element,
-    held: Option<ReplicaVersion>,
+    held: &mut Option<ReplicaVersion>,
 ) -> Result<(DocumentOutcome, usize), ReadError<ApplyFault>>
     requires room_left { length scope.now < 66 }
-    requires height_bounded { IsWithinLevels (stored_in held) }
+    requires height_bounded { IsWithinLevels (stored_in held.old) }
     ensures as_specified { (n : ℕ) → before ≡ min n u64_max
-        → Answered (AreGiven {X = TheTurn × ℕ} (λ x. turn_in x.0)
-        (document_taken n scope.now document.now (stored_in held))) result }
+        → Answered (AreGiven {X = TheTurn × ℕ} (λ x. turn_in x.0 (stored_in held.new))
+        (document_taken n scope.now document.now (stored_in held.old))) result }
     ensures counts_operations { IfOk result (λ x. x.1 ≡ operation_count scope.now document.now) }
-    ensures within_levels { IfOk result (λ x. IsLowTurn x.0) }
+    ensures within_levels { OnOk result (IsWithinLevels (stored_in held.new)) }
 {
     let here = scope.with(document.decls());
     let told = document_diff_of(alloc, &here, document)?;
@@ -132,26 +136,25 @@ fn all_taken(
     alloc: Global,
     scope: &Scope<'_>,
     documents: &[&Element],
-    held: Option<ReplicaVersion>,
-) -> Result<Option<Option<ReplicaVersion>>, ReadError<ApplyFault>>
+    held: &mut Option<ReplicaVersion>,
+) -> Result<DocumentOutcome, ReadError<ApplyFault>>
     requires room_left { length scope.now < 66 }
-    requires height_bounded { IsWithinLevels (stored_in held) }
+    requires height_bounded { IsWithinLevels (stored_in held.old) }
     ensures as_specified { Answered
-        (AreGiven outcome_in
-        (all_taken 0 scope.now (map (λ x. x.now) documents.now) (stored_in held))) result }
-    ensures within_levels { IfOk result IsLowOutcome }
+        (AreGiven (λ outcome. contents_in outcome (stored_in held.new))
+        (all_taken 0 scope.now (map (λ x. x.now) documents.now) (stored_in held.old))) result }
+    ensures within_levels { OnOk result (IsWithinLevels (stored_in held.new)) }
 {
-    let mut held = held;
     let mut before = 0usize;
     for document in documents {
         let (made, count) = turn_of(alloc, before, scope, document, held)?;
         match made {
-            DocumentOutcome::Missing => return Ok(None),
-            DocumentOutcome::Now(now) => held = now,
+            DocumentOutcome::Missing => return Ok(DocumentOutcome::Missing),
+            DocumentOutcome::Updated => {}
         }
         before = before.saturating_add(count);
     }
-    Ok(Some(held))
+    Ok(DocumentOutcome::Updated)
 }
 
 // The answer where this is the replica afterwards.
@@ -189,16 +192,21 @@ fn replay_documents(
     if documents.is_empty() {
         return Ok(Applied::Same);
     }
-    let held = copy_replica_version(alloc, &replica.held)?;
+    let mut held = copy_replica_version(alloc, &replica.held)?;
     let scope = Scope::empty().with(notice.decls());
-    let outcome = all_taken(alloc, &scope, documents, held)?;
-    let Some(held) = outcome else {
-        let tag = last_new(alloc, documents)?;
-        return Ok(Applied::Fetch(tag));
-    };
-    let answer = outcome_with(&held);
-    replica.held = held;
-    Ok(answer)
+    let outcome = all_taken(alloc, &scope, documents, &mut held)?;
+    match outcome {
+        DocumentOutcome::Missing => {
+            drop(held);
+            let tag = last_new(alloc, documents)?;
+            Ok(Applied::Fetch(tag))
+        }
+        DocumentOutcome::Updated => {
+            let answer = outcome_with(&held);
+            replica.held = held;
+            Ok(answer)
+        }
+    }
 }
 
 // Applies the diff document that a tree is.

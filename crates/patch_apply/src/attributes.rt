@@ -1,25 +1,26 @@
 //! Edits of attributes and texts by operations, in place.
-ghost use Rattle.std.specs.Prelude.{◌≡◌, ◌≤◌, ◌<◌, ◌++◌, ◌∷◌, [], Bool, List, length, remove, IsSome, IsSomeAnd, IfOk, OnOk};
-ghost use Rattle.xml_tree.specs.Memory.{Answered};
-ghost use Rattle.xml_tree.specs.Limits.{max_levels};
-ghost use Rattle.xml_tree.specs.Attributes.{with_value};
+ghost use Rattle.std.specs.Prelude.{◌≡◌, ◌≤◌, ◌<◌, ◌++◌, ◌∷◌, [], Bool, List, length, remove};
+ghost use Rattle.std.specs.Prelude.{IsSome, IsSomeAnd, IfOk, OnOk};
+ghost use Rattle.xml_names.specs.Memory.{Answered};
+ghost use Rattle.xml_names.specs.Limits.{max_levels};
+ghost use Rattle.xml_names.specs.Attributes.{with_value};
 ghost use Rattle.xml_tree.specs.Edits.{change_at};
-ghost use Rattle.xml_tree.specs.Expanded.{attr_name, same_expanded};
+ghost use Rattle.xml_names.specs.Expanded.{attr_name, same_expanded};
 ghost use Rattle.xml_tree.specs.Nodes.{nodes_of, text_node};
-ghost use Rattle.xml_tree.specs.Scopes.{scope_at};
+ghost use Rattle.xml_tree.specs.TreeScopes.{scope_at};
 ghost use Rattle.xml_tree.specs.Tree.{at, height};
-ghost use Rattle.xml_tree.specs.declared.names.Decl.{Decl};
-ghost use Rattle.patch_rules.specs.PatchOperations.{attr_done, remove_done, replace_done, with_attrs};
+ghost use Rattle.xml_names.specs.declared.names.Decl.{Decl};
+ghost use Rattle.patch_rules.specs.PatchOperations.{attr_done, remove_done, replace_done};
+ghost use Rattle.patch_rules.specs.PatchOperations.{with_attrs};
 ghost use Rattle.patch_rules.specs.PatchOperations as spots;
-ghost use Rattle.patch_apply.specs.inner.Results.{IsGiven};
+ghost use Rattle.patch_apply.specs.inner.Results.{EditsAs};
 ghost use Rattle.patch_apply.specs.inner.Stages.{is_there_already, take_done, value_done};
 
 use crate::edits::exchange_one;
-use crate::fault::OperationError;
-use crate::name_meanings::{attr_alike, has_attr};
-use crate::node_contents::{is_bare, value_in};
+use patch_parse::{OperationError, attr_alike, has_attr, is_bare, value_in};
 use std::alloc::{AllocError, Global};
-use xml_tree::{Attr, Element, Name, Node, Path, ReadError, Scope, Text, element_at};
+use xml_names::{Attr, Name, ReadError, Text};
+use xml_tree::{Element, Node, Path, Scope, element_at};
 
 // ---- edits
 
@@ -108,26 +109,26 @@ pub(crate) fn add_attr(
     name: Name,
     path: &Path,
     operation: &Element,
-    tree: Element,
-) -> Result<Element, ReadError<OperationError>>
-    requires place_exists { IsSome (at path.now tree) }
-    requires height_bounded { height tree ≤ max_levels }
+    tree: &mut Element,
+) -> Result<(), ReadError<OperationError>>
+    requires place_exists { IsSome (at path.now tree.old) }
+    requires height_bounded { height tree.old ≤ max_levels }
     ensures as_specified { Answered
-        (IsGiven (attr_done here.now name path.now operation.now.content tree)) result }
+        (EditsAs (attr_done here.now name path.now operation.now.content tree.old) tree.new)
+        result }
 {
     let found = value_in(alloc, operation)?;
     let Some(value) = found else {
         return Err(ReadError::Fault(OperationError::WrongNodes));
     };
-    if has_attr_at(here, &name, path, &tree) {
+    if has_attr_at(here, &name, path, tree) {
         return Err(ReadError::Fault(OperationError::WrongNodes));
     }
-    if !attr_alike_at(here, &name, path, &tree) {
+    if !attr_alike_at(here, &name, path, tree) {
         return Err(ReadError::Fault(OperationError::Prefix));
     }
-    let mut tree = tree;
-    push_at(&mut tree, path, Attr { name, value })?;
-    Ok(tree)
+    push_at(tree, path, Attr { name, value })?;
+    Ok(())
 }
 
 /// Replaces the value of an attribute of the element at a path.
@@ -136,20 +137,19 @@ pub(crate) fn replace_attr(
     path: &Path,
     place: usize,
     operation: &Element,
-    tree: Element,
-) -> Result<Element, ReadError<OperationError>>
-    requires place_exists { IsSomeAnd (at path.now tree) (λ e. place < length e.attrs) }
-    requires height_bounded { height tree ≤ max_levels }
+    tree: &mut Element,
+) -> Result<(), ReadError<OperationError>>
+    requires place_exists { IsSomeAnd (at path.now tree.old) (λ e. place < length e.attrs) }
+    requires height_bounded { height tree.old ≤ max_levels }
     ensures as_specified { Answered
-        (IsGiven (value_done path.now place operation.now.content tree)) result }
+        (EditsAs (value_done path.now place operation.now.content tree.old) tree.new) result }
 {
     let found = value_in(alloc, operation)?;
     let Some(value) = found else {
         return Err(ReadError::Fault(OperationError::WrongNodes));
     };
-    let mut tree = tree;
-    write_at(&mut tree, path, place, value);
-    Ok(tree)
+    write_at(tree, path, place, value);
+    Ok(())
 }
 
 /// Removes an attribute of the element at a path.
@@ -157,19 +157,18 @@ pub(crate) fn remove_attr(
     path: &Path,
     place: usize,
     operation: &Element,
-    tree: Element,
-) -> Result<Element, ReadError<OperationError>>
-    requires place_exists { IsSomeAnd (at path.now tree) (λ e. place < length e.attrs) }
-    requires height_bounded { height tree ≤ max_levels }
+    tree: &mut Element,
+) -> Result<(), ReadError<OperationError>>
+    requires place_exists { IsSomeAnd (at path.now tree.old) (λ e. place < length e.attrs) }
+    requires height_bounded { height tree.old ≤ max_levels }
     ensures as_specified { Answered
-        (IsGiven (take_done path.now place operation.now.content tree)) result }
+        (EditsAs (take_done path.now place operation.now.content tree.old) tree.new) result }
 {
     if !is_bare(operation) {
         return Err(ReadError::Fault(OperationError::WrongNodes));
     }
-    let mut tree = tree;
-    take_at(&mut tree, path, place);
-    Ok(tree)
+    take_at(tree, path, place);
+    Ok(())
 }
 
 // A text as a node; none where it is empty.
@@ -189,23 +188,22 @@ pub(crate) fn replace_text(
     path: &Path,
     place: usize,
     operation: &Element,
-    tree: Element,
-) -> Result<Element, ReadError<OperationError>>
-    requires place_exists { IsSomeAnd (at path.now tree)
+    tree: &mut Element,
+) -> Result<(), ReadError<OperationError>>
+    requires place_exists { IsSomeAnd (at path.now tree.old)
         (λ e. place < length (nodes_of e.content)) }
-    requires height_bounded { height tree ≤ max_levels }
+    requires height_bounded { height tree.old ≤ max_levels }
     ensures as_specified { (c : List (List Decl))
-        → Answered (IsGiven (replace_done c
-        (spots.AtText path.now place) operation.now.content tree)) result }
+        → Answered (EditsAs (replace_done c
+        (spots.AtText path.now place) operation.now.content tree.old) tree.new) result }
 {
     let found = value_in(alloc, operation)?;
     let Some(value) = found else {
         return Err(ReadError::Fault(OperationError::WrongNodes));
     };
     let nodes = text_nodes(alloc, value)?;
-    let mut tree = tree;
-    exchange_one(&mut tree, path, place, nodes)?;
-    Ok(tree)
+    exchange_one(tree, path, place, nodes)?;
+    Ok(())
 }
 
 /// Removes a text of the element at a path.
@@ -214,19 +212,18 @@ pub(crate) fn remove_text(
     path: &Path,
     place: usize,
     operation: &Element,
-    tree: Element,
-) -> Result<Element, ReadError<OperationError>>
-    requires place_exists { IsSomeAnd (at path.now tree)
+    tree: &mut Element,
+) -> Result<(), ReadError<OperationError>>
+    requires place_exists { IsSomeAnd (at path.now tree.old)
         (λ e. place < length (nodes_of e.content)) }
-    requires height_bounded { height tree ≤ max_levels }
+    requires height_bounded { height tree.old ≤ max_levels }
     ensures as_specified { (before after : Bool)
-        → Answered (IsGiven (remove_done before after
-        (spots.AtText path.now place) operation.now.content tree)) result }
+        → Answered (EditsAs (remove_done before after
+        (spots.AtText path.now place) operation.now.content tree.old) tree.new) result }
 {
     if !is_bare(operation) {
         return Err(ReadError::Fault(OperationError::WrongNodes));
     }
-    let mut tree = tree;
-    exchange_one(&mut tree, path, place, Vec::new(alloc))?;
-    Ok(tree)
+    exchange_one(tree, path, place, Vec::new(alloc))?;
+    Ok(())
 }

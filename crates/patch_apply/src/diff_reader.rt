@@ -1,15 +1,16 @@
 //! Reading diff documents.
 ghost use Rattle.std.specs.Prelude.{◌≡◌, []};
 ghost use Rattle.xml_tree.specs.Proper.{ProperIn};
-ghost use Rattle.xml_tree.specs.Memory.{Answered};
+ghost use Rattle.xml_names.specs.Memory.{Answered};
 ghost use Rattle.patch_apply.specs.DiffTexts.{NoticeAnswer};
 
-use crate::documents::is_notice;
 use crate::fault::NoticeFault;
+use patch_parse::is_notice;
 use std::alloc::Global;
 use std::marker::Model;
 use tree_text::read_document;
-use xml_tree::{Element, MAX_LEVELS, ReadError};
+use xml_names::{MAX_LEVELS, ReadError};
+use xml_tree::Element;
 
 // The greatest depth of a diff document: the levels of a document, and the root, its `document`
 // and an operation around them.

@@ -6,7 +6,7 @@ use doc_names::{DocId, Home};
 use percent_encoding::percent_decode;
 use std::alloc::{AllocError, Global};
 use xcap_uri::{cut, has_whole_escapes};
-use xml_tree::Text;
+use xml_names::Text;
 
 // ---- one part
 

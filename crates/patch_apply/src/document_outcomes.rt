@@ -1,29 +1,32 @@
 //! The outcome of one `document` of a diff document.
-ghost use Rattle.std.specs.Prelude.{◌≡◌, ◌≤◌, ◌<◌, ℕ, suc, min, map, length, Some, Result, Err, IfOk, false, bytes_eq};
+ghost use Rattle.std.specs.Prelude.{◌≡◌, ◌≤◌, ◌<◌, ℕ, suc, min, map, length, Some, Result, Err};
+ghost use Rattle.std.specs.Prelude.{OnOk, false, bytes_eq};
 ghost use Rattle.std.specs.Option.{option_copied, option_map_or};
-ghost use Rattle.xml_tree.specs.Memory.{Answered};
+ghost use Rattle.xml_names.specs.Memory.{Answered};
 ghost use Rattle.xml_tree.specs.declared.scope.TheConstants.{SCOPE_LIMIT};
-ghost use Rattle.xml_tree.specs.Limits.{u64_max, max_levels};
+ghost use Rattle.xml_names.specs.Limits.{u64_max, max_levels};
 ghost use Rattle.xml_tree.specs.Tree.{Tree, height};
 ghost use Rattle.patch_rules.specs.PatchOperations as words;
 ghost use Rattle.patch_rules.specs.Replay.{WrongTag, held_tag, numbered};
-ghost use Rattle.patch_rules.specs.readers.Replay.{all_applied, by_tags, change_outcome, renewed_copy};
-ghost use Rattle.patch_apply.specs.inner.Results.{AreGiven, IsGiven};
+ghost use Rattle.patch_rules.specs.readers.Replay.{all_applied, by_tags, change_outcome};
+ghost use Rattle.patch_rules.specs.readers.Replay.{renewed_copy};
+ghost use Rattle.patch_apply.specs.inner.Results.{AreGiven, EditsAs};
 ghost use Rattle.patch_apply.specs.Views.{IsWithinLevels, stored_in, version_in};
-ghost use Rattle.patch_apply.specs.inner.PrivateTypes.{IsLowTurn, counted_in, turn_in};
+ghost use Rattle.patch_apply.specs.inner.PrivateTypes.{counted_in, turn_in};
 
-use crate::documents::is_body_unchanged;
-use crate::fault::{ApplyFault, OperationError};
+use crate::fault::{ApplyFault, fault_at};
 use crate::operations::apply_operation;
 use crate::replica::ReplicaVersion;
+use patch_parse::{OperationError, is_body_unchanged};
 use std::alloc::Global;
-use xml_tree::{Element, ReadError, Scope, Text};
+use xml_names::{ReadError, Text};
+use xml_tree::{Element, Scope};
 
 /// What a `document` makes of a replica.
 #[derive(Drop)]
 pub enum DocumentOutcome {
-    /// The contents of the replica afterwards.
-    Now(Option<ReplicaVersion>),
+    /// The replica is updated, and empty where the document is gone.
+    Updated,
     /// The document changed, and the operations aren't there.
     Missing,
 }
@@ -40,12 +43,12 @@ pub struct DocumentDiff<'a> {
 
 // The fault of the operation of a number.
 fn error_at(error: ReadError<OperationError>, number: usize) -> ReadError<ApplyFault>
-    ensures numbered_fault { (n : ℕ) (stated : Result Tree words.OperationError)
-        → number ≡ min (suc n) u64_max → Answered (IsGiven {X = Tree} stated) (Err error)
+    ensures numbered_fault { (n : ℕ) (stated : Result Tree words.OperationError) (new : Tree)
+        → number ≡ min (suc n) u64_max → Answered (EditsAs stated new) (Err error)
         → Answered (AreGiven {X = Tree} (λ t. t) (numbered n stated)) (Err result) }
 {
     match error {
-        ReadError::Fault(wrong) => ReadError::Fault(wrong.at(number)),
+        ReadError::Fault(wrong) => ReadError::Fault(fault_at(wrong, number)),
         ReadError::NoMemory => ReadError::NoMemory,
     }
 }
@@ -57,25 +60,24 @@ fn all_applied(
     before: usize,
     scope: &Scope<'_>,
     operations: &[&Element],
-    tree: Element,
-) -> Result<Element, ReadError<ApplyFault>>
+    tree: &mut Element,
+) -> Result<(), ReadError<ApplyFault>>
     requires room_left { length scope.now < SCOPE_LIMIT }
-    requires height_bounded { height tree ≤ max_levels }
+    requires height_bounded { height tree.old ≤ max_levels }
     ensures as_specified { (n : ℕ) → before ≡ min n u64_max
-        → Answered (AreGiven (λ t. t)
-        (all_applied n scope.now (map (λ x. x.now) operations.now) tree)) result }
-    ensures within_levels { IfOk result (λ made. height made ≤ max_levels) }
+        → Answered (AreGiven (λ _. tree.new)
+        (all_applied n scope.now (map (λ x. x.now) operations.now) tree.old)) result }
+    ensures within_levels { OnOk result (height tree.new ≤ max_levels) }
 {
-    let mut tree = tree;
     let mut number = before;
     for operation in operations {
         number = number.saturating_add(1);
         match apply_operation(alloc, scope, operation, tree) {
-            Ok(made) => tree = made,
+            Ok(()) => {}
             Err(error) => return Err(error_at(error, number)),
         }
     }
-    Ok(tree)
+    Ok(())
 }
 
 // ---- tags
@@ -122,26 +124,25 @@ fn change_outcome(
     scope: &Scope<'_>,
     operations: &[&Element],
     tag: &Text,
-    held: ReplicaVersion,
+    held: &mut ReplicaVersion,
 ) -> Result<DocumentOutcome, ReadError<ApplyFault>>
     requires room_left { length scope.now < SCOPE_LIMIT }
-    requires height_bounded { height held.root ≤ max_levels }
+    requires height_bounded { height held.old.root ≤ max_levels }
     ensures as_specified { (n : ℕ) → before ≡ min n u64_max
-        → Answered (AreGiven turn_in
-        (change_outcome n scope.now (map (λ x. x.now) operations.now) tag.now (Some (version_in held))))
-        result }
-    ensures within_levels { IfOk result IsLowTurn }
+        → Answered (AreGiven (λ outcome. turn_in outcome (Some (version_in held.new)))
+        (change_outcome n scope.now (map (λ x. x.now) operations.now) tag.now
+        (Some (version_in held.old)))) result }
+    ensures within_levels { OnOk result (height held.new.root ≤ max_levels) }
 {
     if operations.is_empty() {
         return Ok(DocumentOutcome::Missing);
     }
-    let ReplicaVersion { tag: _, root } = held;
-    let tag = tag.copy(alloc)?;
+    held.tag = tag.copy(alloc)?;
     if is_body_unchanged(scope, operations) {
-        return Ok(DocumentOutcome::Now(Some(ReplicaVersion { tag, root })));
+        return Ok(DocumentOutcome::Updated);
     }
-    let root = all_applied(alloc, before, scope, operations, root)?;
-    Ok(DocumentOutcome::Now(Some(ReplicaVersion { tag, root })))
+    all_applied(alloc, before, scope, operations, &mut held.root)?;
+    Ok(DocumentOutcome::Updated)
 }
 
 // The outcome of a `document` whose previous tag is the replica's.
@@ -151,18 +152,19 @@ fn update_outcome(
     scope: &Scope<'_>,
     operations: &[&Element],
     tag: Option<&Text>,
-    held: Option<ReplicaVersion>,
+    held: &mut Option<ReplicaVersion>,
 ) -> Result<DocumentOutcome, ReadError<ApplyFault>>
     requires room_left { length scope.now < SCOPE_LIMIT }
-    requires height_bounded { IsWithinLevels (stored_in held) }
+    requires height_bounded { IsWithinLevels (stored_in held.old) }
     ensures as_specified { (n : ℕ) → before ≡ min n u64_max
-        → Answered (AreGiven turn_in
+        → Answered (AreGiven (λ outcome. turn_in outcome (stored_in held.new))
         (renewed_copy n scope.now (map (λ x. x.now) operations.now) (option_copied tag.entry)
-        (stored_in held))) result }
-    ensures within_levels { IfOk result IsLowTurn }
+        (stored_in held.old))) result }
+    ensures within_levels { OnOk result (IsWithinLevels (stored_in held.new)) }
 {
     let Some(tag) = tag else {
-        return Ok(DocumentOutcome::Now(None));
+        *held = None;
+        return Ok(DocumentOutcome::Updated);
     };
     match held {
         None => Ok(DocumentOutcome::Missing),
@@ -177,21 +179,22 @@ pub(crate) fn document_outcome(
     before: usize,
     scope: &Scope<'_>,
     told: &DocumentDiff<'_>,
-    held: Option<ReplicaVersion>,
+    held: &mut Option<ReplicaVersion>,
 ) -> Result<DocumentOutcome, ReadError<ApplyFault>>
     requires room_left { length scope.now < SCOPE_LIMIT }
-    requires height_bounded { IsWithinLevels (stored_in held) }
+    requires height_bounded { IsWithinLevels (stored_in held.old) }
     ensures as_specified { (n : ℕ) → before ≡ min n u64_max
-        → Answered (AreGiven turn_in
+        → Answered (AreGiven (λ outcome. turn_in outcome (stored_in held.new))
         (by_tags n scope.now (map (λ x. x.now) told.now.operations.items)
-        (option_copied told.now.previous) (option_copied told.now.new) (stored_in held))) result }
-    ensures within_levels { IfOk result IsLowTurn }
+        (option_copied told.now.previous) (option_copied told.now.new) (stored_in held.old)))
+        result }
+    ensures within_levels { OnOk result (IsWithinLevels (stored_in held.new)) }
 {
     let Some(previous) = told.previous else {
         return Ok(DocumentOutcome::Missing);
     };
-    if !is_tag(previous, &held) {
-        return Err(wrong_tag(alloc, &held, previous));
+    if !is_tag(previous, held) {
+        return Err(wrong_tag(alloc, held, previous));
     }
     update_outcome(alloc, before, scope, &told.operations, told.new, held)
 }

@@ -1,20 +1,22 @@
 //! Places among the nodes of a tree, and edits there, in place.
-ghost use Rattle.std.specs.Prelude.{◌≡◌, ◌≤◌, ◌<◌, ◌+◌, suc, length, nat_le, true, IsSome, IsSomeAnd, OnOk};
-ghost use Rattle.xml_tree.specs.Limits.{max_levels};
+ghost use Rattle.std.specs.Prelude.{◌≡◌, ◌≤◌, ◌<◌, ◌+◌, suc, length, nat_le, true, IsSome};
+ghost use Rattle.std.specs.Prelude.{IsSomeAnd, OnOk};
+ghost use Rattle.xml_names.specs.Limits.{max_levels};
 ghost use Rattle.xml_tree.specs.Edits.{change_at, parent_path};
 ghost use Rattle.xml_tree.specs.Nodes.{exchange_nodes, nodes_of};
 ghost use Rattle.xml_tree.specs.Tree.{at, height};
-ghost use Rattle.patch_rules.specs.PatchOperations.{is_below, means_alike, nodes_at, is_off_root, own_place};
-ghost use Rattle.xml_tree.specs.Scopes.{scope_around, scope_at};
+ghost use Rattle.patch_rules.specs.PatchOperations.{is_below, means_alike, nodes_at, is_off_root};
+ghost use Rattle.patch_rules.specs.PatchOperations.{own_place};
+ghost use Rattle.xml_tree.specs.TreeScopes.{scope_around, scope_at};
 ghost use Rattle.patch_apply.specs.inner.ByNodes.{nodes_height};
 ghost use Rattle.patch_apply.specs.inner.Stages.{gap_of, site_of};
-ghost use Rattle.patch_apply.specs.inner.PrivateTypes.{position_in};
+ghost use Rattle.patch_parse.specs.Views.{position_in};
 
-use crate::name_meanings::means_alike;
 use crate::nodes::{next_number, nodes_depth};
-use crate::patch_actions::Position;
+use patch_parse::{Position, means_alike};
 use std::alloc::{AllocError, Global};
-use xml_tree::{Element, MAX_LEVELS, Node, Path, Scope, depth, element_at, place_of};
+use xml_names::MAX_LEVELS;
+use xml_tree::{Element, Node, Path, Scope, depth, element_at, place_of};
 
 // ---- places
 

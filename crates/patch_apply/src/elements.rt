@@ -1,25 +1,26 @@
 //! Edits of elements by operations, in place.
-ghost use Rattle.std.specs.Prelude.{◌≡◌, ◌≤◌, ◌<◌, ◌+◌, ◌-◌, suc, true, not, ◌||◌, length, slice_get, is_some, IsSome, IsSomeAnd, OnOk, if◌then◌else◌};
-ghost use Rattle.xml_tree.specs.Memory.{Answered};
-ghost use Rattle.xml_tree.specs.Limits.{max_levels};
+ghost use Rattle.std.specs.Prelude.{◌≡◌, ◌≤◌, ◌<◌, ◌+◌, ◌-◌, suc, true, not, ◌||◌, length};
+ghost use Rattle.std.specs.Prelude.{slice_get, is_some, IsSome, IsSomeAnd, OnOk, if◌then◌else◌};
+ghost use Rattle.xml_names.specs.Memory.{Answered};
+ghost use Rattle.xml_names.specs.Limits.{max_levels};
 ghost use Rattle.xml_tree.specs.Nodes.{nodes_of};
 ghost use Rattle.xml_tree.specs.Tree.{at, height};
-ghost use Rattle.patch_rules.specs.PatchOperations.{cut_nodes, is_space_at, nodes_at, put_done, remove_done, replace_done, space_before};
+ghost use Rattle.patch_rules.specs.PatchOperations.{cut_nodes, is_space_at, nodes_at, put_done};
+ghost use Rattle.patch_rules.specs.PatchOperations.{remove_done, replace_done, space_before};
 ghost use Rattle.patch_rules.specs.PatchOperations as spots;
-ghost use Rattle.patch_apply.specs.inner.Results.{IsGiven};
+ghost use Rattle.patch_apply.specs.inner.Results.{EditsAs};
 ghost use Rattle.patch_apply.specs.inner.Stages.{gap_done, has_space_beside};
-ghost use Rattle.patch_apply.specs.inner.PrivateTypes.{position_in};
+ghost use Rattle.patch_parse.specs.Views.{position_in};
 
 use crate::edits::{
     InsertPosition, alike_around, exchange_at, gap_of, is_below, is_off_root, may_hold, may_stand,
     means_alike_at, number_behind, place_in_parent,
 };
-use crate::fault::OperationError;
-use crate::node_contents::{is_bare, sole_element};
 use crate::nodes::{is_space_at, is_space_before};
-use crate::patch_actions::Position;
+use patch_parse::{OperationError, Position, is_bare, sole_element};
 use std::alloc::{AllocError, Global};
-use xml_tree::{Element, Node, Path, ReadError, Scope, copy_nodes, copy_tree, element_at};
+use xml_names::ReadError;
+use xml_tree::{Element, Node, Path, Scope, copy_nodes, copy_tree, element_at};
 
 // Whether an element has nodes.
 fn has_nodes(element: &Element) -> bool
@@ -38,13 +39,13 @@ pub(crate) fn put_content(
     position: Position,
     path: Path,
     operation: &Element,
-    tree: Element,
-) -> Result<Element, ReadError<OperationError>>
-    requires place_exists { IsSome (at path tree) }
-    requires height_bounded { height tree ≤ max_levels }
+    tree: &mut Element,
+) -> Result<(), ReadError<OperationError>>
+    requires place_exists { IsSome (at path tree.old) }
+    requires height_bounded { height tree.old ≤ max_levels }
     ensures as_specified { Answered
-        (IsGiven (put_done here.now (position_in position) path operation.now.content tree))
-        result }
+        (EditsAs (put_done here.now (position_in position) path operation.now.content tree.old)
+        tree.new) result }
 {
     if !is_off_root(position, &path) {
         return Err(ReadError::Fault(OperationError::RootTouched));
@@ -52,8 +53,8 @@ pub(crate) fn put_content(
     if !has_nodes(operation) {
         return Err(ReadError::Fault(OperationError::WrongNodes));
     }
-    let gap = gap_of(position, &tree, path);
-    put_in_gap(alloc, here, gap, operation, tree)
+    let gap = gap_of(position, tree, path);
+    put_in_gap(alloc, here, &gap, operation, tree)
 }
 
 // Puts the content of an operation at a place, where it isn't too deep and its names mean the same
@@ -61,26 +62,27 @@ pub(crate) fn put_content(
 fn put_in_gap(
     alloc: Global,
     here: &Scope<'_>,
-    gap: InsertPosition,
+    gap: &InsertPosition,
     operation: &Element,
-    tree: Element,
-) -> Result<Element, ReadError<OperationError>>
-    requires within { IsSomeAnd (at gap.path tree) (λ e. gap.place ≤ length (nodes_of e.content)) }
-    requires height_bounded { height tree ≤ max_levels }
+    tree: &mut Element,
+) -> Result<(), ReadError<OperationError>>
+    requires within { IsSomeAnd (at gap.now.path tree.old)
+        (λ e. gap.now.place ≤ length (nodes_of e.content)) }
+    requires height_bounded { height tree.old ≤ max_levels }
     ensures as_specified { Answered
-        (IsGiven (gap_done here.now gap.path gap.place operation.now.content tree)) result }
+        (EditsAs (gap_done here.now gap.now.path gap.now.place operation.now.content tree.old)
+        tree.new) result }
 {
     let nodes = operation.nodes();
     if !may_hold(&gap.path, nodes) {
         return Err(ReadError::Fault(OperationError::WrongNodes));
     }
-    if !means_alike_at(alloc, here, &tree, &gap.path, operation) {
+    if !means_alike_at(alloc, here, tree, &gap.path, operation) {
         return Err(ReadError::Fault(OperationError::Prefix));
     }
     let copies = copy_nodes(alloc, nodes)?;
-    let mut tree = tree;
-    exchange_at(&mut tree, &gap.path, gap.place, gap.place, copies)?;
-    Ok(tree)
+    exchange_at(tree, &gap.path, gap.place, gap.place, copies)?;
+    Ok(())
 }
 
 /// Replaces the element at a path.
@@ -89,13 +91,13 @@ pub(crate) fn replace_element(
     here: &Scope<'_>,
     path: &Path,
     operation: &Element,
-    tree: Element,
-) -> Result<Element, ReadError<OperationError>>
-    requires place_exists { IsSome (at path.now tree) }
-    requires height_bounded { height tree ≤ max_levels }
+    tree: &mut Element,
+) -> Result<(), ReadError<OperationError>>
+    requires place_exists { IsSome (at path.now tree.old) }
+    requires height_bounded { height tree.old ≤ max_levels }
     ensures as_specified { Answered
-        (IsGiven (replace_done here.now (spots.AtElement path.now) operation.now.content tree))
-        result }
+        (EditsAs (replace_done here.now (spots.AtElement path.now) operation.now.content tree.old)
+        tree.new) result }
 {
     let Some(new) = sole_element(operation) else {
         return Err(ReadError::Fault(OperationError::WrongNodes));
@@ -103,13 +105,13 @@ pub(crate) fn replace_element(
     if !may_stand(path, new) {
         return Err(ReadError::Fault(OperationError::WrongNodes));
     }
-    if !alike_around(alloc, here, &tree, path, operation) {
+    if !alike_around(alloc, here, tree, path, operation) {
         return Err(ReadError::Fault(OperationError::Prefix));
     }
     let copy = copy_tree(alloc, new)?;
-    let mut tree = tree;
-    let _old = tree.put_over(path, copy);
-    Ok(tree)
+    let old = tree.put_over(path, copy);
+    drop(old);
+    Ok(())
 }
 
 // Whether white space comes before the node of a number, if it is asked for.
@@ -184,13 +186,13 @@ pub(crate) fn remove_element(
     after: bool,
     path: &Path,
     operation: &Element,
-    tree: Element,
-) -> Result<Element, ReadError<OperationError>>
-    requires place_exists { IsSome (at path.now tree) }
-    requires height_bounded { height tree ≤ max_levels }
+    tree: &mut Element,
+) -> Result<(), ReadError<OperationError>>
+    requires place_exists { IsSome (at path.now tree.old) }
+    requires height_bounded { height tree.old ≤ max_levels }
     ensures as_specified { Answered
-        (IsGiven (remove_done before after (spots.AtElement path.now) operation.now.content tree))
-        result }
+        (EditsAs (remove_done before after (spots.AtElement path.now) operation.now.content
+        tree.old) tree.new) result }
 {
     if !is_below(path) {
         return Err(ReadError::Fault(OperationError::RootTouched));
@@ -198,11 +200,10 @@ pub(crate) fn remove_element(
     if !is_bare(operation) {
         return Err(ReadError::Fault(OperationError::WrongNodes));
     }
-    let gap = place_in_parent(&tree, path);
-    if !space_fits(&tree, &gap, before, after) {
+    let gap = place_in_parent(tree, path);
+    if !space_fits(tree, &gap, before, after) {
         return Err(ReadError::Fault(OperationError::NoSpace));
     }
-    let mut tree = tree;
-    cut_with_space(alloc, &gap, before, after, &mut tree)?;
-    Ok(tree)
+    cut_with_space(alloc, &gap, before, after, tree)?;
+    Ok(())
 }

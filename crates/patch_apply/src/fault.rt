@@ -2,8 +2,9 @@
 ghost use Rattle.std.specs.Prelude.{◌≡◌};
 ghost use Rattle.patch_apply.specs.inner.PrivateTypes.{fault_at};
 
+use patch_parse::OperationError;
 use thiserror::Error;
-use xml_tree::Text;
+use xml_names::Text;
 
 /// Why bytes are no diff document.
 #[derive(Clone, Copy, Debug, Drop, PartialEq, Eq, Error)]
@@ -45,35 +46,16 @@ pub enum ApplyFault {
     Whitespace(usize),
 }
 
-/// What is wrong with an operation (RFC 5261, section 5.1).
-#[derive(Clone, Copy, Debug, Drop, PartialEq, Eq, Error)]
-pub enum OperationError {
-    #[error("directive")]
-    Directive,
-    #[error("prefix")]
-    Prefix,
-    #[error("nothing selected")]
-    Unlocated,
-    #[error("root")]
-    RootTouched,
-    #[error("kinds of nodes")]
-    WrongNodes,
-    #[error("white space")]
-    NoSpace,
-}
-
-impl OperationError {
-    /// The fault with the number of the operation.
-    pub(crate) fn at(self, number: usize) -> ApplyFault
-        ensures exact { result ≡ fault_at number self }
-    {
-        match self {
-            OperationError::Directive => ApplyFault::Directive(number),
-            OperationError::Prefix => ApplyFault::NamespacePrefix(number),
-            OperationError::Unlocated => ApplyFault::Unlocated(number),
-            OperationError::RootTouched => ApplyFault::RootOperation(number),
-            OperationError::WrongNodes => ApplyFault::NodeTypes(number),
-            OperationError::NoSpace => ApplyFault::Whitespace(number),
-        }
+/// The fault of the operation of a number.
+pub(crate) fn fault_at(error: OperationError, number: usize) -> ApplyFault
+    ensures exact { result ≡ fault_at number error }
+{
+    match error {
+        OperationError::Directive => ApplyFault::Directive(number),
+        OperationError::Prefix => ApplyFault::NamespacePrefix(number),
+        OperationError::Unlocated => ApplyFault::Unlocated(number),
+        OperationError::RootTouched => ApplyFault::RootOperation(number),
+        OperationError::WrongNodes => ApplyFault::NodeTypes(number),
+        OperationError::NoSpace => ApplyFault::Whitespace(number),
     }
 }

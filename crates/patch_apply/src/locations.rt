@@ -1,7 +1,7 @@
 //! What the selector of an operation selects (RFC 5261, section 4.1).
 ghost use Rattle.std.specs.Prelude.{◌≡◌, ◌≤◌, Some};
-ghost use Rattle.xml_tree.specs.Limits.{max_levels};
-ghost use Rattle.xml_tree.specs.Scopes.{scope_at};
+ghost use Rattle.xml_names.specs.Limits.{max_levels};
+ghost use Rattle.xml_tree.specs.TreeScopes.{scope_at};
 ghost use Rattle.xml_tree.specs.Tree.{at, height};
 ghost use Rattle.node_select.specs.declared.selector.PatchEnd.TheVariants as ends;
 ghost use Rattle.patch_rules.specs.PatchOperations.{locate_end, locate};
@@ -10,7 +10,8 @@ ghost use Rattle.patch_apply.specs.inner.Locating.{Spots, path_in};
 use crate::nodes::selected_text;
 use node_select::{PatchEnd, PatchSelector, find_attr, select_steps};
 use std::alloc::Global;
-use xml_tree::{Element, Path, Scope, Text, element_at};
+use xml_names::Text;
+use xml_tree::{Element, Path, Scope, element_at};
 
 /// What is selected: an element, one of its attributes by its number, or one of its nodes, a text,
 /// by its number.

@@ -1,9 +1,10 @@
 //! Nodes of an element: texts by number, and the depth of nodes.
 ghost use Rattle.std.specs.Prelude.{◌≡◌, ◌<◌, min, suc, length, IfSome};
-ghost use Rattle.patch_rules.specs.PatchOperations.{is_space_at, selected_text, space_before, text_number, texts_in};
+ghost use Rattle.patch_rules.specs.PatchOperations.{is_space_at, selected_text, space_before};
+ghost use Rattle.patch_rules.specs.PatchOperations.{text_number, texts_in};
 ghost use Rattle.patch_apply.specs.inner.ByNodes.{is_blank_node, nodes_height};
 
-use crate::node_contents::is_blank;
+use patch_parse::is_blank;
 use xml_tree::{Node, depth};
 
 // ---- texts

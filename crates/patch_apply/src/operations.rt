@@ -1,27 +1,27 @@
 //! Patch operations, one at a time (RFC 5261, section 4).
 ghost use Rattle.std.specs.Prelude.{◌≤◌, ◌<◌, length};
-ghost use Rattle.xml_tree.specs.Memory.{Answered};
+ghost use Rattle.xml_names.specs.Memory.{Answered};
 ghost use Rattle.xml_tree.specs.declared.scope.TheConstants.{SCOPE_LIMIT};
-ghost use Rattle.xml_tree.specs.Limits.{max_levels};
+ghost use Rattle.xml_names.specs.Limits.{max_levels};
 ghost use Rattle.xml_tree.specs.Tree.{height};
 ghost use Rattle.patch_rules.specs.PatchOperations.{remove_done, replace_done};
 ghost use Rattle.patch_rules.specs.readers.Applied.{apply_operation};
 ghost use Rattle.patch_rules.specs.PatchOperations as words;
-ghost use Rattle.patch_apply.specs.inner.Results.{IsGiven};
+ghost use Rattle.patch_apply.specs.inner.Results.{EditsAs};
 ghost use Rattle.patch_apply.specs.inner.Locating.{IsSpot, IsThere};
 ghost use Rattle.patch_apply.specs.inner.Stages.{done_where, said_done};
-ghost use Rattle.patch_apply.specs.inner.PrivateTypes.{task_in};
+ghost use Rattle.patch_parse.specs.Views.{task_in};
 
 use crate::attributes::{add_attr, remove_attr, remove_text, replace_attr, replace_text};
 use crate::elements::{put_content, remove_element, replace_element};
-use crate::fault::OperationError;
 use crate::locations::{Location, locate};
-use crate::names::{are_known_attributes, plain_value};
-use crate::patch_actions::{PatchAction, task_of_operation};
-use crate::selectors::selector_for;
 use node_select::PatchSelector;
+use patch_parse::{
+    OperationError, PatchAction, are_known_attributes, plain_value, selector_for, task_of_operation,
+};
 use std::alloc::Global;
-use xml_tree::{Element, ReadError, Scope, Text};
+use xml_names::{ReadError, Text};
+use xml_tree::{Element, Scope};
 
 // Replaces the element, attribute or text at a location.
 fn replace(
@@ -29,12 +29,13 @@ fn replace(
     here: &Scope<'_>,
     location: Location,
     operation: &Element,
-    tree: Element,
-) -> Result<Element, ReadError<OperationError>>
-    requires place_exists { IsThere tree location }
-    requires height_bounded { height tree ≤ max_levels }
-    ensures as_specified { (w : words.Location) → IsSpot tree location w
-        → Answered (IsGiven (replace_done here.now w operation.now.content tree)) result }
+    tree: &mut Element,
+) -> Result<(), ReadError<OperationError>>
+    requires place_exists { IsThere tree.old location }
+    requires height_bounded { height tree.old ≤ max_levels }
+    ensures as_specified { (w : words.Location) → IsSpot tree.old location w
+        → Answered (EditsAs (replace_done here.now w operation.now.content tree.old) tree.new)
+        result }
 {
     match location {
         Location::AtElement(path) => replace_element(alloc, here, &path, operation, tree),
@@ -50,12 +51,13 @@ fn remove(
     after: bool,
     location: Location,
     operation: &Element,
-    tree: Element,
-) -> Result<Element, ReadError<OperationError>>
-    requires place_exists { IsThere tree location }
-    requires height_bounded { height tree ≤ max_levels }
-    ensures as_specified { (w : words.Location) → IsSpot tree location w
-        → Answered (IsGiven (remove_done before after w operation.now.content tree)) result }
+    tree: &mut Element,
+) -> Result<(), ReadError<OperationError>>
+    requires place_exists { IsThere tree.old location }
+    requires height_bounded { height tree.old ≤ max_levels }
+    ensures as_specified { (w : words.Location) → IsSpot tree.old location w
+        → Answered (EditsAs (remove_done before after w operation.now.content tree.old) tree.new)
+        result }
 {
     match location {
         Location::AtElement(path) => remove_element(alloc, before, after, &path, operation, tree),
@@ -71,13 +73,13 @@ fn done(
     task: PatchAction,
     location: Location,
     operation: &Element,
-    tree: Element,
-) -> Result<Element, ReadError<OperationError>>
-    requires place_exists { IsThere tree location }
-    requires height_bounded { height tree ≤ max_levels }
-    ensures as_specified { (w : words.Location) → IsSpot tree location w
-        → Answered (IsGiven (words.done here.now (task_in task) w operation.now.content tree))
-        result }
+    tree: &mut Element,
+) -> Result<(), ReadError<OperationError>>
+    requires place_exists { IsThere tree.old location }
+    requires height_bounded { height tree.old ≤ max_levels }
+    ensures as_specified { (w : words.Location) → IsSpot tree.old location w
+        → Answered (EditsAs (words.done here.now (task_in task) w operation.now.content tree.old)
+        tree.new) result }
 {
     match task {
         PatchAction::Put(position) => {
@@ -105,14 +107,14 @@ fn done_where(
     task: PatchAction,
     selector: &PatchSelector,
     operation: &Element,
-    tree: Element,
-) -> Result<Element, ReadError<OperationError>>
-    requires height_bounded { height tree ≤ max_levels }
+    tree: &mut Element,
+) -> Result<(), ReadError<OperationError>>
+    requires height_bounded { height tree.old ≤ max_levels }
     ensures as_specified { Answered
-        (IsGiven (done_where here.now (task_in task) selector.now operation.now.content tree))
-        result }
+        (EditsAs (done_where here.now (task_in task) selector.now operation.now.content tree.old)
+        tree.new) result }
 {
-    let Some(location) = locate(alloc, selector, &tree) else {
+    let Some(location) = locate(alloc, selector, tree) else {
         return Err(ReadError::Fault(OperationError::Unlocated));
     };
     done(alloc, here, task, location, operation, tree)
@@ -124,11 +126,11 @@ fn apply_selected(
     here: &Scope<'_>,
     sel: &Text,
     operation: &Element,
-    tree: Element,
-) -> Result<Element, ReadError<OperationError>>
-    requires height_bounded { height tree ≤ max_levels }
+    tree: &mut Element,
+) -> Result<(), ReadError<OperationError>>
+    requires height_bounded { height tree.old ≤ max_levels }
     ensures as_specified { Answered
-        (IsGiven (said_done here.now sel.now operation.now tree)) result }
+        (EditsAs (said_done here.now sel.now operation.now tree.old) tree.new) result }
 {
     let meant = task_of_operation(alloc, operation.name(), operation.attrs())?;
     let Some(task) = meant else {
@@ -141,17 +143,17 @@ fn apply_selected(
 }
 
 /// Applies an operation, in a scope, to a tree.
-#[tactic(auto, using(crate::proofs::Words::words))]
+#[tactic(auto, using(patch_parse::proofs::Words::words))]
 pub(crate) fn apply_operation(
     alloc: Global,
     scope: &Scope<'_>,
     operation: &Element,
-    tree: Element,
-) -> Result<Element, ReadError<OperationError>>
+    tree: &mut Element,
+) -> Result<(), ReadError<OperationError>>
     requires room_left { length scope.now < SCOPE_LIMIT }
-    requires height_bounded { height tree ≤ max_levels }
+    requires height_bounded { height tree.old ≤ max_levels }
     ensures as_specified { Answered
-        (IsGiven (apply_operation scope.now operation.now tree)) result }
+        (EditsAs (apply_operation scope.now operation.now tree.old) tree.new) result }
 {
     let attrs = operation.attrs();
     let Some(sel) = plain_value(attrs, "sel") else {

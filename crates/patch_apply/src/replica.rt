@@ -3,7 +3,8 @@ ghost use Rattle.std.specs.Prelude.{◌≡◌, IfOk};
 
 use doc_names::DocId;
 use std::alloc::{AllocError, Global};
-use xml_tree::{Element, Text, copy_tree};
+use xml_names::Text;
+use xml_tree::{Element, copy_tree};
 
 /// A version of a document: its tag, and its tree.
 #[derive(Drop)]

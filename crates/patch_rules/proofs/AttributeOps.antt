@@ -2,16 +2,17 @@
 use Rattle.std.proofs.Common.{◌≡◌, ◌≢◌, ℕ, ◌≤◌, Bool, true, false, List, [], ◌∷◌, ◌++◌, Option, Some, None, IsSome, is_some, option_map, Ok, refl, sym, ap, ◌∙◌}
 use Rattle.std.specs.Prelude.{unwrap_or}
 use Rattle.std.specs.List.{AllByRecursion, find, list_any}
-use Rattle.xml_tree.specs.Print.{print_name}
-use Rattle.xml_tree.specs.Attributes.{remove_first, is_written_so as is_named}
+use Rattle.xml_names.specs.Markup.{print_name}
+use Rattle.xml_names.specs.Attributes.{remove_first, is_written_so as is_named}
 use Rattle.xml_tree.specs.Edits.{drop_attr, write_attr}
-use Rattle.xml_tree.specs.Expanded.{attr_name, same_expanded}
+use Rattle.xml_names.specs.Expanded.{attr_name, same_expanded}
 use Rattle.xml_tree.specs.Proper.{IsNamed}
-use Rattle.xml_tree.specs.Scopes.{bindings_in, bound, scope_at, xmlns_prefix}
+use Rattle.xml_names.specs.Scopes.{bindings_in, bound, xmlns_prefix}
+use Rattle.xml_tree.specs.TreeScopes.{scope_at}
 use Rattle.xml_tree.specs.Tree.{Tree, at, height}
-use Rattle.xml_tree.specs.declared.names.Name.{Name}
-use Rattle.xml_tree.specs.declared.names.Decl.{Decl}
-use Rattle.xml_tree.specs.declared.names.Attr.{Attr}
+use Rattle.xml_names.specs.declared.names.Name.{Name}
+use Rattle.xml_names.specs.declared.names.Decl.{Decl}
+use Rattle.xml_names.specs.declared.names.Attr.{Attr}
 use Rattle.tree_text.proofs.PrintedNames.{IsWritten}
 use Rattle.edit_ops.specs.Changes.{edited}
 use Rattle.edit_ops.specs.declared.change.Change.TheVariants.{DropAttr, SetAttr}

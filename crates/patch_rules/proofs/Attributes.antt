@@ -4,16 +4,16 @@ use Rattle.std.proofs.Common.{◌≡◌, ◌≢◌, ℕ, Bool, true, false, cond
 use Rattle.std.specs.Prelude.{unwrap_or, ◌==◌, option_and_then}
 use Rattle.std.specs.List.{AllByRecursion, IsDistinct, find, list_all, list_any}
 use Rattle.std.proofs.lemmas.Slice.Eq.{bytes_eq-Decides}
-use Rattle.xml_tree.specs.Attributes.{change_first, remove_first, with_new_value, with_attr, is_written_so as is_named}
-use Rattle.xml_tree.specs.Characters.{is_name, is_name_start, is_name_char}
-use Rattle.xml_tree.specs.Expanded.{ExpandedName, attr_name, same_expanded, same_uri}
-use Rattle.xml_tree.specs.Print.{print_name}
+use Rattle.xml_names.specs.Attributes.{change_first, remove_first, with_new_value, with_attr, is_written_so as is_named}
+use Rattle.xml_names.specs.Characters.{is_name, is_name_start, is_name_char}
+use Rattle.xml_names.specs.Expanded.{ExpandedName, attr_name, same_expanded, same_uri}
+use Rattle.xml_names.specs.Markup.{print_name}
 use Rattle.xml_tree.specs.Proper.{IsAttribute, IsNamed, is_prefix}
-use Rattle.xml_tree.specs.Scopes.{bindings_in, bound, declared, joined, some_text, xml_prefix, xml_uri, xmlns_prefix}
-use Rattle.xml_tree.specs.declared.names.Name.{Name}
-use Rattle.xml_tree.specs.declared.names.Decl.{Decl}
-use Rattle.xml_tree.specs.declared.names.Attr.{Attr}
-use Rattle.xml_tree.proofs.BindingWords.{bound-bindings_in}
+use Rattle.xml_names.specs.Scopes.{bindings_in, bound, declared, joined, some_text, xml_prefix, xml_uri, xmlns_prefix}
+use Rattle.xml_names.specs.declared.names.Name.{Name}
+use Rattle.xml_names.specs.declared.names.Decl.{Decl}
+use Rattle.xml_names.specs.declared.names.Attr.{Attr}
+use Rattle.xml_names.proofs.BindingWords.{bound-bindings_in}
 use Rattle.tree_text.proofs.PrintedNames.{IsWritten}
 use Rattle.tree_text.proofs.PrintedValues.{both as parts}
 use Rattle.node_select.specs.Names.{attr_uri, is_unbound, prefix_uri, uri_of}

@@ -3,14 +3,15 @@
 use Rattle.std.proofs.Common.{◌≡◌, ◌≢◌, ℕ, zero, suc, ◌<◌, ◌≤◌, Bool, true, false, List, [], ◌∷◌, ◌++◌, length, Option, Some, None, IsSome, is_some, is_none, option_and_then, slice_get, bytes_eq, Ok, refl, sym, ap, ◌∙◌, subst, append-nil, arith}
 use Rattle.std.specs.List.{find}
 use Rattle.std.proofs.lemmas.Slice.Eq.{bytes_eq-Decides}
-use Rattle.xml_tree.specs.Attributes.{with_attr, is_written_so as is_named}
+use Rattle.xml_names.specs.Attributes.{with_attr, is_written_so as is_named}
 use Rattle.xml_tree.specs.Edits.{attr_at, set_at, write_attr}
 use Rattle.xml_tree.specs.Proper.{IsNamed, IsTag, IsProperPart, ProperIn}
-use Rattle.xml_tree.specs.Scopes.{bindings_in, bound, scope_at, xmlns_prefix}
+use Rattle.xml_names.specs.Scopes.{bindings_in, bound, xmlns_prefix}
+use Rattle.xml_tree.specs.TreeScopes.{scope_at}
 use Rattle.xml_tree.specs.Tree.{Tree, at, height, child_elements_of}
-use Rattle.xml_tree.specs.declared.names.Name.{Name}
-use Rattle.xml_tree.specs.declared.names.Decl.{Decl}
-use Rattle.xml_tree.specs.declared.names.Attr.{Attr}
+use Rattle.xml_names.specs.declared.names.Name.{Name}
+use Rattle.xml_names.specs.declared.names.Decl.{Decl}
+use Rattle.xml_names.specs.declared.names.Attr.{Attr}
 use Rattle.xml_tree.proofs.EverywhereLaws.{inside, scope_at-around}
 use Rattle.xml_tree.proofs.ProperEdits.{around-change_at, at-change_at, put-element, put-other}
 use Rattle.tree_text.proofs.UnboundScopes.{never_bound}

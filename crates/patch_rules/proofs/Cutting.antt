@@ -1,7 +1,7 @@
 -- A QName cut one character after another is the QName of its text.
 use Rattle.std.proofs.Common.{◌≡◌, ℕ, ◌==◌, Bool, true, false, not, cond, List, [], ◌∷◌, ◌++◌, sym, ap, ◌∙◌, append_assoc, append-nil}
 use Rattle.xml_grammar.specs.Reading.{front_of, after_front}
-use Rattle.tree_text.specs.Faults.{is_other}
+use Rattle.xml_tokens.specs.Tokens.{is_other}
 use Rattle.patch_rules.specs.PatchOperations.{name_cut, name_of_text, with_prefix}
 use Rattle.patch_rules.specs.inner.Cutting.{cut_onto}
 

@@ -2,14 +2,16 @@
 use Rattle.std.proofs.Common.{◌≡◌, ℕ, zero, suc, ◌+◌, ◌*◌, ◌<◌, ◌≤◌, ◌^◌, Ordering, Less, Equal, Greater, Bool, true, false, List, [], ◌∷◌, ◌++◌, length, filter, flat_map, length-append, Option, Some, None, option_map, slice_get, refl, ap, ◌∙◌, arith}
 use Rattle.std.specs.Prelude.{unwrap_or}
 use Rattle.xml_tree.specs.Edits.{parent_path, put, put_kid, put_over}
-use Rattle.xml_tree.specs.Print.{byte_len, closing, ending, is_empty, opening, print, print_content, print_decl}
-use Rattle.xml_tree.specs.inner.Gathering.{gathered, placed}
-use Rattle.xml_tree.specs.Scopes.{bindings_in, binds, joined, scope_around, scope_at}
+use Rattle.xml_names.specs.Markup.{byte_len, closing, opening, print_decl}
+use Rattle.xml_tree.specs.Print.{ending, is_empty, print, print_content}
+use Rattle.xml_names.specs.inner.Gathering.{gathered, placed}
+use Rattle.xml_names.specs.Scopes.{bindings_in, binds, joined}
+use Rattle.xml_tree.specs.TreeScopes.{scope_around, scope_at}
 use Rattle.xml_tree.specs.Tree.{Content, last, more, comment_node, Tree, tree_of, at, child_elements, child_elements_of}
-use Rattle.xml_tree.specs.declared.names.Decl.{Decl}
-use Rattle.xml_tree.proofs.BindingWords.{gathered_are}
-use Rattle.xml_tree.proofs.ByteOrder.{order}
-use Rattle.xml_tree.proofs.PrintLengths.{byte_len-append, byte_len-decl, byte_len-opening}
+use Rattle.xml_names.specs.declared.names.Decl.{Decl}
+use Rattle.xml_names.proofs.BindingWords.{gathered_are}
+use Rattle.xml_names.proofs.ByteOrder.{order}
+use Rattle.xml_names.proofs.PrintLengths.{byte_len-append, byte_len-decl, byte_len-opening}
 use Rattle.xml_tree.proofs.ProperEdits.{at-change_at}
 use Rattle.edit_ops.specs.Changes.{Fits, edited}
 use Rattle.edit_ops.specs.declared.change.Change.{Change}

@@ -5,8 +5,9 @@ use Rattle.edit_ops.specs.Operations.{change_operation as told}
 use Rattle.xml_tree.specs.Tree.{Tree, at, height, child_elements_of}
 use Rattle.xml_tree.specs.Edits.{parent_path}
 use Rattle.xml_tree.specs.Proper.{ProperIn}
-use Rattle.xml_tree.specs.Scopes.{bindings_in, bound, scope_around, scope_at}
-use Rattle.xml_tree.specs.declared.names.Decl.{Decl}
+use Rattle.xml_names.specs.Scopes.{bindings_in, bound}
+use Rattle.xml_tree.specs.TreeScopes.{scope_around, scope_at}
+use Rattle.xml_names.specs.declared.names.Decl.{Decl}
 use Rattle.xml_tree.proofs.PathLemmas.{at-snoc}
 use Rattle.edit_ops.specs.Changes.{Fits, edited}
 use Rattle.edit_ops.specs.declared.change.Change.TheVariants.{Insert, Replace, Remove}

@@ -1,7 +1,7 @@
 -- The prefix of a diff document is none that its operations declare.
 use Rattle.std.proofs.Common.{◌≡◌, ◌≢◌, ℕ, zero, suc, ◌+◌, ◌<◌, ◌≤◌, ◌^◌, Bool, true, false, ◌||◌, List, [], ◌∷◌, bytes_eq, refl, sym, ap, ◌∙◌, arith}
 use Rattle.std.specs.List.{AllByRecursion}
-use Rattle.xml_tree.specs.Scopes.{xml_prefix}
+use Rattle.xml_names.specs.Scopes.{xml_prefix}
 use Rattle.edit_ops.specs.Notes.{Note}
 use Rattle.edit_ops.specs.Operations.{operation}
 use Rattle.patch_rules.specs.Notices.{candidate, declarations, declares, first_free, is_declared_in, is_taken, operations, prefix_for}

@@ -1,8 +1,9 @@
 -- An element has fewer children than the print of a tree around it has bytes.
 use Rattle.std.proofs.Common.{◌≡◌, ℕ, zero, suc, ◌+◌, ◌≤◌, Bool, true, false, List, [], ◌∷◌, ◌++◌, length, Option, Some, None, option_and_then, slice_get, refl, ap, ◌∙◌, arith}
-use Rattle.xml_tree.specs.Print.{byte_len, closing, ending, is_empty, opening, print, print_content, print_text, print_comment}
+use Rattle.xml_names.specs.Markup.{byte_len, closing, opening, print_text, print_comment}
+use Rattle.xml_tree.specs.Print.{ending, is_empty, print, print_content}
 use Rattle.xml_tree.specs.Tree.{Content, last, more, comment_node, Tree, tree_of, at, child_elements, child_elements_of}
-use Rattle.xml_tree.proofs.PrintLengths.{byte_len-append, byte_len-opening}
+use Rattle.xml_names.proofs.PrintLengths.{byte_len-append, byte_len-opening}
 
 -- no element has more children than there are positions
 abbrev pub HasPositions : Tree → Type 0

@@ -8,6 +8,7 @@ pub mod Forms
 pub mod FreePrefix
 pub mod FreePrefixes
 pub mod Lengths
+pub mod Lists
 pub mod Numbers
 pub mod Onward
 pub mod OnwardNotices
@@ -23,3 +24,4 @@ pub mod ScopedNames
 pub mod SelectorAnswers
 pub mod Stated
 pub mod Wholes
+pub mod Words

@@ -2,7 +2,7 @@
 use Rattle.std.proofs.Common.{◌≡◌, ℕ, zero, suc, ◌<◌, ◌/◌, ◌%◌, Bool, true, false, cond, ◌==◌, List, [], ◌∷◌, decimal, refl, arith}
 use Rattle.std.proofs.lemmas.Bool.{agree_below, agree_below_at}
 use Rattle.std.specs.Fmt.{digit_glyph, digits, digits_onto}
-use Rattle.xml_tree.specs.Characters.{all_chars, is_char}
+use Rattle.xml_names.specs.Characters.{all_chars, is_char}
 use Rattle.patch_rules.proofs.Prefixes.{both}
 
 glyphs : agree_below (λ d. is_char (digit_glyph false d)) (λ d. true) 10 ≡ true

@@ -5,18 +5,19 @@ use Rattle.std.specs.Prelude.{unwrap_or, nat_le, ◌==◌}
 use Rattle.std.specs.List.{AllByRecursion, IsDistinct, list_all, list_any}
 use Rattle.std.proofs.lemmas.Bool.Decides.{nat_tests}
 use Rattle.std.proofs.lemmas.Slice.Eq.{bytes_eq-Decides}
-use Rattle.xml_tree.specs.Attributes.{remove_first}
-use Rattle.xml_tree.specs.Characters.{all_chars, is_char, is_name}
+use Rattle.xml_names.specs.Attributes.{remove_first}
+use Rattle.xml_names.specs.Characters.{all_chars, is_char, is_name}
 use Rattle.xml_tree.specs.Edits.{change_at, parent_path, put_over}
-use Rattle.xml_tree.specs.Expanded.{ExpandedName, attr_name, element_name, same_expanded}
+use Rattle.xml_names.specs.Expanded.{ExpandedName, attr_name, element_name, same_expanded}
 use Rattle.xml_tree.specs.Nodes.{exchange_nodes, nodes_of, text_node}
 use Rattle.xml_tree.specs.Proper.{IsAttribute, IsNamed, IsTag, Letters, OfNode, IsProperPart, ProperIn, is_prefix}
 use Rattle.xml_tree.specs.inner.Proper.{Proper}
-use Rattle.xml_tree.specs.Scopes.{bindings_in, bound, scope_around, scope_at, xmlns_prefix}
+use Rattle.xml_names.specs.Scopes.{bindings_in, bound, xmlns_prefix}
+use Rattle.xml_tree.specs.TreeScopes.{scope_around, scope_at}
 use Rattle.xml_tree.specs.Tree.{Content, last, more, comment_node, Tree, at, height, tree_of}
-use Rattle.xml_tree.specs.declared.names.Name.{Name}
-use Rattle.xml_tree.specs.declared.names.Decl.{Decl}
-use Rattle.xml_tree.specs.declared.names.Attr.{Attr}
+use Rattle.xml_names.specs.declared.names.Name.{Name}
+use Rattle.xml_names.specs.declared.names.Decl.{Decl}
+use Rattle.xml_names.specs.declared.names.Attr.{Attr}
 use Rattle.xml_tree.proofs.EverywhereLaws.{Letters-append, Throughout-change_at, nodes-Everywhere, scope_at-around}
 use Rattle.xml_tree.proofs.Places.{content_of-nodes_of}
 use Rattle.xml_tree.proofs.ProperEdits.{with-nodes, with-other}

@@ -6,7 +6,7 @@ use Rattle.std.specs.List.{AllByRecursion, list_all}
 use Rattle.xml_tree.specs.Proper.{ProperIn}
 use Rattle.xml_tree.specs.inner.Proper.{Proper}
 use Rattle.xml_tree.specs.Tree.{Content, last, more, comment_node, Tree, child_elements, child_elements_of}
-use Rattle.xml_tree.specs.declared.names.Decl.{Decl}
+use Rattle.xml_names.specs.declared.names.Decl.{Decl}
 use Rattle.node_select.specs.declared.selector.PatchSelector.{PatchSelector}
 use Rattle.patch_rules.specs.PatchOperations.{Location, PatchAction, Word, OperationError, Directive, Prefix, Unlocated, done, given, is_bound_type, is_known, locate, plain_value, suits, task_of, tested, operation_word, apply_operation}
 use Rattle.patch_rules.specs.Selectors.{Reading}

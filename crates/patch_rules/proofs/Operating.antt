@@ -6,8 +6,8 @@ use Rattle.std.specs.List.{list_all}
 use Rattle.xml_tree.specs.Tree.{Content, Tree, at, height, child_elements, child_elements_of}
 use Rattle.xml_tree.specs.Edits.{change_at, cut_child, cut_out, own_number, parent_path, put_in, put_kid, put_over}
 use Rattle.xml_tree.specs.Nodes.{content_of, exchange_nodes, gap_place, nodes_of, place}
-use Rattle.xml_tree.specs.Scopes.{scope_around, scope_at}
-use Rattle.xml_tree.specs.declared.names.Decl.{Decl}
+use Rattle.xml_tree.specs.TreeScopes.{scope_around, scope_at}
+use Rattle.xml_names.specs.declared.names.Decl.{Decl}
 use Rattle.xml_tree.specs.declared.tree.Node.TheVariants.{Elem}
 use Rattle.xml_tree.proofs.PathLemmas.{final-snoc, front-snoc, put_over-made}
 use Rattle.xml_tree.proofs.Places.{content_of-nodes_of}

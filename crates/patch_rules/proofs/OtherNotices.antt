@@ -1,7 +1,7 @@
 -- Diff documents without operations: of a document that is gone, and of tags alone.
 use Rattle.std.proofs.Common.{◌≡◌, ℕ, Bool, true, List, [], ◌∷◌, Some, None, Ok, codes, decimal, refl, arith}
-use Rattle.xml_tree.specs.Characters.{all_chars}
-use Rattle.xml_tree.specs.Expanded.{attr_name}
+use Rattle.xml_names.specs.Characters.{all_chars}
+use Rattle.xml_names.specs.Expanded.{attr_name}
 use Rattle.xml_tree.specs.Tree.{Tree}
 use Rattle.edit_ops.specs.Notes.{Note, tag_after}
 use Rattle.edit_ops.specs.Operations.{plain_attr as plain}

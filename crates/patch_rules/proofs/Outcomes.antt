@@ -5,12 +5,12 @@ use Rattle.std.specs.Str.{bytes_eq}
 use Rattle.std.specs.Option.{option_map_or}
 use Rattle.std.specs.Prelude.{find}
 use Rattle.std.specs.List.{AllByRecursion, list_all}
-use Rattle.xml_tree.specs.Attributes.{is_written_so}
-use Rattle.xml_tree.specs.Characters.{all_chars}
+use Rattle.xml_names.specs.Attributes.{is_written_so}
+use Rattle.xml_names.specs.Characters.{all_chars}
 use Rattle.xml_tree.specs.Proper.{IsAttribute, ProperIn}
 use Rattle.xml_tree.specs.Tree.{Tree, child_elements_of}
-use Rattle.xml_tree.specs.declared.names.Attr.{Attr}
-use Rattle.xml_tree.specs.declared.names.Decl.{Decl}
+use Rattle.xml_names.specs.declared.names.Attr.{Attr}
+use Rattle.xml_names.specs.declared.names.Decl.{Decl}
 use Rattle.patch_rules.specs.PatchOperations.{OperationError, Directive, Prefix, Unlocated, apply_operation, done, given, is_bound_type, is_known, locate, operation_word, plain_value, suits, task_of, tested}
 use Rattle.patch_rules.specs.Selectors.{AreReadings, Reading}
 use Rattle.patch_rules.specs.Replay.{CopyAnswer, CopyFault, ReplicaContents, Missing, Now, Replays, DocumentOutcome, WrongDocument, WrongTag, all_applied, all_taken, by_tags, change_outcome, copy_answer, document_taken, documents, held_tag, is_all_mine, has_diff_name, is_in_diff_namespace, numbered, operation_count, operations_in, renewed_copy, replayed, is_body_unchanged, then_next, unless_missing}

@@ -5,10 +5,11 @@ use Rattle.std.specs.List.{list_any}
 use Rattle.std.proofs.lemmas.Option.{slice_get_within}
 use Rattle.tree_text.proofs.PrintedNames.{IsWritten}
 use Rattle.xml_tree.specs.PathTexts.{path_text}
-use Rattle.xml_tree.specs.Scopes.{bindings_in, bound, scope_at, inside}
+use Rattle.xml_names.specs.Scopes.{bindings_in, bound}
+use Rattle.xml_tree.specs.TreeScopes.{scope_at, inside}
 use Rattle.xml_tree.specs.Tree.{Tree, at, child_elements_of}
-use Rattle.xml_tree.specs.declared.names.Name.{Name}
-use Rattle.xml_tree.specs.declared.names.Decl.{Decl}
+use Rattle.xml_names.specs.declared.names.Name.{Name}
+use Rattle.xml_names.specs.declared.names.Decl.{Decl}
 use Rattle.node_select.specs.StepSelection.{Selects}
 use Rattle.node_select.proofs.Inserted.{count-cons}
 use Rattle.node_select.specs.Grammar.{names_attribute}

@@ -10,11 +10,11 @@ use Rattle.xml_grammar.specs.Digits as digits
 use Rattle.xml_grammar.specs.Rules.{AllPass, number_from}
 use Rattle.xml_grammar.specs.Reading.{Reader, head_is, read_word, read_sequence, read_valued, read_some_of}
 use Rattle.xml_grammar.specs.readers.Functions.{read_empty, read_many, read_only, read_optional, read_behind, read_whole}
-use Rattle.xml_tree.specs.Print.{print_name}
-use Rattle.xml_tree.specs.declared.names.Name.{Name}
-use Rattle.tree_text.specs.declared.fault_kind.FaultKind.{FaultKind}
-use Rattle.tree_text.specs.readers.Texts.{read_qname}
-use Rattle.tree_text.proofs.ReadFronts.{Reads, AllRead, reads_before, reads_behind, reads_left, reads_many, reads_name_of, reads_right, reads_sequence, reads_sized, reads_valued, reads_word}
+use Rattle.xml_names.specs.Markup.{print_name}
+use Rattle.xml_names.specs.declared.names.Name.{Name}
+use Rattle.xml_tokens.specs.declared.fault_kind.FaultKind.{FaultKind}
+use Rattle.xml_tokens.specs.readers.Tokens.{read_qname}
+use Rattle.xml_tokens.proofs.ReadFronts.{Reads, AllRead, reads_before, reads_behind, reads_left, reads_many, reads_name_of, reads_right, reads_sequence, reads_sized, reads_valued, reads_word}
 use Rattle.tree_text.proofs.PrintedNames.{IsWritten, reads_qname}
 use Rattle.node_select.specs.Grammar.{names_attribute, greatest_position, position_of}
 use Rattle.node_select.specs.readers.SelectorValues.{first_step_of}

@@ -4,15 +4,15 @@ use Rattle.std.proofs.Common.{◌≡◌, ◌≢◌, ℕ, Bool, true, false, cond
 use Rattle.std.specs.List.{AllByRecursion, list_all}
 use Rattle.std.specs.Option.{option_or}
 use Rattle.std.proofs.lemmas.Slice.Eq.{bytes_eq-Decides}
-use Rattle.xml_tree.specs.declared.names.Name.{Name}
-use Rattle.xml_tree.specs.declared.names.Decl.{Decl}
-use Rattle.xml_tree.specs.declared.names.Attr.{Attr}
-use Rattle.xml_tree.specs.Expanded.{ExpandedName, attr_name, element_name, same_expanded, same_uri}
+use Rattle.xml_names.specs.declared.names.Name.{Name}
+use Rattle.xml_names.specs.declared.names.Decl.{Decl}
+use Rattle.xml_names.specs.declared.names.Attr.{Attr}
+use Rattle.xml_names.specs.Expanded.{ExpandedName, attr_name, element_name, same_expanded, same_uri}
 use Rattle.xml_tree.specs.Proper.{IsAttribute, IsNamed, ProperIn}
 use Rattle.xml_tree.specs.inner.Proper.{Proper}
-use Rattle.xml_tree.specs.Scopes.{bindings_in, bound, declared, joined, some_text, xml_prefix, xml_uri}
+use Rattle.xml_names.specs.Scopes.{bindings_in, bound, declared, joined, some_text, xml_prefix, xml_uri}
 use Rattle.xml_tree.specs.Tree.{Content, last, more, comment_node, Tree, of_children}
-use Rattle.xml_tree.proofs.BindingWords.{bound-bindings_in}
+use Rattle.xml_names.proofs.BindingWords.{bound-bindings_in}
 use Rattle.xml_tree.proofs.ScopesAlike.{bound-inner}
 use Rattle.patch_rules.specs.PatchOperations.{means_alike}
 use Rattle.patch_rules.specs.Premises.{Meets, around_operations}

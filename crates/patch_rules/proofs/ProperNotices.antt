@@ -6,13 +6,13 @@ use Rattle.std.specs.Int.Digits.{digits_of}
 use Rattle.std.proofs.lemmas.Bool.Decides.{nat_tests}
 use Rattle.std.proofs.lemmas.Fmt.{decimal-digits_of}
 use Rattle.std.proofs.lemmas.Int.Digits.{all_below_base_digits_of}
-use Rattle.xml_tree.specs.Characters.{all_chars, is_name_char}
-use Rattle.xml_tree.specs.Expanded.{ExpandedName, attr_name, same_expanded}
+use Rattle.xml_names.specs.Characters.{all_chars, is_name_char}
+use Rattle.xml_names.specs.Expanded.{ExpandedName, attr_name, same_expanded}
 use Rattle.xml_tree.specs.Proper.{ProperIn, is_declaration, is_prefix}
 use Rattle.xml_tree.specs.inner.Proper.{Proper}
-use Rattle.xml_tree.specs.Scopes.{xml_uri, xmlns_prefix, xmlns_uri}
+use Rattle.xml_names.specs.Scopes.{xml_uri, xmlns_prefix, xmlns_uri}
 use Rattle.xml_tree.specs.Tree.{Tree, content_height, height, of_children as listed}
-use Rattle.xml_tree.specs.declared.names.Decl.{Decl}
+use Rattle.xml_names.specs.declared.names.Decl.{Decl}
 use Rattle.edit_ops.specs.Notes.{AreNotesOf, Note, tag_after}
 use Rattle.patch_rules.specs.Notices.{all_at_once, candidate, declares, diff, diff_uri, document, one_by_one, operations}
 use Rattle.edit_ops.specs.Operations.{operation, plain_attr as plain}

@@ -2,18 +2,19 @@
 use Rattle.std.proofs.Common.{◌≡◌, ◌≢◌, ℕ, zero, suc, ◌≤◌, Bool, true, false, List, [], ◌∷◌, ◌++◌, length, Option, Some, None, IsSome, is_some, bytes_eq, codes, decimal, option_and_then, refl, sym, ap, ◌∙◌, subst, arith}
 use Rattle.std.specs.List.{AllByRecursion, IsDistinct, find, list_all}
 use Rattle.std.proofs.lemmas.Bool.Decides.{nat_tests}
-use Rattle.xml_tree.specs.Attributes.{with_new_value, with_attr, is_written_so as is_named}
-use Rattle.xml_tree.specs.Characters.{all_chars, is_char, is_name, is_name_char, is_name_start}
+use Rattle.xml_names.specs.Attributes.{with_new_value, with_attr, is_written_so as is_named}
+use Rattle.xml_names.specs.Characters.{all_chars, is_char, is_name, is_name_char, is_name_start}
 use Rattle.xml_tree.specs.Edits.{put_over, set_at, write_attr}
-use Rattle.xml_tree.specs.Expanded.{ExpandedName, attr_name, same_expanded}
-use Rattle.xml_tree.specs.Print.{print_name}
+use Rattle.xml_names.specs.Expanded.{ExpandedName, attr_name, same_expanded}
+use Rattle.xml_names.specs.Markup.{print_name}
 use Rattle.xml_tree.specs.Proper.{IsAttribute, IsNamed, IsTag, Letters, IsProperPart, ProperIn, is_prefix}
 use Rattle.xml_tree.specs.inner.Proper.{Proper}
-use Rattle.xml_tree.specs.Scopes.{bindings_in, bound, scope_around, scope_at, xml_prefix, xmlns_prefix}
+use Rattle.xml_names.specs.Scopes.{bindings_in, bound, xml_prefix, xmlns_prefix}
+use Rattle.xml_tree.specs.TreeScopes.{scope_around, scope_at}
 use Rattle.xml_tree.specs.Tree.{Tree, at, height, child_elements_of, of_children}
-use Rattle.xml_tree.specs.declared.names.Name.{Name}
-use Rattle.xml_tree.specs.declared.names.Decl.{Decl}
-use Rattle.xml_tree.specs.declared.names.Attr.{Attr}
+use Rattle.xml_names.specs.declared.names.Name.{Name}
+use Rattle.xml_names.specs.declared.names.Decl.{Decl}
+use Rattle.xml_names.specs.declared.names.Attr.{Attr}
 use Rattle.xml_tree.proofs.HeightLaws.{height-put_in}
 use Rattle.xml_tree.proofs.PlaceLaws.{height-at}
 use Rattle.xml_tree.proofs.ProperEdits.{at-change_at, put-element, put-other}

@@ -5,18 +5,19 @@ use Rattle.std.proofs.Common.{◌≡◌, Ordering, Less, Equal, Greater, ℕ, Bo
 use Rattle.std.specs.Prelude.{unwrap_or}
 use Rattle.std.specs.List.{AllByRecursion, IsDistinct}
 use Rattle.std.proofs.lemmas.Slice.Eq.{bytes_eq-Decides}
-use Rattle.xml_tree.specs.declared.names.Name.{Name}
-use Rattle.xml_tree.specs.declared.names.Decl.{Decl}
-use Rattle.xml_tree.specs.declared.names.Attr.{Attr}
+use Rattle.xml_names.specs.declared.names.Name.{Name}
+use Rattle.xml_names.specs.declared.names.Decl.{Decl}
+use Rattle.xml_names.specs.declared.names.Attr.{Attr}
 use Rattle.xml_tree.specs.Edits.{parent_path}
-use Rattle.xml_tree.specs.Expanded.{attr_name, same_expanded}
+use Rattle.xml_names.specs.Expanded.{attr_name, same_expanded}
 use Rattle.xml_tree.specs.Proper.{IsAttribute, IsNamed, IsTag, IsProperPart, ProperIn, is_declaration}
 use Rattle.xml_tree.specs.inner.Proper.{Proper}
-use Rattle.xml_tree.specs.Scopes.{AreInOrder, bindings_in, binds, joined, scope_around, scope_at}
-use Rattle.xml_tree.specs.inner.Gathering.{gathered, placed}
+use Rattle.xml_names.specs.Scopes.{AreInOrder, bindings_in, binds, joined}
+use Rattle.xml_tree.specs.TreeScopes.{scope_around, scope_at}
+use Rattle.xml_names.specs.inner.Gathering.{gathered, placed}
 use Rattle.xml_tree.specs.Tree.{Content, last, more, comment_node, Tree, child_elements_of}
-use Rattle.xml_tree.proofs.BindingWords.{AreInOrder-bindings_in, gathered_are}
-use Rattle.xml_tree.proofs.ByteOrder.{order, order_same}
+use Rattle.xml_names.proofs.BindingWords.{AreInOrder-bindings_in, gathered_are}
+use Rattle.xml_names.proofs.ByteOrder.{order, order_same}
 use Rattle.xml_tree.proofs.EverywhereLaws.{Everywhere-child_element}
 use Rattle.patch_rules.specs.Premises.{Meets}
 use Rattle.patch_rules.proofs.Prefixes.{Meets-inner, attr_alike}

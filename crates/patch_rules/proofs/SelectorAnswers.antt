@@ -7,11 +7,11 @@ use Rattle.std.proofs.lemmas.Str.{chars-encodes}
 use lib.Utf8.{scalar, scalars}
 use Rattle.xml_grammar.specs.Reading.{Stop}
 use Rattle.xml_grammar.specs.readers.Functions.{read_whole}
-use Rattle.tree_text.specs.declared.fault_kind.FaultKind.{FaultKind}
+use Rattle.xml_tokens.specs.declared.fault_kind.FaultKind.{FaultKind}
 use Rattle.tree_text.proofs.PrintedValues.{both as parts}
-use Rattle.xml_tree.specs.Characters.{all_chars, is_char}
-use Rattle.xml_tree.specs.Scopes.{bindings_in, bound}
-use Rattle.xml_tree.specs.declared.names.Decl.{Decl}
+use Rattle.xml_names.specs.Characters.{all_chars, is_char}
+use Rattle.xml_names.specs.Scopes.{bindings_in, bound}
+use Rattle.xml_names.specs.declared.names.Decl.{Decl}
 use Rattle.node_select.specs.Faults.{IsPatchFormAnswer, IsPatchSelectorAnswer}
 use Rattle.node_select.specs.declared.fault.SelectorFault.{SelectorFault}
 use Rattle.node_select.specs.declared.selector.PatchSelector.{PatchSelector}

@@ -4,11 +4,12 @@ use Rattle.std.specs.List.{AllByRecursion, find, list_any}
 use Rattle.std.specs.Prelude.{unwrap_or}
 use Rattle.xml_tree.specs.Edits.{attr_at}
 use Rattle.xml_tree.specs.Proper.{ProperIn}
-use Rattle.xml_tree.specs.Scopes.{bindings_in, bound, scope_at}
+use Rattle.xml_names.specs.Scopes.{bindings_in, bound}
+use Rattle.xml_tree.specs.TreeScopes.{scope_at}
 use Rattle.xml_tree.specs.Tree.{Tree, at, height}
-use Rattle.xml_tree.specs.declared.names.Attr.{Attr}
-use Rattle.xml_tree.specs.declared.names.Decl.{Decl}
-use Rattle.xml_tree.specs.declared.names.Name.{Name}
+use Rattle.xml_names.specs.declared.names.Attr.{Attr}
+use Rattle.xml_names.specs.declared.names.Decl.{Decl}
+use Rattle.xml_names.specs.declared.names.Name.{Name}
 use Rattle.edit_ops.specs.Changes.{Fits, edited}
 use Rattle.edit_ops.specs.declared.change.Change.{Change}
 use Rattle.node_select.specs.Names.{attr_uri}
@@ -38,8 +39,8 @@ use Rattle.tree_text.specs.Faults.{TextAnswer}
 use Rattle.xml_tree.specs.Print.{document_print}
 use Rattle.tree_text.proofs.PrintedTexts.{document_is_read}
 use Rattle.tree_text.proofs.ReadAnswers.{text_answer}
-use Rattle.xml_tree.specs.Characters.{all_chars}
-use Rattle.xml_tree.specs.Attributes.{is_written_so as is_named}
+use Rattle.xml_names.specs.Characters.{all_chars}
+use Rattle.xml_names.specs.Attributes.{is_written_so as is_named}
 use Rattle.patch_rules.specs.SelectedNodes.{selected_by}
 use Rattle.patch_rules.proofs.PathSelection.{attr_means, attr_read, locates_attr, locates_element, path_means, path_read}
 use Rattle.patch_rules.proofs.Wholes.{replayed_at_once, replayed_one_by_one}

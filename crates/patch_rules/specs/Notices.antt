@@ -1,12 +1,13 @@
 -- The diff document of change records, as a tree. RFC 5874, section 3; RFC 5875, sections 4.3 and
 -- 4.7, on what each patching mode sends.
-use Rattle.std.specs.Prelude.{◌≡◌, ℕ, zero, suc, ◌+◌, ◌<◌, Bool, true, false, ◌||◌, codes, decimal, List, [], ◌∷◌, ◌++◌, map, length, if◌then◌else◌}
+use Rattle.std.specs.Prelude.{◌≡◌, ℕ, zero, suc, ◌+◌, ◌<◌, Bool, true, false, ◌||◌, codes, decimal}
+use Rattle.std.specs.Prelude.{List, [], ◌∷◌, ◌++◌, map, length, if◌then◌else◌}
 use Rattle.std.specs.List.{list_any}
 use Rattle.std.specs.Str.{bytes_eq}
-use Rattle.xml_tree.specs.Limits.{max_levels}
+use Rattle.xml_names.specs.Limits.{max_levels}
 use Rattle.xml_tree.specs.Tree.{Content, last, more, comment_node, Tree, tree_of, of_children}
-use Rattle.xml_tree.specs.declared.names.Decl.{Decl}
-use Rattle.xml_tree.specs.Expanded.{name_of}
+use Rattle.xml_names.specs.declared.names.Decl.{Decl}
+use Rattle.xml_names.specs.Expanded.{name_of}
 use Rattle.edit_ops.specs.Notes.{Note, tag_after}
 use Rattle.edit_ops.specs.Operations.{operation, plain_attr}
 
@@ -27,12 +28,14 @@ declares prefix ds = list_any (λ d. bytes_eq d.prefix prefix) ds
 
 abbrev pub is_declared_in : List ℕ → Content → Bool
 is_declared_in prefix (last t) = false
-is_declared_in prefix (more t n ds ats c rest) = declares prefix ds || (is_declared_in prefix c || is_declared_in prefix rest)
+is_declared_in prefix (more t n ds ats c rest) =
+    declares prefix ds || (is_declared_in prefix c || is_declared_in prefix rest)
 is_declared_in prefix (comment_node t x rest) = is_declared_in prefix rest
 
 -- whether an operation, or an element in it, declares the prefix
 abbrev pub is_taken : List Tree → List ℕ → Bool
-is_taken operations prefix = list_any (λ o. declares prefix o.decls || is_declared_in prefix o.content) operations
+is_taken operations prefix =
+    list_any (λ o. declares prefix o.decls || is_declared_in prefix o.content) operations
 
 -- `d`, `d1`, `d2`, and so on
 abbrev pub candidate : ℕ → List ℕ
@@ -66,7 +69,8 @@ operations prefix ns = map (operation prefix) ns
 -- the prefix of a diff document with these records' operations; what they declare doesn't depend
 -- on their own prefix
 abbrev pub prefix_for : List Note → List ℕ
-prefix_for ns = candidate (first_free (is_taken (operations [] ns)) (declarations (operations [] ns)) 0)
+prefix_for ns =
+    candidate (first_free (is_taken (operations [] ns)) (declarations (operations [] ns)) 0)
 
 -- ---- `document` elements and the whole diff document
 
@@ -74,17 +78,22 @@ prefix_for ns = candidate (first_free (is_taken (operations [] ns)) (declaration
 abbrev pub document : List ℕ → List ℕ → ℕ → ℕ → List Tree → Tree
 document prefix sel from to os =
     tree_of (name_of prefix (codes "document")) []
-    (plain_attr (codes "sel") sel ∷ plain_attr (codes "new-etag") (decimal to) ∷ plain_attr (codes "previous-etag") (decimal from) ∷ []) (of_children os)
+    (plain_attr (codes "sel") sel ∷ plain_attr (codes "new-etag") (decimal to)
+    ∷ plain_attr (codes "previous-etag") (decimal from) ∷ [])
+    (of_children os)
 
 -- one document was removed
 abbrev pub removed_document : List ℕ → List ℕ → ℕ → Tree
 removed_document prefix sel from =
-    tree_of (name_of prefix (codes "document")) [] (plain_attr (codes "sel") sel ∷ plain_attr (codes "previous-etag") (decimal from) ∷ []) (last [])
+    tree_of (name_of prefix (codes "document")) []
+    (plain_attr (codes "sel") sel ∷ plain_attr (codes "previous-etag") (decimal from) ∷ [])
+    (last [])
 
 -- the diff document: the root's text and a slash, and the documents
 abbrev pub diff : List ℕ → List ℕ → List Tree → Tree
 diff prefix root ds =
-    tree_of (name_of prefix (codes "xcap-diff")) (record { prefix = prefix; uri = diff_uri } ∷ []) (plain_attr (codes "xcap-root") (root ++ codes "/") ∷ []) (of_children ds)
+    tree_of (name_of prefix (codes "xcap-diff")) (record { prefix = prefix; uri = diff_uri } ∷ [])
+    (plain_attr (codes "xcap-root") (root ++ codes "/") ∷ []) (of_children ds)
 
 -- ---- the diff document of a list of change records since a tag, in each mode; without records it
 -- has no document
@@ -96,12 +105,14 @@ tags_alone prefix sel from (n ∷ ns) = document prefix sel from (tag_after from
 
 -- `xcap-patching`: one document for each change record, with its own tags
 abbrev pub one_by_one : List ℕ → List ℕ → List Note → List Tree
-one_by_one prefix sel ns = map (λ n. document prefix sel n.previous n.next (operation prefix n ∷ [])) ns
+one_by_one prefix sel ns =
+    map (λ n. document prefix sel n.previous n.next (operation prefix n ∷ [])) ns
 
 -- `aggregate`: one document with all operations in order
 abbrev pub all_at_once : List ℕ → List ℕ → ℕ → List Note → List Tree
 all_at_once prefix sel from [] = []
-all_at_once prefix sel from (n ∷ ns) = document prefix sel from (tag_after from (n ∷ ns)) (operations prefix (n ∷ ns)) ∷ []
+all_at_once prefix sel from (n ∷ ns) =
+    document prefix sel from (tag_after from (n ∷ ns)) (operations prefix (n ∷ ns)) ∷ []
 
 abbrev pub tags_notice : List ℕ → List ℕ → ℕ → List Note → Tree
 tags_notice root sel from ns = diff (prefix_for []) root (tags_alone (prefix_for []) sel from ns)
@@ -110,7 +121,8 @@ abbrev pub patching_notice : List ℕ → List ℕ → ℕ → List Note → Tre
 patching_notice root sel from ns = diff (prefix_for ns) root (one_by_one (prefix_for ns) sel ns)
 
 abbrev pub aggregate_notice : List ℕ → List ℕ → ℕ → List Note → Tree
-aggregate_notice root sel from ns = diff (prefix_for ns) root (all_at_once (prefix_for ns) sel from ns)
+aggregate_notice root sel from ns =
+    diff (prefix_for ns) root (all_at_once (prefix_for ns) sel from ns)
 
 -- the document is gone
 abbrev pub gone_notice : List ℕ → List ℕ → ℕ → Tree

@@ -1,22 +1,26 @@
 -- What one patch operation makes of a tree, or the first thing that is wrong with it. RFC 5261,
 -- sections 4 and 5, as far as they are implemented here.
-use Rattle.std.specs.Prelude.{ℕ, zero, suc, ◌+◌, ◌-◌, ◌==◌, Bool, true, false, not, ◌&&◌, ◌||◌, nat_le, codes, List, [], ◌∷◌, ◌++◌, length, Option, None, Some, is_some, option_map, option_and_then, unwrap_or, slice_get, Result, Ok, Err, if◌then◌else◌, find}
+use Rattle.std.specs.Prelude.{ℕ, zero, suc, ◌+◌, ◌-◌, ◌==◌, Bool, true, false, not, ◌&&◌, ◌||◌}
+use Rattle.std.specs.Prelude.{nat_le, codes, List, [], ◌∷◌, ◌++◌, length, Option, None, Some}
+use Rattle.std.specs.Prelude.{is_some, option_map, option_and_then, unwrap_or, slice_get, Result}
+use Rattle.std.specs.Prelude.{Ok, Err, if◌then◌else◌, find}
 use Rattle.std.specs.List.{list_all, list_any}
 use Rattle.std.specs.Str.{bytes_eq}
 use Rattle.xml_grammar.specs.Reading.{front_of, after_front}
-use Rattle.xml_tree.specs.Attributes.{remove_first, with_new_value, is_written_so}
-use Rattle.xml_tree.specs.Characters.{is_name, is_space}
+use Rattle.xml_names.specs.Attributes.{remove_first, with_new_value, is_written_so}
+use Rattle.xml_names.specs.Characters.{is_name, is_space}
 use Rattle.xml_tree.specs.Edits.{change_at, own_number, parent_path, put_over}
-use Rattle.xml_tree.specs.Expanded.{element_name, attr_name, same_expanded}
+use Rattle.xml_names.specs.Expanded.{element_name, attr_name, same_expanded}
 use Rattle.xml_tree.specs.Nodes.{exchange_nodes, is_text, nodes_of, place, text_node, text_of}
-use Rattle.xml_tree.specs.Scopes.{bindings_in, scope_around, scope_at, xmlns_prefix}
+use Rattle.xml_names.specs.Scopes.{bindings_in, xmlns_prefix}
+use Rattle.xml_tree.specs.TreeScopes.{scope_around, scope_at}
 use Rattle.xml_tree.specs.Tree.{Content, last, more, comment_node, Tree, at, height, tree_of}
-use Rattle.xml_tree.specs.declared.names.Name.{Name}
-use Rattle.xml_tree.specs.declared.names.Decl.{Decl}
-use Rattle.xml_tree.specs.declared.names.Attr.{Attr}
+use Rattle.xml_names.specs.declared.names.Name.{Name}
+use Rattle.xml_names.specs.declared.names.Decl.{Decl}
+use Rattle.xml_names.specs.declared.names.Attr.{Attr}
 use Rattle.xml_tree.specs.declared.tree.Node.{Node}
-use Rattle.xml_tree.specs.Limits.{max_levels}
-use Rattle.tree_text.specs.Faults.{is_other}
+use Rattle.xml_names.specs.Limits.{max_levels}
+use Rattle.xml_tokens.specs.Tokens.{is_other}
 use Rattle.node_select.specs.Names.{prefix_uri}
 use Rattle.node_select.specs.Selection.{is_attr, selected_in}
 use Rattle.node_select.specs.declared.selector.PatchEnd.{PatchEnd}
@@ -36,11 +40,13 @@ pub data OperationError : Type 0 where
   NoSpace : OperationError
 
 -- a result once a test has passed, or once an optional value is there
-abbrev pub tested : {A : Type 0} → Bool → OperationError → Result A OperationError → Result A OperationError
+abbrev pub tested : {A : Type 0} → Bool → OperationError → Result A OperationError
+    → Result A OperationError
 tested true w r = r
 tested false w r = Err w
 
-abbrev pub given : {A B : Type 0} → Option A → OperationError → (A → Result B OperationError) → Result B OperationError
+abbrev pub given : {A B : Type 0} → Option A → OperationError → (A → Result B OperationError)
+    → Result B OperationError
 given None w k = Err w
 given (Some x) w k = k x
 
@@ -53,17 +59,23 @@ pub data Word : Type 0 where
 
 abbrev pub operation_word : List ℕ → Option Word
 operation_word local =
-    if bytes_eq local (codes "add") then Some Add else (if bytes_eq local (codes "replace") then Some Exchange else (if bytes_eq local (codes "remove") then Some Cut else None))
+    if bytes_eq local (codes "add") then Some Add
+    else if bytes_eq local (codes "replace") then Some Exchange
+    else if bytes_eq local (codes "remove") then Some Cut
+    else None
 
 -- the value of the attribute of this local name that has no prefix, and so no namespace
 abbrev pub plain_value : List ℕ → List Attr → Option (List ℕ)
-plain_value local ats = option_map (λ a. a.value) (find (is_written_so (record { prefix = []; local = local })) ats)
+plain_value local ats =
+    option_map (λ a. a.value) (find (is_written_so (record { prefix = []; local = local })) ats)
 
 -- `sel`, `pos`, `type` and `ws` alone have no namespace
 abbrev pub is_known : Attr → Bool
 is_known a =
     not (bytes_eq a.name.prefix [])
-    || (bytes_eq a.name.local (codes "sel") || (bytes_eq a.name.local (codes "pos") || (bytes_eq a.name.local (codes "type") || bytes_eq a.name.local (codes "ws"))))
+    || (bytes_eq a.name.local (codes "sel")
+    || (bytes_eq a.name.local (codes "pos")
+    || (bytes_eq a.name.local (codes "type") || bytes_eq a.name.local (codes "ws"))))
 
 -- where an `add` puts its content
 pub data Position : Type 0 where
@@ -74,11 +86,16 @@ pub data Position : Type 0 where
 
 abbrev pub add_position : List ℕ → Option Position
 add_position text =
-    if bytes_eq text (codes "prepend") then Some Prepend else (if bytes_eq text (codes "before") then Some Before else (if bytes_eq text (codes "after") then Some After else None))
+    if bytes_eq text (codes "prepend") then Some Prepend
+    else if bytes_eq text (codes "before") then Some Before
+    else if bytes_eq text (codes "after") then Some After
+    else None
 
 -- a name of two parts, of which each is an NCName
 abbrev pub with_prefix : List ℕ → List ℕ → Option Name
-with_prefix prefix local = if is_name prefix && is_name local then Some (record { prefix = prefix; local = local }) else None
+with_prefix prefix local =
+    if is_name prefix && is_name local then Some (record { prefix = prefix; local = local })
+    else None
 
 -- by the text before the first colon (58), and the text from it on: a name without a prefix where
 -- there is no colon
@@ -102,7 +119,10 @@ type_of (c ∷ cs) = if c == 64 then option_and_then no_declaration (name_of_tex
 -- which white space a `remove` removes too: before the element, and after it
 abbrev pub white_space_of : List ℕ → Option (Bool × Bool)
 white_space_of text =
-    if bytes_eq text (codes "before") then Some (true, false) else (if bytes_eq text (codes "after") then Some (false, true) else (if bytes_eq text (codes "both") then Some (true, true) else None))
+    if bytes_eq text (codes "before") then Some (true, false)
+    else if bytes_eq text (codes "after") then Some (false, true)
+    else if bytes_eq text (codes "both") then Some (true, true)
+    else None
 
 -- an operation as it is read: the action it asks for
 pub data PatchAction : Type 0 where
@@ -125,7 +145,8 @@ cutting (Some ws) = option_map (λ s. Remove s.0 s.1) (white_space_of ws)
 -- each word takes its own attributes and no others
 abbrev pub task_of : Word → Option (List ℕ) → Option (List ℕ) → Option (List ℕ) → Option PatchAction
 task_of Add pos type ws = if is_some ws then None else adding pos type
-task_of Exchange pos type ws = if is_some pos || (is_some type || is_some ws) then None else Some Replace
+task_of Exchange pos type ws =
+    if is_some pos || (is_some type || is_some ws) then None else Some Replace
 task_of Cut pos type ws = if is_some pos || is_some type then None else cutting ws
 
 -- an `add` selects an element, and so does a `remove` that removes white space; the text of a
@@ -145,7 +166,9 @@ suits (Remove before after) end = is_element_form end || not (before || after)
 -- the number among the nodes of the k-th text, counted from 1; i nodes come before these
 abbrev pub text_number : ℕ → ℕ → List Node → Option ℕ
 text_number i k [] = None
-text_number i k (n ∷ ns) = if is_text n then (if k == 1 then Some i else text_number (suc i) (k - 1) ns) else text_number (suc i) k ns
+text_number i k (n ∷ ns) =
+    if is_text n then (if k == 1 then Some i else text_number (suc i) (k - 1) ns)
+    else text_number (suc i) k ns
 
 abbrev pub texts_in : List Node → ℕ
 texts_in [] = 0
@@ -165,11 +188,14 @@ pub data Location : Type 0 where
 
 abbrev pub locate_end : PatchEnd → List (List Decl) → List ℕ → Tree → Option Location
 locate_end Element c p e = Some (AtElement p)
-locate_end (Attribute uri local) c p e = if list_any (is_attr c uri local) e.attrs then Some (AtAttr p (is_attr c uri local)) else None
+locate_end (Attribute uri local) c p e =
+    if list_any (is_attr c uri local) e.attrs then Some (AtAttr p (is_attr c uri local)) else None
 locate_end (Chars k) c p e = option_map (AtText p) (selected_text k (nodes_of e.content))
 
 abbrev pub locate : PatchSelector → Tree → Option Location
-locate s t = option_and_then (λ p. option_and_then (locate_end s.end (scope_at p t) p) (at p t)) (selected_in s.steps t)
+locate s t =
+    option_and_then (λ p. option_and_then (locate_end s.end (scope_at p t) p) (at p t))
+    (selected_in s.steps t)
 
 -- ---- its content
 
@@ -190,7 +216,8 @@ is_blank_content (comment_node t x rest) = is_white t && is_blank_content rest
 
 abbrev pub sole_element : Content → Option Tree
 sole_element (last t) = None
-sole_element (more t n ds ats c rest) = if is_white t && is_blank_content rest then Some (tree_of n ds ats c) else None
+sole_element (more t n ds ats c rest) =
+    if is_white t && is_blank_content rest then Some (tree_of n ds ats c) else None
 sole_element (comment_node t x rest) = if is_white t then sole_element rest else None
 
 -- neither an element nor a text
@@ -227,7 +254,9 @@ put_at After p ns t = put_nodes (parent_path p) (suc (own_place p t)) ns t
 -- the element at a path taken out, with the node before or after it, where white space is removed
 -- too
 abbrev pub cut_element : Bool → Bool → List ℕ → Tree → Tree
-cut_element before after p t = let i = own_place p t in cut_nodes (parent_path p) (i - (if before then 1 else 0)) (suc i + (if after then 1 else 0)) t
+cut_element before after p t =
+    let i = own_place p t in
+    cut_nodes (parent_path p) (i - (if before then 1 else 0)) (suc i + (if after then 1 else 0)) t
 
 abbrev pub with_attrs : (List Attr → List Attr) → Tree → Tree
 with_attrs f e = record e { attrs = f e.attrs }
@@ -251,7 +280,9 @@ space_before (suc i) ns = is_space_at i ns
 
 abbrev pub space_fits : Bool → Bool → List ℕ → Tree → Bool
 space_fits before after p t =
-    let ns = nodes_at (parent_path p) t in let i = own_place p t in (not before || space_before i ns) && (not after || is_space_at (suc i) ns)
+    let ns = nodes_at (parent_path p) t in
+    let i = own_place p t in
+    (not before || space_before i ns) && (not after || is_space_at (suc i) ns)
 
 -- ---- names that mean the same at the operation and at its place
 
@@ -260,7 +291,8 @@ abbrev pub means_alike : List (List Decl) → List (List Decl) → Content → B
 means_alike c d (last t) = true
 means_alike c d (more t n ds ats k rest) =
     same_expanded (element_name (c ++ ds ∷ []) n) (element_name (d ++ ds ∷ []) n)
-    && (list_all (λ a. same_expanded (attr_name (c ++ ds ∷ []) a.name) (attr_name (d ++ ds ∷ []) a.name)) ats
+    && (list_all
+    (λ a. same_expanded (attr_name (c ++ ds ∷ []) a.name) (attr_name (d ++ ds ∷ []) a.name)) ats
     && (means_alike (c ++ ds ∷ []) (d ++ ds ∷ []) k && means_alike c d rest))
 means_alike c d (comment_node t x rest) = means_alike c d rest
 
@@ -289,27 +321,44 @@ is_below (n ∷ p) = true
 abbrev pub made : Tree → Bool → Result Tree OperationError
 made new alike = tested (within_depth new) WrongNodes (tested alike Prefix (Ok new))
 
-abbrev pub put_done : List (List Decl) → Position → List ℕ → Content → Tree → Result Tree OperationError
+abbrev pub put_done : List (List Decl) → Position → List ℕ → Content → Tree
+    → Result Tree OperationError
 put_done c position p content t =
-    tested (is_off_root position p) RootTouched (tested (is_some (slice_get (nodes_of content) 0)) WrongNodes (
-    made (put_at position p (nodes_of content) t) (means_alike c (scope_of_put position p t) content)))
+    tested (is_off_root position p) RootTouched
+    (tested (is_some (slice_get (nodes_of content) 0)) WrongNodes
+    (made (put_at position p (nodes_of content) t)
+    (means_alike c (scope_of_put position p t) content)))
 
-abbrev pub attr_done : List (List Decl) → Name → List ℕ → Content → Tree → Result Tree OperationError
+abbrev pub attr_done : List (List Decl) → Name → List ℕ → Content → Tree
+    → Result Tree OperationError
 attr_done c name p content t =
     given (value_in content) WrongNodes (λ v.
-    tested (not (list_any (λ a. same_expanded (attr_name (scope_at p t) a.name) (attr_name c name)) (unwrap_or (option_map (λ e. e.attrs) (at p t)) []))) WrongNodes (
-    made (change_at p (with_attrs (λ ats. ats ++ attr_of name v ∷ [])) t) (same_expanded (attr_name c name) (attr_name (scope_at p t) name))))
+    tested (not (list_any (λ a. same_expanded (attr_name (scope_at p t) a.name) (attr_name c name))
+    (unwrap_or (option_map (λ e. e.attrs) (at p t)) [])))
+    WrongNodes
+    (made (change_at p (with_attrs (λ ats. ats ++ attr_of name v ∷ [])) t)
+    (same_expanded (attr_name c name) (attr_name (scope_at p t) name))))
 
 abbrev pub replace_done : List (List Decl) → Location → Content → Tree → Result Tree OperationError
-replace_done c (AtElement p) content t = given (sole_element content) WrongNodes (λ e. made (put_over p e t) (means_alike c (scope_around p t) content))
-replace_done c (AtAttr p f) content t = given (value_in content) WrongNodes (λ v. made (change_at p (with_attrs (rewritten f v)) t) true)
-replace_done c (AtText p i) content t = given (value_in content) WrongNodes (λ v. made (change_at p (exchange_nodes i (suc i) (text_node v)) t) true)
+replace_done c (AtElement p) content t =
+    given (sole_element content) WrongNodes (λ e.
+    made (put_over p e t) (means_alike c (scope_around p t) content))
+replace_done c (AtAttr p f) content t =
+    given (value_in content) WrongNodes (λ v.
+    made (change_at p (with_attrs (rewritten f v)) t) true)
+replace_done c (AtText p i) content t =
+    given (value_in content) WrongNodes (λ v.
+    made (change_at p (exchange_nodes i (suc i) (text_node v)) t) true)
 
 abbrev pub remove_done : Bool → Bool → Location → Content → Tree → Result Tree OperationError
 remove_done before after (AtElement p) content t =
-    tested (is_below p) RootTouched (tested (is_bare content) WrongNodes (tested (space_fits before after p t) NoSpace (made (cut_element before after p t) true)))
-remove_done before after (AtAttr p f) content t = tested (is_bare content) WrongNodes (made (change_at p (with_attrs (remove_first f)) t) true)
-remove_done before after (AtText p i) content t = tested (is_bare content) WrongNodes (made (cut_nodes p i (suc i) t) true)
+    tested (is_below p) RootTouched
+    (tested (is_bare content) WrongNodes
+    (tested (space_fits before after p t) NoSpace (made (cut_element before after p t) true)))
+remove_done before after (AtAttr p f) content t =
+    tested (is_bare content) WrongNodes (made (change_at p (with_attrs (remove_first f)) t) true)
+remove_done before after (AtText p i) content t =
+    tested (is_bare content) WrongNodes (made (cut_nodes p i (suc i) t) true)
 
 -- the path of the selected element, or of the element that has the selected attribute or text
 abbrev pub spot_path : Location → List ℕ
@@ -317,7 +366,8 @@ spot_path (AtElement p) = p
 spot_path (AtAttr p f) = p
 spot_path (AtText p i) = p
 
-abbrev pub done : List (List Decl) → PatchAction → Location → Content → Tree → Result Tree OperationError
+abbrev pub done : List (List Decl) → PatchAction → Location → Content → Tree
+    → Result Tree OperationError
 done c (Put position) location content t = put_done c position (spot_path location) content t
 done c (NewAttr name) location content t = attr_done c name (spot_path location) content t
 done c Replace location content t = replace_done c location content t
@@ -327,20 +377,26 @@ done c (Remove before after) location content t = remove_done before after locat
 
 -- the prefix of a new attribute's name is bound at the operation
 abbrev pub is_bound_type : List (List Decl) → PatchAction → Bool
-is_bound_type c (NewAttr name) = bytes_eq name.prefix [] || is_some (prefix_uri (bindings_in c) name.prefix)
+is_bound_type c (NewAttr name) =
+    bytes_eq name.prefix [] || is_some (prefix_uri (bindings_in c) name.prefix)
 is_bound_type c _ = true
 
 -- an operation in the scope c: the tree after it, or the first thing that is wrong with it; `read`
 -- gives the meaning of its selector
-abbrev pub apply_operation : (List ℕ → Option Reading) → List (List Decl) → Tree → Tree → Result Tree OperationError
+abbrev pub apply_operation : (List ℕ → Option Reading) → List (List Decl) → Tree → Tree
+    → Result Tree OperationError
 apply_operation read c o t =
     let here = c ++ o.decls ∷ [] in
     given (plain_value (codes "sel") o.attrs) Directive (λ sel.
-    tested (list_all is_known o.attrs) Directive (
-    given (option_and_then (λ w. task_of w (plain_value (codes "pos") o.attrs) (plain_value (codes "type") o.attrs) (plain_value (codes "ws") o.attrs)) (operation_word o.name.local)) Directive (λ task.
+    tested (list_all is_known o.attrs) Directive
+    (given (option_and_then (λ w.
+    task_of w (plain_value (codes "pos") o.attrs) (plain_value (codes "type") o.attrs)
+    (plain_value (codes "ws") o.attrs))
+    (operation_word o.name.local))
+    Directive (λ task.
     given (read sel) Directive (λ selector.
-    tested (suits task selector.ends) Directive (
-    given (selector.means here) Prefix (λ s.
-    tested (is_bound_type here task) Prefix (
-    given (locate s t) Unlocated (λ location.
+    tested (suits task selector.ends) Directive
+    (given (selector.means here) Prefix (λ s.
+    tested (is_bound_type here task) Prefix
+    (given (locate s t) Unlocated (λ location.
     done here task location o.content t))))))))

@@ -1,12 +1,13 @@
 -- The trees, change records and scopes that the laws of diff documents are about.
 use Rattle.std.specs.Prelude.{◌≡◌, ◌≢◌, ℕ, IsSome, ◌<◌, ◌≤◌, List, [], ◌∷◌, length}
 use Rattle.std.specs.List.{AllByRecursion}
-use Rattle.xml_tree.specs.Limits.{max_levels}
-use Rattle.xml_tree.specs.Print.{byte_len, print}
+use Rattle.xml_names.specs.Limits.{max_levels}
+use Rattle.xml_names.specs.Markup.{byte_len}
+use Rattle.xml_tree.specs.Print.{print}
 use Rattle.xml_tree.specs.Proper.{ProperIn}
-use Rattle.xml_tree.specs.Scopes.{bound}
+use Rattle.xml_names.specs.Scopes.{bound}
 use Rattle.xml_tree.specs.Tree.{Tree, height}
-use Rattle.xml_tree.specs.declared.names.Decl.{Decl}
+use Rattle.xml_names.specs.declared.names.Decl.{Decl}
 use Rattle.node_select.specs.Grammar.{greatest_position}
 use Rattle.edit_ops.specs.Changes.{edited}
 use Rattle.edit_ops.specs.Notes.{Note}

@@ -1,12 +1,14 @@
 -- What a diff document makes of a replica, or the first fault. RFC 5874, section 3, as far as it
 -- is implemented here.
-use Rattle.std.specs.Prelude.{◌≡◌, ℕ, suc, ◌+◌, Bool, false, ◌&&◌, ◌||◌, codes, List, [], ◌∷◌, ◌++◌, length, filter, Option, None, Some, is_some, unwrap_or, Result, Ok, Err, if◌then◌else◌}
+use Rattle.std.specs.Prelude.{◌≡◌, ℕ, suc, ◌+◌, Bool, false, ◌&&◌, ◌||◌, codes, List, [], ◌∷◌, ◌++◌}
+use Rattle.std.specs.Prelude.{length, filter, Option, None, Some, is_some, unwrap_or, Result, Ok}
+use Rattle.std.specs.Prelude.{Err, if◌then◌else◌}
 use Rattle.std.specs.List.{list_all}
 use Rattle.std.specs.Option.{option_map_or}
 use Rattle.std.specs.Str.{bytes_eq}
-use Rattle.xml_tree.specs.Expanded.{element_name}
+use Rattle.xml_names.specs.Expanded.{element_name}
 use Rattle.xml_tree.specs.Tree.{Tree, child_elements_of}
-use Rattle.xml_tree.specs.declared.names.Decl.{Decl}
+use Rattle.xml_names.specs.declared.names.Decl.{Decl}
 use Rattle.node_select.specs.Names.{is_named_so, uri_of}
 use Rattle.patch_rules.specs.PatchOperations.{OperationError, apply_operation, plain_value}
 use Rattle.patch_rules.specs.Notices.{diff_uri}
@@ -25,13 +27,17 @@ is_in_diff_namespace c e = bytes_eq (uri_of (element_name (c ++ e.decls ∷ []) 
 -- the documents of a diff document, and the operations of a document; other elements, texts and
 -- comments are ignored
 abbrev pub documents : Tree → List Tree
-documents notice = filter (has_diff_name (notice.decls ∷ []) (codes "document")) (child_elements_of notice)
+documents notice =
+    filter (has_diff_name (notice.decls ∷ []) (codes "document")) (child_elements_of notice)
 
 abbrev pub operations_in : List (List Decl) → Tree → List Tree
-operations_in c document = filter (is_in_diff_namespace (c ++ document.decls ∷ [])) (child_elements_of document)
+operations_in c document =
+    filter (is_in_diff_namespace (c ++ document.decls ∷ [])) (child_elements_of document)
 
 abbrev pub is_operation : List (List Decl) → Tree → Bool
-is_operation c e = has_diff_name c (codes "add") e || (has_diff_name c (codes "replace") e || has_diff_name c (codes "remove") e)
+is_operation c e =
+    has_diff_name c (codes "add") e
+    || (has_diff_name c (codes "replace") e || has_diff_name c (codes "remove") e)
 
 -- one `body-not-changed` and nothing else
 abbrev pub is_body_unchanged : List (List Decl) → List Tree → Bool
@@ -43,12 +49,17 @@ is_body_unchanged c (o ∷ p ∷ os) = false
 abbrev pub is_document : List (List Decl) → Tree → Bool
 is_document c d =
     let os = operations_in c d in
-    is_some (plain_value (codes "sel") d.attrs) && ((is_some (plain_value (codes "new-etag") d.attrs) || is_some (plain_value (codes "previous-etag") d.attrs))
+    is_some (plain_value (codes "sel") d.attrs)
+    && ((is_some (plain_value (codes "new-etag") d.attrs)
+    || is_some (plain_value (codes "previous-etag") d.attrs))
     && (is_body_unchanged (c ++ d.decls ∷ []) os || list_all (is_operation (c ++ d.decls ∷ [])) os))
 
 -- a tree is a diff document
 abbrev pub is_notice : Tree → Bool
-is_notice t = has_diff_name [] (codes "xcap-diff") t && (is_some (plain_value (codes "xcap-root") t.attrs) && list_all (is_document (t.decls ∷ [])) (documents t))
+is_notice t =
+    has_diff_name [] (codes "xcap-diff") t
+    && (is_some (plain_value (codes "xcap-root") t.attrs)
+    && list_all (is_document (t.decls ∷ [])) (documents t))
 
 -- ---- the contents of a replica, the answer of a diff document, and its faults
 
@@ -76,7 +87,8 @@ abbrev pub numbered : {A : Type 0} → ℕ → Result A OperationError → Resul
 numbered n (Ok x) = Ok x
 numbered n (Err w) = Err (AtOperation (suc n) w)
 
-abbrev pub then_next : {A B : Type 0} → Result A CopyFault → (A → Result B CopyFault) → Result B CopyFault
+abbrev pub then_next : {A B : Type 0} → Result A CopyFault → (A → Result B CopyFault)
+    → Result B CopyFault
 then_next (Ok x) k = k x
 then_next (Err f) k = Err f
 
@@ -93,7 +105,9 @@ held_tag (Some h) = Some h.0
 
 -- the number of a document's operations, where `body-not-changed` is none
 abbrev pub operation_count : List (List Decl) → Tree → ℕ
-operation_count c d = if is_body_unchanged (c ++ d.decls ∷ []) (operations_in c d) then 0 else length (operations_in c d)
+operation_count c d =
+    if is_body_unchanged (c ++ d.decls ∷ []) (operations_in c d) then 0
+    else length (operations_in c d)
 
 -- the last new tag among documents
 abbrev pub last_new : List ℕ → List Tree → List ℕ
@@ -102,20 +116,24 @@ last_new tag (d ∷ ds) = last_new (unwrap_or (plain_value (codes "new-etag") d.
 
 -- what all documents make of a replica: the first without its operations ends the reading, and
 -- then there is no new replica, since the old one stays
-abbrev pub unless_missing : DocumentOutcome → (ReplicaContents → Result (Option ReplicaContents) CopyFault) → Result (Option ReplicaContents) CopyFault
+abbrev pub unless_missing : DocumentOutcome
+    → (ReplicaContents → Result (Option ReplicaContents) CopyFault)
+    → Result (Option ReplicaContents) CopyFault
 unless_missing Missing k = Ok None
 unless_missing (Now held) k = k held
 
 -- ---- the whole diff document
 
-abbrev pub copy_answer : List Tree → ReplicaContents → Option ReplicaContents → CopyAnswer × ReplicaContents
+abbrev pub copy_answer : List Tree → ReplicaContents → Option ReplicaContents
+    → CopyAnswer × ReplicaContents
 copy_answer ds held None = (Fetch (last_new [] ds), held)
 copy_answer [] held (Some new) = (Same, new)
 copy_answer (d ∷ ds) held (Some new) = (if is_some new then Patched else Removed, new)
 
 -- whether each document is the replica's
 abbrev pub is_all_mine : (List ℕ → Bool) → List Tree → Bool
-is_all_mine is_mine ds = list_all (λ d. is_mine (unwrap_or (plain_value (codes "sel") d.attrs) [])) ds
+is_all_mine is_mine ds =
+    list_all (λ d. is_mine (unwrap_or (plain_value (codes "sel") d.attrs) [])) ds
 
 -- ---- what operations, documents and diff documents make, where `read` gives the meaning of
 -- selectors
@@ -123,43 +141,59 @@ is_all_mine is_mine ds = list_all (λ d. is_mine (unwrap_or (plain_value (codes 
 module _ (read : List ℕ → Option Reading) where
   abbrev pub all_applied : ℕ → List (List Decl) → List Tree → Tree → Result Tree CopyFault
   all_applied n c [] t = Ok t
-  all_applied n c (o ∷ os) t = then_next (numbered n (apply_operation read c o t)) (all_applied (suc n) c os)
+  all_applied n c (o ∷ os) t =
+      then_next (numbered n (apply_operation read c o t)) (all_applied (suc n) c os)
 
   -- the document with the new tag: by its operations, with the same body, or unknown
-  abbrev pub change_outcome : ℕ → List (List Decl) → List Tree → List ℕ → ReplicaContents → Result DocumentOutcome CopyFault
+  abbrev pub change_outcome : ℕ → List (List Decl) → List Tree → List ℕ → ReplicaContents
+      → Result DocumentOutcome CopyFault
   change_outcome n c os tag None = Ok Missing
   change_outcome n c [] tag (Some h) = Ok Missing
   change_outcome n c (o ∷ os) tag (Some h) =
-      if is_body_unchanged c (o ∷ os) then Ok (Now (Some (tag, h.1))) else then_next (all_applied n c (o ∷ os) h.1) (λ t. Ok (Now (Some (tag, t))))
+      if is_body_unchanged c (o ∷ os) then Ok (Now (Some (tag, h.1)))
+      else then_next (all_applied n c (o ∷ os) h.1) (λ t. Ok (Now (Some (tag, t))))
 
   -- a document with a new tag; without one the replica is empty afterwards, and its operations
   -- aren't looked at
-  abbrev pub renewed_copy : ℕ → List (List Decl) → List Tree → Option (List ℕ) → ReplicaContents → Result DocumentOutcome CopyFault
+  abbrev pub renewed_copy : ℕ → List (List Decl) → List Tree → Option (List ℕ) → ReplicaContents
+      → Result DocumentOutcome CopyFault
   renewed_copy n c os None held = Ok (Now None)
   renewed_copy n c os (Some tag) held = change_outcome n c os tag held
 
   -- the previous tag is the replica's; without it the change is unknown
-  abbrev pub by_tags : ℕ → List (List Decl) → List Tree → Option (List ℕ) → Option (List ℕ) → ReplicaContents → Result DocumentOutcome CopyFault
+  abbrev pub by_tags : ℕ → List (List Decl) → List Tree → Option (List ℕ) → Option (List ℕ)
+      → ReplicaContents → Result DocumentOutcome CopyFault
   by_tags n c os None new held = Ok Missing
   by_tags n c os (Some previous) new held =
-      if option_map_or (bytes_eq previous) (held_tag held) false then renewed_copy n c os new held else Err (WrongTag (held_tag held) previous)
+      if option_map_or (bytes_eq previous) (held_tag held) false then renewed_copy n c os new held
+      else Err (WrongTag (held_tag held) previous)
 
-  abbrev pub document_taken : ℕ → List (List Decl) → Tree → ReplicaContents → Result DocumentOutcome CopyFault
+  abbrev pub document_taken : ℕ → List (List Decl) → Tree → ReplicaContents
+      → Result DocumentOutcome CopyFault
   document_taken n c d held =
-      by_tags n (c ++ d.decls ∷ []) (operations_in c d) (plain_value (codes "previous-etag") d.attrs) (plain_value (codes "new-etag") d.attrs) held
+      by_tags n (c ++ d.decls ∷ []) (operations_in c d)
+      (plain_value (codes "previous-etag") d.attrs) (plain_value (codes "new-etag") d.attrs) held
 
-  abbrev pub all_taken : ℕ → List (List Decl) → List Tree → ReplicaContents → Result (Option ReplicaContents) CopyFault
+  abbrev pub all_taken : ℕ → List (List Decl) → List Tree → ReplicaContents
+      → Result (Option ReplicaContents) CopyFault
   all_taken n c [] held = Ok (Some held)
-  all_taken n c (d ∷ ds) held = then_next (document_taken n c d held) (λ now. unless_missing now (all_taken (n + operation_count c d) c ds))
+  all_taken n c (d ∷ ds) held =
+      then_next (document_taken n c d held) (λ now.
+      unless_missing now (all_taken (n + operation_count c d) c ds))
 
   -- the answer and the replica afterwards, or the first fault; `is_mine` decides whether a printed
   -- name is the name of the replica's document
-  abbrev pub replayed : (List ℕ → Bool) → Tree → ReplicaContents → Result (CopyAnswer × ReplicaContents) CopyFault
+  abbrev pub replayed : (List ℕ → Bool) → Tree → ReplicaContents
+      → Result (CopyAnswer × ReplicaContents) CopyFault
   replayed is_mine notice held =
       if is_all_mine is_mine (documents notice)
-      then then_next (all_taken 0 (notice.decls ∷ []) (documents notice) held) (λ end. Ok (copy_answer (documents notice) held end))
+      then then_next (all_taken 0 (notice.decls ∷ []) (documents notice) held) (λ end.
+      Ok (copy_answer (documents notice) held end))
       else Err WrongDocument
 
 -- what the diff document makes of the replica, with its selectors read as the grammar says
-abbrev pub Replays : (List ℕ → Bool) → Tree → ReplicaContents → Result (CopyAnswer × ReplicaContents) CopyFault → Type 0
-Replays is_mine notice held outcome = (read : List ℕ → Option Reading) × AreReadings read × (outcome ≡ replayed read is_mine notice held)
+abbrev pub Replays : (List ℕ → Bool) → Tree → ReplicaContents
+    → Result (CopyAnswer × ReplicaContents) CopyFault → Type 0
+Replays is_mine notice held outcome =
+    (read : List ℕ → Option Reading) × AreReadings read
+    × (outcome ≡ replayed read is_mine notice held)

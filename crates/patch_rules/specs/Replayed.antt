@@ -1,9 +1,10 @@
 -- What the laws say of diff documents and of replicas.
-use Rattle.std.specs.Prelude.{◌≡◌, ◌≢◌, ℕ, true, false, encode_utf8_all, Ok, None, Some, List, [], ◌∷◌}
+use Rattle.std.specs.Prelude.{◌≡◌, ◌≢◌, ℕ, true, false, encode_utf8_all, Ok, None, Some, List, []}
+use Rattle.std.specs.Prelude.{◌∷◌}
 use Rattle.std.specs.List.{AllByRecursion}
 use Rattle.std.specs.Str.{bytes_eq}
 use Rattle.xml_tree.specs.Proper.{ProperIn}
-use Rattle.xml_tree.specs.Scopes.{xml_prefix}
+use Rattle.xml_names.specs.Scopes.{xml_prefix}
 use Rattle.xml_tree.specs.Tree.{Tree}
 use Rattle.tree_text.specs.Faults.{TextAnswer}
 use Rattle.xml_tree.specs.Print.{document_print}

@@ -2,7 +2,7 @@
 -- selectors. RFC 5261, section 4.1.
 use Rattle.std.specs.Prelude.{◌≡◌, ℕ, List, Option, None, Some, option_and_then, Result, Ok, Err}
 use Rattle.xml_tree.specs.Tree.{Tree}
-use Rattle.xml_tree.specs.declared.names.Decl.{Decl}
+use Rattle.xml_names.specs.declared.names.Decl.{Decl}
 use Rattle.node_select.specs.declared.fault.SelectorFault.{SelectorFault}
 use Rattle.node_select.specs.declared.fault.SelectorFault.TheVariants.{BadSelector, UnboundPrefix}
 use Rattle.node_select.specs.declared.selector.PatchSelector.{PatchSelector}
@@ -12,11 +12,13 @@ use Rattle.patch_rules.specs.readers.Applied.{reading_in}
 
 -- what a text selects in a tree, as the selector of an operation in the scope
 abbrev pub selected_by : List (List Decl) → List ℕ → Tree → Option Location
-selected_by c sel t = option_and_then (λ s. locate s t) (option_and_then (λ r. r.means c) (reading_in sel))
+selected_by c sel t =
+    option_and_then (λ s. locate s t) (option_and_then (λ r. r.means c) (reading_in sel))
 
 -- a text is read as this answer says: there is no reading where it is no selector, and the reading
 -- has no meaning where a prefix isn't bound
 abbrev pub IsTakenAs : List (List Decl) → List ℕ → Result PatchSelector SelectorFault → Type 0
 IsTakenAs c sel (Ok s) = (r : Reading) × (reading_in sel ≡ Some r) × (r.means c ≡ Some s)
 IsTakenAs c sel (Err (BadSelector place)) = reading_in sel ≡ None
-IsTakenAs c sel (Err (UnboundPrefix place)) = (r : Reading) × (reading_in sel ≡ Some r) × (r.means c ≡ None)
+IsTakenAs c sel (Err (UnboundPrefix place)) =
+    (r : Reading) × (reading_in sel ≡ Some r) × (r.means c ≡ None)

@@ -1,9 +1,10 @@
 -- The reading of a text as the selector of an operation, by the grammar of patch selectors. RFC
 -- 5261, section 4.1.
-use Rattle.std.specs.Prelude.{◌≡◌, ℕ, true, List, [], Option, None, Some, unwrap_or, Result, Ok, Err, encode_utf8_all}
-use Rattle.xml_tree.specs.Characters.{all_chars}
-use Rattle.xml_tree.specs.Scopes.{bindings_in, bound}
-use Rattle.xml_tree.specs.declared.names.Decl.{Decl}
+use Rattle.std.specs.Prelude.{◌≡◌, ℕ, true, List, [], Option, None, Some, unwrap_or, Result, Ok}
+use Rattle.std.specs.Prelude.{Err, encode_utf8_all}
+use Rattle.xml_names.specs.Characters.{all_chars}
+use Rattle.xml_names.specs.Scopes.{bindings_in, bound}
+use Rattle.xml_names.specs.declared.names.Decl.{Decl}
 use Rattle.node_select.specs.Faults.{IsPatchFormAnswer, IsPatchSelectorAnswer}
 use Rattle.node_select.specs.declared.fault.SelectorFault.{SelectorFault}
 use Rattle.node_select.specs.declared.selector.PatchForm.{PatchForm}
@@ -27,8 +28,10 @@ abbrev pub IsReading : List ℕ → Option Reading → Type 0
 IsReading sel None = IsPatchFormAnswer (encode_utf8_all sel) None
 IsReading sel (Some reading) =
     IsPatchFormAnswer (encode_utf8_all sel) (Some reading.ends)
-    × ((c : List (List Decl)) → (answer : Result PatchSelector SelectorFault)
-    × IsPatchSelectorAnswer (bindings_in c) (unwrap_or (bound c []) []) (encode_utf8_all sel) answer × (reading.means c ≡ selector_in answer))
+    × ((c : List (List Decl))
+    → (answer : Result PatchSelector SelectorFault)
+    × IsPatchSelectorAnswer (bindings_in c) (unwrap_or (bound c []) []) (encode_utf8_all sel) answer
+    × (reading.means c ≡ selector_in answer))
 
 -- the function gives the reading of each text of Chars
 abbrev pub AreReadings : (List ℕ → Option Reading) → Type 0

@@ -1,17 +1,19 @@
 //! Laws of diff documents, from the text of a path to a whole document; each is the contract of a
 //! function that does nothing.
-ghost use Rattle.std.specs.Prelude.{◌≡◌, ◌≢◌, ℕ, ◌<◌, ◌^◌, Bool, true, List, [], ◌∷◌, Option, Some, None, IsSome, Ok, Result, decimal, encode_utf8_all, unwrap_or};
-ghost use Rattle.xml_tree.specs.Attributes.{is_written_so};
+ghost use Rattle.std.specs.Prelude.{◌≡◌, ◌≢◌, ℕ, ◌<◌, ◌^◌, Bool, true, List, [], ◌∷◌, Option, Some};
+ghost use Rattle.std.specs.Prelude.{None, IsSome, Ok, Result, decimal, encode_utf8_all, unwrap_or};
+ghost use Rattle.xml_names.specs.Attributes.{is_written_so};
 ghost use Rattle.std.specs.List.{AllByRecursion};
-ghost use Rattle.xml_tree.specs.Characters.{all_chars};
+ghost use Rattle.xml_names.specs.Characters.{all_chars};
 ghost use Rattle.xml_tree.specs.Edits.{attr_at};
 ghost use Rattle.xml_tree.specs.PathTexts.{path_text};
 ghost use Rattle.xml_tree.specs.Proper.{ProperIn};
-ghost use Rattle.xml_tree.specs.Scopes.{bindings_in, bound, scope_at};
+ghost use Rattle.xml_names.specs.Scopes.{bindings_in, bound};
+ghost use Rattle.xml_tree.specs.TreeScopes.{scope_at};
 ghost use Rattle.xml_tree.specs.Tree.{Tree, at};
-ghost use Rattle.xml_tree.specs.declared.names.Attr.{Attr};
-ghost use Rattle.xml_tree.specs.declared.names.Decl.{Decl};
-ghost use Rattle.xml_tree.specs.declared.names.Name.{Name};
+ghost use Rattle.xml_names.specs.declared.names.Attr.{Attr};
+ghost use Rattle.xml_names.specs.declared.names.Decl.{Decl};
+ghost use Rattle.xml_names.specs.declared.names.Name.{Name};
 ghost use Rattle.edit_ops.specs.Changes.{Fits, edited};
 ghost use Rattle.edit_ops.specs.declared.change.Change.{Change};
 ghost use Rattle.node_select.specs.Faults.{IsPatchSelectorAnswer};
@@ -22,11 +24,14 @@ ghost use Rattle.edit_ops.specs.Operations.{attr_path_text, operation};
 ghost use Rattle.patch_rules.specs.PatchOperations as words;
 ghost use Rattle.patch_rules.specs.PatchOperations.{AtAttr, AtElement};
 ghost use Rattle.patch_rules.specs.readers.Applied.{apply_operation, reading_in};
-ghost use Rattle.patch_rules.specs.Notices.{aggregate_notice, declarations, gone_notice, operations, patching_notice, prefix_for, tags_notice};
-ghost use Rattle.patch_rules.specs.Replay.{CopyAnswer, CopyFault, Fetch, ReplicaContents, Removed, Replays, Same};
+ghost use Rattle.patch_rules.specs.Notices.{aggregate_notice, declarations, gone_notice};
+ghost use Rattle.patch_rules.specs.Notices.{operations, patching_notice, prefix_for, tags_notice};
+ghost use Rattle.patch_rules.specs.Replay.{CopyAnswer, CopyFault, Fetch, ReplicaContents, Removed};
+ghost use Rattle.patch_rules.specs.Replay.{Replays, Same};
 ghost use Rattle.patch_rules.specs.Selectors.{AreReadings, Reading};
 ghost use Rattle.patch_rules.specs.readers.Replay.{all_applied, replayed};
-ghost use Rattle.patch_rules.specs.Premises.{AreFew, ArePositions, AreTold, IsSound, IsTold, Meets, around_operations};
+ghost use Rattle.patch_rules.specs.Premises.{AreFew, ArePositions, AreTold, IsSound, IsTold, Meets};
+ghost use Rattle.patch_rules.specs.Premises.{around_operations};
 ghost use Rattle.patch_rules.specs.Replayed.{HoldsSound, IsPrefixFor, IsReadBack, answer_for};
 ghost use Rattle.patch_rules.specs.SelectedNodes.{IsTakenAs, selected_by};
 

@@ -2,11 +2,11 @@
 use Rattle.std.proofs.Common.{◌≡◌, ℕ, true, false, List, [], ◌∷◌, ◌++◌, codes, refl, ap, ◌∙◌}
 use Rattle.xml_tree.specs.Tree.{Tree}
 use Rattle.xml_tree.specs.Edits.{with_elem}
-use Rattle.xml_tree.specs.Expanded.{name_of as in_diff}
+use Rattle.xml_names.specs.Expanded.{name_of as in_diff}
 use Rattle.edit_ops.specs.Notes.{Note, tag_after}
 use Rattle.edit_ops.specs.Operations.{plain_attr as plain}
 use Rattle.patch_rules.specs.Notices.{all_at_once, diff, diff_uri, document, operations, prefix_for, tags_alone}
-use Rattle.patch_write.specs.inner.Lists.{is_none, with_all}
+use Rattle.patch_rules.specs.inner.Lists.{is_none, with_all}
 use Rattle.patch_write.specs.Modes.{notice_of}
 use Rattle.patch_write.specs.inner.Modes.{documents_of, told_notes}
 use Rattle.xcap_uri.specs.declared.target.Mode.{Mode}

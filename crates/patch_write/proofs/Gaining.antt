@@ -11,7 +11,7 @@ use Rattle.std.specs.Set.{is_member}
 use Rattle.xml_tree.specs.Tree.{Content, last, more, comment_node}
 use Rattle.xml_tree.specs.Edits.{with_text_before}
 use Rattle.xml_tree.specs.Nodes.{content_of}
-use Rattle.xml_tree.specs.declared.names.Decl.{Decl}
+use Rattle.xml_names.specs.declared.names.Decl.{Decl}
 use Rattle.xml_tree.specs.declared.tree.Node.{Node}
 use Rattle.xml_tree.specs.declared.tree.Node.TheVariants.{Elem, Chars, Comment}
 use Rattle.patch_rules.specs.inner.Declaring.{prefixes, prefixes_in}

@@ -1,6 +1,4 @@
 pub mod Built
-pub mod BuiltElements
-pub mod ElementWords
 pub mod FreePrefix
 pub mod Gaining
 pub mod Listing

@@ -1,15 +1,14 @@
 -- Elements put one after another are listed.
-use Rattle.std.proofs.Common.{◌≡◌, ℕ, ◌+◌, ◌-◌, ◌<◌, Bool, true, false, ◌==◌, suc, List, [], ◌∷◌, ◌++◌, map, length, take, get_or, slice_get, Some, refl, subst, sym, ap, ◌∙◌, append_assoc, append-nil, arith}
-use Rattle.std.proofs.lemmas.Bool.Decides.{nat_tests}
+use Rattle.std.proofs.Common.{◌≡◌, ℕ, ◌+◌, ◌-◌, ◌<◌, suc, List, [], ◌∷◌, ◌++◌, map, length, take, get_or, slice_get, Some, refl, subst, sym, ap, ◌∙◌, append_assoc, append-nil, arith}
 use Rattle.std.proofs.lemmas.List.{map-append, take_more}
 use Rattle.xml_tree.specs.Edits.{with_elem}
 use Rattle.xml_tree.specs.Tree.{Content, Tree, last, more_of, tree_of, of_children as listed}
-use Rattle.xml_tree.specs.declared.names.Name.{Name}
-use Rattle.xml_tree.specs.declared.names.Decl.{Decl}
-use Rattle.xml_tree.specs.declared.names.Attr.{Attr}
+use Rattle.xml_names.specs.declared.names.Name.{Name}
+use Rattle.xml_names.specs.declared.names.Decl.{Decl}
+use Rattle.xml_names.specs.declared.names.Attr.{Attr}
 use Rattle.edit_ops.specs.Notes.{Note, tag_after}
 use Rattle.edit_ops.specs.Recorded.{all_notes as joined}
-use Rattle.patch_write.specs.inner.Lists.{is_none, with_all}
+use Rattle.patch_rules.specs.inner.Lists.{with_all}
 
 pub all-append : (xs ys : List Tree) (t : Tree) → with_all (xs ++ ys) t ≡ with_all ys (with_all xs t)
 all-append [] ys t = refl
@@ -55,19 +54,6 @@ last-tag from (x ∷ []) n h =
 last-tag from (x ∷ y ∷ ns) n h =
     let e : length (x ∷ y ∷ ns) - 1 ≡ suc (length (y ∷ ns) - 1) = omega arith in
     last-tag x.next (y ∷ ns) n (subst (λ (k : ℕ). slice_get (x ∷ y ∷ ns) k ≡ Some n) e h)
-
-positive : (k : ℕ) → (suc k == 0) ≡ false
-positive k = grind (arith, nat_tests)
-
--- no change records, by the lengths of both slices
-pub some-older : (older newer : List Note) (a : Bool) → a ≡ (length older == 0) → a ≡ false → a ≡ is_none (joined older newer)
-some-older [] newer a is f = let both : true ≡ false = sym is ∙ f in cc
-some-older (n ∷ older) newer a is f = f
-
-pub none-older : (older newer : List Note) (a b : Bool) → a ≡ (length older == 0) → a ≡ true → b ≡ (length newer == 0) → b ≡ is_none (joined older newer)
-none-older [] [] a b is t also = also
-none-older [] (n ∷ newer) a b is t also = also ∙ positive (length newer)
-none-older (n ∷ older) newer a b is t also = let both : false ≡ true = sym (is ∙ positive (length older)) ∙ t in cc
 
 -- all operations, added from two slices
 pub two-put : (tell : Note → Tree) (n : Name) (ds : List Decl) (ats : List Attr) (older newer : List Note) (first some all : Tree) → first ≡ tree_of n ds ats (last [])

@@ -1,8 +1,8 @@
 -- Names as they are written, with a prefix or without.
 use Rattle.std.proofs.Common.{◌≡◌, ℕ, if◌then◌else◌, Bool, true, false, List, [], ◌∷◌, ◌++◌, bytes_eq, refl, sym, ap, ◌∙◌, append_assoc}
 use Rattle.std.specs.Cmp.Lexicographic.{bytes_decides}
-use Rattle.xml_tree.specs.Print.{print_name}
-use Rattle.xml_tree.specs.declared.names.Name.{Name}
+use Rattle.xml_names.specs.Markup.{print_name}
+use Rattle.xml_names.specs.declared.names.Name.{Name}
 
 pub bare_name : (n : Name) → n.prefix ≡ [] → print_name n ≡ n.local
 bare_name n none = ap (λ (b : Bool). if b then n.local else (n.prefix ++ 58 ∷ n.local)) ((bytes_decides n.prefix []).1 none)

@@ -1,14 +1,7 @@
 -- Texts of the code, read as characters.
-use Rattle.std.proofs.Common.{◌≡◌, [], codes, refl}
+use Rattle.std.proofs.Common.{◌≡◌, codes, refl}
 use Rattle.std.specs.Str.{chars}
-
-pub nothing : chars [] ≡ []
-unfolding chars
-nothing = refl
-
-pub sel : chars (codes "sel") ≡ codes "sel"
-unfolding chars
-sel = refl
+use Rattle.patch_rules.proofs.Words.{nothing, sel, letter}
 
 pub pos : chars (codes "pos") ≡ codes "pos"
 unfolding chars
@@ -42,14 +35,6 @@ pub document : chars (codes "document") ≡ codes "document"
 unfolding chars
 document = refl
 
-pub diff : chars (codes "xcap-diff") ≡ codes "xcap-diff"
-unfolding chars
-diff = refl
-
-pub root : chars (codes "xcap-root") ≡ codes "xcap-root"
-unfolding chars
-root = refl
-
 pub next_tag : chars (codes "new-etag") ≡ codes "new-etag"
 unfolding chars
 next_tag = refl
@@ -57,10 +42,6 @@ next_tag = refl
 pub former_tag : chars (codes "previous-etag") ≡ codes "previous-etag"
 unfolding chars
 former_tag = refl
-
-pub uri : chars (codes "urn:ietf:params:xml:ns:xcap-diff") ≡ codes "urn:ietf:params:xml:ns:xcap-diff"
-unfolding chars
-uri = refl
 
 pub at_sign : chars (codes "@") ≡ codes "@"
 unfolding chars
@@ -70,12 +51,8 @@ pub behind_slash : chars (codes "/@") ≡ codes "/@"
 unfolding chars
 behind_slash = refl
 
-pub letter : chars (codes "d") ≡ codes "d"
-unfolding chars
-letter = refl
-
 pub empty_end : chars (codes "/>") ≡ codes "/>"
 unfolding chars
 empty_end = refl
 
-pub ruleset words = (nothing, sel, pos, type_word, prepend, after, add, replace, remove, document, diff, root, next_tag, former_tag, uri, at_sign, behind_slash, letter, empty_end)
+pub ruleset words = (nothing, sel, pos, type_word, prepend, after, add, replace, remove, document, next_tag, former_tag, at_sign, behind_slash, letter, empty_end)

@@ -1,3 +1,2 @@
-pub mod Elements
 pub mod Modes
 pub mod inner

@@ -1,4 +1,3 @@
 -- What private functions and proofs use. No clause of a public call needs it.
 pub mod Declaring
-pub mod Lists
 pub mod Modes

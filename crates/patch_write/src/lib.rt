@@ -1,19 +1,15 @@
 //! Writes diff documents: what became of a document since a version of it, in each diff processing
-//! mode, and what became of a single element.
-//! Promises upward that a diff document's text is the print of its tree (`notice`, `gone_notice`,
-//! `notice_of_element`), and that its prefix is the first that nothing in it declares
-//! (`the_prefix_is_the_first_free`).
+//! mode.
+//! Promises upward that a diff document's text is the print of its tree (`notice`, `gone_notice`),
+//! and that its prefix is the first that nothing in it declares (`the_prefix_is_the_first_free`).
 //! The standards are RFC 5874 (xcap-diff), RFC 5261 (patch operations) and RFC 5875 (modes).
 #![tactic(auto)]
 
-mod diff_elements;
-mod element_states;
 mod laws;
 mod notices;
 mod operations;
 mod prefixes;
 
-pub use element_states::{ElementState, notice_of_element};
 pub use laws::the_prefix_is_the_first_free;
 pub use notices::{gone_notice, notice};
 pub use std::alloc::AllocError as NoMemory;

@@ -1,32 +1,32 @@
 //! Diff documents about whole documents (RFC 5874, section 3).
-ghost use Rattle.std.specs.Prelude.{◌≡◌, [], ◌∷◌, ◌++◌, IfOk, OnOk, chars, codes, decimal, false, encode_utf8_all};
+ghost use Rattle.std.specs.Prelude.{◌≡◌, [], ◌∷◌, ◌++◌, IfOk, OnOk, chars, codes, decimal, false};
+ghost use Rattle.std.specs.Prelude.{encode_utf8_all};
 ghost use Rattle.doc_names.specs.Ids.{id_text};
 ghost use Rattle.xml_tree.specs.Edits.{with_elem};
-ghost use Rattle.xml_tree.specs.Expanded.{name_of};
+ghost use Rattle.xml_names.specs.Expanded.{name_of};
 ghost use Rattle.xml_tree.specs.Print.{document_print};
-ghost use Rattle.xml_tree.specs.Scopes.{decl_of};
 ghost use Rattle.xml_tree.specs.Tree.{last, tree_of};
 ghost use Rattle.edit_ops.specs.Notes.{tag_after};
 ghost use Rattle.edit_ops.specs.Operations.{operation, plain_attr, sel_attr};
 ghost use Rattle.edit_ops.specs.Recorded.{all_notes};
-ghost use Rattle.patch_rules.specs.Notices.{all_at_once, candidate, diff, diff_uri, document, gone_notice, one_by_one, operations, prefix_for, removed_document, tags_alone};
+ghost use Rattle.patch_rules.specs.Notices.{all_at_once, candidate, diff, document, gone_notice};
+ghost use Rattle.patch_rules.specs.Notices.{one_by_one, operations, prefix_for, removed_document};
+ghost use Rattle.patch_rules.specs.Notices.{tags_alone};
 ghost use Rattle.patch_write.specs.Modes.{notice_of};
 ghost use Rattle.patch_write.specs.inner.Modes.{documents_of, told_notes};
-ghost use Rattle.patch_write.specs.inner.Lists.{is_none, with_all};
+ghost use Rattle.patch_rules.specs.inner.Lists.{is_none, with_all};
 
-use crate::diff_elements::{element_of, push_plain, tag_text};
 use crate::operations::operation;
 use crate::prefixes::prefix_for;
 use doc_names::{DocId, print_doc_id};
 use edit_ops::{EditNote, Notes};
+use patch_rules::{element_of, empty_notice, push_plain};
 use std::alloc::{AllocError, Global};
 use tree_text::print_document;
 use xcap_io::Bytes;
 use xcap_uri::{Mode, Root};
-use xml_tree::{Decl, Element, Prefix, Text};
-
-// The namespace of diff documents (RFC 5874, section 7.2).
-const DIFF_URI: &str = "urn:ietf:params:xml:ns:xcap-diff";
+use xml_names::{Prefix, Text};
+use xml_tree::Element;
 
 // Names in a diff document: the prefix of its namespace, and the document's printed name.
 #[derive(Drop)]
@@ -76,10 +76,20 @@ fn document_element(alloc: Global, names: &Names) -> Result<Element, AllocError>
     Ok(made)
 }
 
+// The number of an etag, without quotes.
+pub(crate) fn tag_text(alloc: Global, tag: u64) -> Result<Text, AllocError>
+    ensures ok { IfOk result (λ text. text ≡ decimal tag) }
+{
+    let number = format!(in alloc; "{}", tag)?;
+    Ok(Text::own(number))
+}
+
 // Adds an etag as the attribute of this name.
 fn push_etag(alloc: Global, document: &mut Element, word: &str, tag: u64) -> Result<(), AllocError>
     ensures appended { OnOk result
-        (document.new ≡ record document.old { attrs = document.old.attrs ++ plain_attr (chars word.now) (decimal tag) ∷ [] }) }
+        (document.new ≡ record document.old {
+          attrs = document.old.attrs ++ plain_attr (chars word.now) (decimal tag) ∷ [];
+        }) }
 {
     push_plain(alloc, document, word, tag_text(alloc, tag)?)
 }
@@ -87,7 +97,11 @@ fn push_etag(alloc: Global, document: &mut Element, word: &str, tag: u64) -> Res
 // Adds the etags after and before the changes.
 fn push_both(alloc: Global, document: &mut Element, from: u64, to: u64) -> Result<(), AllocError>
     ensures appended { OnOk result
-        (document.new ≡ record document.old { attrs = (document.old.attrs ++ plain_attr (codes "new-etag") (decimal to) ∷ []) ++ plain_attr (codes "previous-etag") (decimal from) ∷ [] }) }
+        (document.new ≡ record document.old {
+          attrs =
+              (document.old.attrs ++ plain_attr (codes "new-etag") (decimal to) ∷ [])
+              ++ plain_attr (codes "previous-etag") (decimal from) ∷ [];
+        }) }
 {
     push_etag(alloc, document, "new-etag", to)?;
     push_etag(alloc, document, "previous-etag", from)
@@ -177,42 +191,6 @@ fn push_each(
 }
 
 // ---- the whole diff document
-
-// The address of the server's root, as a diff document has it.
-fn root_text(alloc: Global, root: &str) -> Result<Text, AllocError>
-    ensures ok { IfOk result (λ text. text ≡ chars root.now ++ codes "/") }
-{
-    let mut text = Text::from(alloc, root)?;
-    text.push('/')?;
-    Ok(text)
-}
-
-// Declares the namespace of diff documents, and names the server's root.
-fn begin(alloc: Global, notice: &mut Element, prefix: &Prefix, root: &str) -> Result<(), AllocError>
-    ensures declares_and_names { OnOk result (notice.new ≡ record notice.old {
-      decls = notice.old.decls ++ decl_of prefix.now diff_uri ∷ [];
-      attrs = notice.old.attrs ++ plain_attr (codes "xcap-root") (chars root.now ++ codes "/") ∷ [];
-    }) }
-{
-    let prefix = prefix.copy(alloc)?;
-    let uri = Text::from(alloc, DIFF_URI)?;
-    notice.push_decl(Decl { prefix, uri })?;
-    push_plain(alloc, notice, "xcap-root", root_text(alloc, root)?)
-}
-
-// A diff document without `document` elements, under the server's root.
-pub(crate) fn empty_notice(
-    alloc: Global,
-    prefix: &Prefix,
-    root: &str,
-) -> Result<Element, AllocError>
-    ensures notice_without_documents { IfOk result
-        (λ made. made ≡ diff prefix.now (chars root.now) []) }
-{
-    let mut made = element_of(alloc, prefix, "xcap-diff")?;
-    begin(alloc, &mut made, prefix, root)?;
-    Ok(made)
-}
 
 // Whether there are no change records.
 fn are_none(notes: Notes<'_>) -> bool
@@ -401,7 +379,10 @@ fn push_removed(
     from: u64,
 ) -> Result<(), AllocError>
     ensures ok { OnOk result
-        (notice.new ≡ record notice.old { content = with_elem (removed_document names.now.prefix names.now.sel from) notice.old.content }) }
+        (notice.new ≡ record notice.old {
+          content =
+              with_elem (removed_document names.now.prefix names.now.sel from) notice.old.content;
+        }) }
 {
     let gone = removal_element(alloc, names, from)?;
     notice.push_elem(gone)

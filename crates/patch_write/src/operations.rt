@@ -3,14 +3,16 @@ ghost use Rattle.std.specs.Prelude.{◌≡◌, [], ◌∷◌, ◌++◌, IfOk, On
 ghost use Rattle.edit_ops.specs.declared.change.Change.TheVariants as change;
 ghost use Rattle.xml_tree.specs.Edits.{with_elem};
 ghost use Rattle.xml_tree.specs.PathTexts.{path_text};
-ghost use Rattle.xml_tree.specs.Print.{print_name};
+ghost use Rattle.xml_names.specs.Markup.{print_name};
 ghost use Rattle.xml_tree.specs.Tree.{last};
-ghost use Rattle.edit_ops.specs.Operations.{attr_name_text, attr_path_text, gap_attrs, operation, operation_of, plain_attr, sel_attr, change_operation};
+ghost use Rattle.edit_ops.specs.Operations.{attr_name_text, attr_path_text, gap_attrs, operation};
+ghost use Rattle.edit_ops.specs.Operations.{operation_of, plain_attr, sel_attr, change_operation};
 
-use crate::diff_elements::{element_of, push_plain};
 use edit_ops::{Change, EditNote};
+use patch_rules::{element_of, push_plain};
 use std::alloc::{AllocError, Global};
-use xml_tree::{Decl, Element, Name, Path, Prefix, Text, copy_tree, print_path};
+use xml_names::{Decl, Name, Prefix, Text};
+use xml_tree::{Element, Path, copy_tree, print_path};
 
 // ---- the selector of an operation
 
@@ -293,7 +295,8 @@ fn change_operation(
     fresh: bool,
     change: &Change,
 ) -> Result<Element, AllocError>
-    ensures ok { IfOk result (λ made. made ≡ change_operation prefix.now bindings.now fresh change.now) }
+    ensures ok { IfOk result (λ made.
+        made ≡ change_operation prefix.now bindings.now fresh change.now) }
 {
     match change {
         Change::CreateDocument { .. } => bare(alloc, prefix, bindings, "remove"),

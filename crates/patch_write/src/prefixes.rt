@@ -6,12 +6,14 @@ ghost use Rattle.std.specs.Set.{is_member};
 ghost use Rattle.std.specs.Str.{bytes_eq};
 ghost use Rattle.patch_rules.specs.Notices.{candidate, first_free, prefix_for};
 ghost use Rattle.patch_rules.specs.inner.Declaring.{prefixes, prefixes_in};
-ghost use Rattle.patch_write.specs.inner.Declaring.{Gains, Holds, prefixes_at, prefixes_put, prefixes_of_record};
+ghost use Rattle.patch_write.specs.inner.Declaring.{Gains, Holds, prefixes_at, prefixes_put};
+ghost use Rattle.patch_write.specs.inner.Declaring.{prefixes_of_record};
 
 use edit_ops::{Change, EditNote, Notes};
 use std::alloc::{AllocError, Global};
 use std::collections::BTreeSet;
-use xml_tree::{Decl, Element, Node, Prefix};
+use xml_names::{Decl, Prefix};
+use xml_tree::{Element, Node};
 
 // ---- declared prefixes
 

@@ -2,8 +2,9 @@
 use Rattle.std.proofs.Common.{◌≡◌, ℕ, List, [], ◌∷◌, ◌++◌, codes, encode_utf8_all, flat_map, refl, ap, sym, ◌∙◌, append_assoc, append-nil}
 use Rattle.std.proofs.lemmas.Str.{encodes-append}
 use lib.Utf8.{encode}
-use Rattle.xml_tree.specs.Print.{document_print, print, print_text, text_escape, value_escape}
-use Rattle.xml_tree.proofs.Escapes.{encode-text, encode-value}
+use Rattle.xml_names.specs.Markup.{print_text, text_escape, value_escape}
+use Rattle.xml_tree.specs.Print.{document_print, print}
+use Rattle.xml_names.proofs.Escapes.{encode-text, encode-value}
 use Rattle.reply_bodies.specs.declared.conflicts.ErrorBody.{ErrorBody}
 use Rattle.reply_bodies.specs.declared.conflicts.ErrorBody.TheVariants.{NotUtf8, NotWellFormed, NotXmlFrag, NotXmlAttValue, NoParent, Schema, CannotInsert, CannotDelete, Unique, Constraint}
 use Rattle.reply_bodies.specs.Conflicts.{IsNamed, conflict, conflict_root, conflict_bytes, child_bytes}

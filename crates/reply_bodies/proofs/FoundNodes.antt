@@ -4,9 +4,9 @@ use Rattle.tree_text.specs.Printing.{body_print}
 use Rattle.std.specs.List.{find, list_any}
 use Rattle.std.specs.Option.{option_and_then}
 use Rattle.xml_tree.specs.Tree.{Tree, at}
-use Rattle.xml_tree.specs.Scopes.{scope_at}
-use Rattle.xml_tree.specs.declared.names.Attr.{Attr}
-use Rattle.xml_tree.specs.declared.names.Decl.{Decl}
+use Rattle.xml_tree.specs.TreeScopes.{scope_at}
+use Rattle.xml_names.specs.declared.names.Attr.{Attr}
+use Rattle.xml_names.specs.declared.names.Decl.{Decl}
 use Rattle.node_select.specs.Selection.{Found, has_end, is_attr, selected_in}
 use Rattle.node_select.specs.declared.selector.End.{End}
 use Rattle.node_select.specs.declared.selector.End.TheVariants.{Element, Attribute, Namespaces}

@@ -4,8 +4,8 @@ use Rattle.std.proofs.lemmas.Bool.{false≢true}
 use Rattle.std.specs.List.{slice_get}
 use Rattle.std.specs.Option.{option_and_then, option_map}
 use Rattle.xml_tree.specs.Tree.{Tree, child_elements_of}
-use Rattle.xml_tree.specs.declared.names.Decl.{Decl}
-use Rattle.xml_tree.specs.Scopes.{inside}
+use Rattle.xml_names.specs.declared.names.Decl.{Decl}
+use Rattle.xml_tree.specs.TreeScopes.{inside}
 use Rattle.node_select.specs.Selection.{selected_among, selected_child, selected_in}
 use Rattle.node_select.specs.declared.selector.Step.{Step}
 use Rattle.reply_bodies.specs.Places.{but_last, element_has_place}

@@ -1,9 +1,11 @@
 -- The text of what a selector finds in a document. RFC 4825, sections 7.6, 7.9, 7.10 and 10.
-use Rattle.std.specs.Prelude.{ℕ, List, [], Option, Some, option_map, option_and_then, encode_utf8_all, find}
+use Rattle.std.specs.Prelude.{ℕ, List, [], Option, Some, option_map, option_and_then}
+use Rattle.std.specs.Prelude.{encode_utf8_all, find}
 use Rattle.xml_tree.specs.Tree.{Tree, at, last, tree_of}
-use Rattle.xml_tree.specs.Scopes.{scope_at, bindings_in}
+use Rattle.xml_names.specs.Scopes.{bindings_in}
+use Rattle.xml_tree.specs.TreeScopes.{scope_at}
 use Rattle.xml_tree.specs.Print.{print}
-use Rattle.xml_tree.specs.declared.names.Decl.{Decl}
+use Rattle.xml_names.specs.declared.names.Decl.{Decl}
 use Rattle.tree_text.specs.Printing.{body_print}
 use Rattle.node_select.specs.Selection.{selected_in, is_attr}
 use Rattle.node_select.specs.declared.selector.End.{End}
@@ -17,7 +19,8 @@ use Rattle.reply_text.specs.declared.media_types.MediaType.TheVariants as media
 -- bindings in scope, the default first and then the prefixes by code point
 abbrev pub node_text : End → List (List Decl) → Tree → Option (List ℕ)
 node_text Element c e = Some (print e)
-node_text (Attribute uri local) c e = option_map (λ attr. body_print attr.value) (find (is_attr c uri local) e.attrs)
+node_text (Attribute uri local) c e =
+    option_map (λ attr. body_print attr.value) (find (is_attr c uri local) e.attrs)
 node_text Namespaces c e = Some (print (tree_of e.name (bindings_in c) [] (last [])))
 
 -- the text found at the element of a path
@@ -26,7 +29,8 @@ text_at end p t = option_and_then (node_text end (scope_at p t)) (at p t)
 
 -- what a selector finds at the element that its steps select
 abbrev pub found_text : Tree → Selector → Option (List ℕ)
-found_text t selector = option_and_then (λ p. text_at selector.end p t) (selected_in selector.steps t)
+found_text t selector =
+    option_and_then (λ p. text_at selector.end p t) (selected_in selector.steps t)
 
 -- an optional text in UTF-8
 abbrev pub encoded : Option (List ℕ) → Option (List ℕ)

@@ -17,7 +17,8 @@ but_last (s ∷ r ∷ ss) = s ∷ but_last (r ∷ ss)
 abbrev pub element_has_place : List Step → Tree → Bool
 element_has_place [] t = false
 element_has_place (s ∷ []) t = true
-element_has_place (s ∷ r ∷ ss) t = is_some (selected_in (s ∷ r ∷ ss) t) || is_some (selected_in (but_last (s ∷ r ∷ ss)) t)
+element_has_place (s ∷ r ∷ ss) t =
+    is_some (selected_in (s ∷ r ∷ ss) t) || is_some (selected_in (but_last (s ∷ r ∷ ss)) t)
 
 -- an attribute has a place where its element exists
 abbrev pub attribute_has_place : List Step → Tree → Bool

@@ -1,11 +1,13 @@
 //! Error documents (RFC 4825, section 11).
-ghost use Rattle.std.specs.Prelude.{◌≡◌, [], ◌∷◌, ◌++◌, IfNone, IfOk, IfSome, OnOk, codes, encode_utf8_all, flat_map};
-ghost use Rattle.xml_tree.specs.Print.{document_print, text_escape, value_escape};
+ghost use Rattle.std.specs.Prelude.{◌≡◌, [], ◌∷◌, ◌++◌, IfNone, IfOk, IfSome, OnOk, codes};
+ghost use Rattle.std.specs.Prelude.{encode_utf8_all, flat_map};
+ghost use Rattle.xml_names.specs.Markup.{text_escape, value_escape};
+ghost use Rattle.xml_tree.specs.Print.{document_print};
 ghost use Rattle.reply_bodies.specs.Conflicts.{IsNamed, conflict_root, conflict_bytes, child_bytes};
 
 use std::alloc::Global;
 use xcap_io::Bytes;
-use xml_tree::{NoMemory, Text, text_reference, value_reference};
+use xml_names::{NoMemory, Text, text_reference, value_reference};
 
 /// Why a request conflicts with the document that it addresses.
 #[derive(Drop)]

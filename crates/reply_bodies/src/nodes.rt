@@ -2,9 +2,9 @@
 ghost use Rattle.std.specs.Prelude.{◌≡◌, ◌≤◌, [], Some, IfOk, is_some, option_map};
 ghost use Rattle.std.specs.List.{find};
 ghost use Rattle.std.specs.Option.{option_copied};
-ghost use Rattle.xml_tree.specs.Limits.{max_levels};
+ghost use Rattle.xml_names.specs.Limits.{max_levels};
 ghost use Rattle.xml_tree.specs.Print.{print};
-ghost use Rattle.xml_tree.specs.Scopes.{bindings_in};
+ghost use Rattle.xml_names.specs.Scopes.{bindings_in};
 ghost use Rattle.xml_tree.specs.Tree.{at, height, last, tree_of};
 ghost use Rattle.tree_text.specs.Printing.{body_print};
 ghost use Rattle.node_select.specs.Selection.{is_attr};
@@ -15,7 +15,8 @@ use reply_text::MediaType;
 use std::alloc::Global;
 use tree_text::{print_att_value, print_element};
 use xcap_io::Bytes;
-use xml_tree::{Attr, Decl, Element, Name, NoMemory, Path, Scope, Text, element_at};
+use xml_names::{Attr, Decl, Name, NoMemory, Text};
+use xml_tree::{Element, Path, Scope, element_at};
 
 // ---- one node
 

@@ -1,8 +1,9 @@
 //! Whether a node that is put has a place (RFC 4825, section 8.2.1).
 ghost use Rattle.std.specs.Prelude.{◌≡◌, ◌≤◌};
-ghost use Rattle.xml_tree.specs.Limits.{max_levels};
+ghost use Rattle.xml_names.specs.Limits.{max_levels};
 ghost use Rattle.xml_tree.specs.Tree.{height};
-ghost use Rattle.reply_bodies.specs.Places.{attribute_has_place, but_last, element_has_place, has_place};
+ghost use Rattle.reply_bodies.specs.Places.{attribute_has_place, but_last, element_has_place};
+ghost use Rattle.reply_bodies.specs.Places.{has_place};
 
 use node_select::{End, Selector, Step, select_steps};
 use std::alloc::Global;

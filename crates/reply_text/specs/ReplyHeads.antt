@@ -1,10 +1,14 @@
 -- The bytes of a reply. RFC 9112, sections 2.1 (message), 4 (status line), 5 (field lines), 6.2
 -- (Content-Length) and 9.6 (close); RFC 9110, sections 8.3 (Content-Type), 8.8.3 (ETag) and 10.2.1
 -- (Allow).
-use Rattle.std.specs.Prelude.{ℕ, ◌==◌, Bool, List, [], ◌++◌, Option, codes, decimal, None, if◌then◌else◌}
+use Rattle.std.specs.Prelude.{ℕ, ◌==◌, Bool, List, [], ◌++◌, Option, codes, decimal, None}
+use Rattle.std.specs.Prelude.{if◌then◌else◌}
 use Rattle.std.specs.Option.{option_map_or}
 use Rattle.reply_text.specs.declared.media_types.MediaType.{MediaType}
-use Rattle.reply_text.specs.declared.media_types.MediaType.TheVariants.{ResourceLists, RlsServices, XcapCaps, Element, Attribute, Namespaces, Error, Diff}
+use Rattle.reply_text.specs.declared.media_types.MediaType.TheVariants.{ResourceLists, RlsServices}
+use Rattle.reply_text.specs.declared.media_types.MediaType.TheVariants.{XcapCaps, Element}
+use Rattle.reply_text.specs.declared.media_types.MediaType.TheVariants.{Attribute, Namespaces}
+use Rattle.reply_text.specs.declared.media_types.MediaType.TheVariants.{Error, Diff}
 use Rattle.reply_text.specs.Statuses.{reason}
 
 -- CR LF
@@ -21,7 +25,9 @@ etag_line n = codes "ETag: \"" ++ decimal n ++ codes "\"" ++ line_end
 
 -- the methods that a resource takes: the reading ones, or all
 unfoldable pub allow_line : Bool → List ℕ
-allow_line read_only = codes "Allow: " ++ (if read_only then codes "GET, HEAD" else codes "GET, HEAD, PUT, DELETE") ++ line_end
+allow_line read_only =
+    codes "Allow: " ++ (if read_only then codes "GET, HEAD" else codes "GET, HEAD, PUT, DELETE")
+    ++ line_end
 
 -- the names of the media types (RFC 4825, section 15.2; RFC 4826, section 8.2; RFC 5874, section
 -- 7.1)
@@ -44,16 +50,26 @@ length_line n = codes "Content-Length: " ++ decimal n ++ line_end
 unfoldable pub close_line : List ℕ
 close_line = codes "Connection: close" ++ line_end
 
+-- what a head says: the status; perhaps an etag, whether the resource is read-only, and a media
+-- type; the length of the body, and whether the connection closes
+pub record HeadFields : Type 0 where
+  pub status : ℕ
+  pub tag : Option ℕ
+  pub read_only : Option Bool
+  pub media : Option MediaType
+  pub size : ℕ
+  pub closes : Bool
+
 -- the head, up to and including the empty line: the status line and the field lines that apply; a
 -- 304 has no length
-abbrev pub head_of : ℕ → Option ℕ → Option Bool → Option MediaType → ℕ → Bool → List ℕ
-head_of status tag read_only media size closes =
-    status_line status
-    ++ option_map_or etag_line tag []
-    ++ option_map_or allow_line read_only []
-    ++ option_map_or media_line media []
-    ++ (if status == 304 then [] else length_line size)
-    ++ (if closes then close_line else [])
+abbrev pub head_of : HeadFields → List ℕ
+head_of fields =
+    status_line fields.status
+    ++ option_map_or etag_line fields.tag []
+    ++ option_map_or allow_line fields.read_only []
+    ++ option_map_or media_line fields.media []
+    ++ (if fields.status == 304 then [] else length_line fields.size)
+    ++ (if fields.closes then close_line else [])
     ++ line_end
 
 -- a reply, seen as its status, whether it closes, and its bytes in two parts
@@ -67,12 +83,20 @@ pub record SentReply : Type 0 where
 abbrev pub bytes_of : SentReply → List ℕ
 bytes_of r = r.head ++ r.body
 
--- the reply with this status, perhaps an etag, allowed methods and a media type; with this length,
--- whether it closes, and this body
-abbrev pub sent : ℕ → Option ℕ → Option Bool → Option MediaType → ℕ → Bool → List ℕ → SentReply
-sent status tag read_only media size closes body =
-    record { status = status; closes = closes; head = head_of status tag read_only media size closes; body = body }
+-- the reply with this head and this body
+abbrev pub sent : HeadFields → List ℕ → SentReply
+sent fields body =
+    record { status = fields.status; closes = fields.closes; head = head_of fields; body = body }
 
 -- a reply without etag and body
 abbrev pub plain : ℕ → Bool → SentReply
-plain status closes = sent status None None None 0 closes []
+plain status closes =
+    sent (record {
+      status = status;
+      tag = None;
+      read_only = None;
+      media = None;
+      size = 0;
+      closes = closes;
+    })
+    []

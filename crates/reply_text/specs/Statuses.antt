@@ -4,7 +4,9 @@ use Rattle.std.specs.List.{list_any}
 
 -- the statuses that a reply may have
 abbrev pub statuses : List ℕ
-statuses = 200 ∷ 201 ∷ 304 ∷ 400 ∷ 403 ∷ 404 ∷ 405 ∷ 409 ∷ 410 ∷ 412 ∷ 413 ∷ 415 ∷ 500 ∷ 501 ∷ 503 ∷ 507 ∷ []
+statuses =
+    200 ∷ 201 ∷ 304 ∷ 400 ∷ 403 ∷ 404 ∷ 405 ∷ 409 ∷ 410 ∷ 412 ∷ 413 ∷ 415 ∷ 500 ∷ 501 ∷ 503 ∷ 507
+    ∷ []
 
 abbrev pub is_status : ℕ → Bool
 is_status n = list_any (λ s. n == s) statuses

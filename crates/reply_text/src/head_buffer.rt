@@ -3,7 +3,8 @@ ghost use Rattle.std.specs.Prelude.{◌≡◌, ◌≤◌, ◌+◌, [], ◌++◌,
 ghost use Rattle.std.specs.Prelude.{◌==◌, if◌then◌else◌};
 ghost use Rattle.std.specs.Option.{option_map_or};
 ghost use Rattle.reply_text.specs.Statuses.{is_status};
-ghost use Rattle.reply_text.specs.ReplyHeads.{status_line, etag_line, allow_line, media_line, length_line, close_line, line_end};
+ghost use Rattle.reply_text.specs.ReplyHeads.{status_line, etag_line, allow_line, media_line};
+ghost use Rattle.reply_text.specs.ReplyHeads.{length_line, close_line, line_end};
 
 use crate::media_types::{MediaType, media_type};
 use crate::statuses::reason;

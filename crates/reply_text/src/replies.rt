@@ -42,7 +42,15 @@ fn head(
     closes: bool,
 ) -> HeadBuffer
     requires { IsTrue (is_status status) }
-    ensures exact { result ≡ head_of status tag read_only media size closes }
+    ensures exact { result ≡ head_of
+        (record {
+          status = status;
+          tag = tag;
+          read_only = read_only;
+          media = media;
+          size = size;
+          closes = closes;
+        }) }
 {
     let mut head = HeadBuffer::new();
     head.push_status(status);
@@ -73,7 +81,16 @@ impl Reply {
     /// The 405, with the methods of a resource that is read-only or of any other. Does not
     /// allocate.
     pub fn method(read_only: bool, close: bool) -> Reply
-        ensures exact { result ≡ sent 405 None (Some read_only) None 0 close [] }
+        ensures exact { result ≡ sent
+            (record {
+              status = 405;
+              tag = None;
+              read_only = Some read_only;
+              media = None;
+              size = 0;
+              closes = close;
+            })
+            [] }
     {
         Reply {
             status: 405,
@@ -94,7 +111,16 @@ impl Reply {
         requires valid_status { IsTrue (is_status status) }
         requires plain_status { status ≢ 405 }
         requires no_body { status ≡ 304 → body ≡ [] }
-        ensures exact { result ≡ sent status tag None media (length body) close body }
+        ensures exact { result ≡ sent
+            (record {
+              status = status;
+              tag = tag;
+              read_only = None;
+              media = media;
+              size = length body;
+              closes = close;
+            })
+            body }
     {
         Reply {
             status,
@@ -109,7 +135,16 @@ impl Reply {
     pub fn lent(status: u16, tag: Option<u64>, media: MediaType, size: usize, close: bool) -> Reply
         requires valid_status { IsTrue (is_status status) }
         requires plain_status { (status ≢ 304) × (status ≢ 405) }
-        ensures exact { result ≡ sent status tag None (Some media) size close [] }
+        ensures exact { result ≡ sent
+            (record {
+              status = status;
+              tag = tag;
+              read_only = None;
+              media = Some media;
+              size = size;
+              closes = close;
+            })
+            [] }
     {
         Reply {
             status,

@@ -11,7 +11,7 @@ use Rattle.std.specs.List.{list_all}
 use Rattle.std.specs.Str.{IsAscii, bytes_eq}
 use lib.Utf8.{encode}
 use Rattle.http_wire.specs.Fields.{same_ignoring_case}
-use Rattle.xml_tree.proofs.ByteOrder.{next, width, of_one, of_two, of_three, of_four, encode_two, encode_three, encode_four}
+use Rattle.xml_names.proofs.ByteOrder.{next, width, of_one, of_two, of_three, of_four, encode_two, encode_three, encode_four}
 
 -- what a test of each byte means
 are_ascii : (word : List ℕ) → list_all is_ascii word ≡ true → IsAscii word

@@ -22,8 +22,12 @@ by_verdict Failed = outcomes.Failed
 -- the document's etag, whether the selected resource exists, and whether the request reads
 abbrev pub HasOutcome : List Field → Option ℕ → Bool → Bool → Outcome → Type 0
 HasOutcome fields tag exists reading outcome =
-    (said : Option Preconditions) × ConditionsAnswer (fields_named (codes "if-match") fields) (fields_named (codes "if-none-match") fields) said
-    × (outcome ≡ option_map_or (λ conditions. by_verdict (verdict_of conditions tag exists reading)) said outcomes.Unreadable)
+    (said : Option Preconditions)
+    × ConditionsAnswer (fields_named (codes "if-match") fields)
+    (fields_named (codes "if-none-match") fields) said
+    × (outcome
+    ≡ option_map_or (λ conditions. by_verdict (verdict_of conditions tag exists reading)) said
+    outcomes.Unreadable)
 
 -- the reply of an outcome: of a condition that can't be read, one that says that the client
 -- already has the document with this etag, or one that doesn't hold; None where the request goes
@@ -31,10 +35,14 @@ HasOutcome fields tag exists reading outcome =
 abbrev pub stopped_by : Outcome → Option ℕ → Bool → Option SentReply
 stopped_by outcomes.Unreadable tag closes = Some (plain 400 closes)
 stopped_by outcomes.Go tag closes = None
-stopped_by outcomes.NotModified tag closes = Some (sent 304 tag None None 0 closes [])
+stopped_by outcomes.NotModified tag closes =
+    Some (sent
+    (record { status = 304; tag = tag; read_only = None; media = None; size = 0; closes = closes })
+    [])
 stopped_by outcomes.Failed tag closes = Some (plain 412 closes)
 
 -- the reply that the conditions of a request give in place of what it asks, if they do
 abbrev pub IsStop : Request → Option ℕ → Bool → Bool → Option SentReply → Type 0
 IsStop request tag exists reading condition_reply =
-    (outcome : Outcome) × HasOutcome request.fields tag exists reading outcome × (condition_reply ≡ stopped_by outcome tag request.closes)
+    (outcome : Outcome) × HasOutcome request.fields tag exists reading outcome
+    × (condition_reply ≡ stopped_by outcome tag request.closes)

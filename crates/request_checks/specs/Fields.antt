@@ -30,4 +30,5 @@ SayBoth if_match if_none_match c = Says if_match c.if_match × Says if_none_matc
 -- say
 abbrev pub ConditionsAnswer : List (List ℕ) → List (List ℕ) → Option Preconditions → Type 0
 ConditionsAnswer if_match if_none_match (Some c) = SayBoth if_match if_none_match c
-ConditionsAnswer if_match if_none_match None = (c : Preconditions) → ¬ SayBoth if_match if_none_match c
+ConditionsAnswer if_match if_none_match None =
+    (c : Preconditions) → ¬ SayBoth if_match if_none_match c

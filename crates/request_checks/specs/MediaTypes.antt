@@ -28,7 +28,8 @@ is_type wanted (v ∷ w ∷ vs) = false
 -- there is exactly one Content-Type, which is this type, and every Content-Encoding is `identity`
 unfoldable pub has_type : MediaType → List Field → Bool
 has_type media fields =
-    list_all (λ v. same_ignoring_case v (codes "identity")) (fields_named (codes "content-encoding") fields)
+    list_all (λ v. same_ignoring_case v (codes "identity"))
+    (fields_named (codes "content-encoding") fields)
     && is_type (media_type media) (fields_named (codes "content-type") fields)
 
 -- the media type of the documents of an application usage

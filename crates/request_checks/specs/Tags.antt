@@ -1,6 +1,7 @@
 -- Entity tags and lists of them. RFC 9110, sections 5.6.1 (lists), 5.6.3 (white space) and 8.8.3
 -- (ETag).
-use Rattle.std.specs.Prelude.{◌≡◌, ℕ, ◌==◌, nat_le, Bool, ◌&&◌, ◌||◌, if◌then◌else◌, List, [], ◌∷◌, ◌++◌, Option, map, true, IfSome, filter_map, flat_map, codes}
+use Rattle.std.specs.Prelude.{◌≡◌, ℕ, ◌==◌, nat_le, Bool, ◌&&◌, ◌||◌, if◌then◌else◌, List, [], ◌∷◌}
+use Rattle.std.specs.Prelude.{◌++◌, Option, map, true, IfSome, filter_map, flat_map, codes}
 use Rattle.std.specs.List.{AllByRecursion}
 use Rattle.std.specs.Option.{option_map_or}
 use Rattle.request_checks.specs.declared.entity_tags.EntityTag.{EntityTag}
@@ -40,6 +41,7 @@ comma_joined (text ∷ texts) = text ++ flat_map (λ t. codes "," ++ t) texts
 -- the text is a list of exactly these tags, in order; any part may be empty
 pub record SpellsTags (text : List ℕ) (tags : List EntityTag) : Type 0 where
   pub parts : List ListPart
-  pub spelled : text ≡ comma_joined (map (λ p. p.before ++ (option_map_or tag_text p.tag [] ++ p.behind)) parts)
+  pub spelled : text
+      ≡ comma_joined (map (λ p. p.before ++ (option_map_or tag_text p.tag [] ++ p.behind)) parts)
   pub tagged : tags ≡ filter_map (λ p. p.tag) parts
   pub lawful : AllByRecursion IsPart parts

@@ -32,7 +32,10 @@ impl Model for Conditions {
 
     ghost use Rattle.request_checks.specs.inner.Values.{value_of};
 
-    ghost view = { λ c. record { if_match = value_of c.if_match; if_none_match = value_of c.if_none_match } };
+    ghost view = { λ c. record {
+      if_match = value_of c.if_match;
+      if_none_match = value_of c.if_none_match;
+    } };
 }
 
 // The lines of a field as one text, joined by commas (RFC 9110, section 5.2).

@@ -1,8 +1,11 @@
 //! Lists of entity tags (RFC 9110, sections 5.6.1 and 8.8.3).
-ghost use Rattle.std.specs.Prelude.{◌≡◌, ◌≤◌, ◌<◌, ◌++◌, ◌∷◌, [], length, Some, None, IfOk, OnOk, IsErrOf, MatchOption};
+ghost use Rattle.std.specs.Prelude.{◌≡◌, ◌≤◌, ◌<◌, ◌++◌, ◌∷◌, [], length, Some, None, IfOk, OnOk};
+ghost use Rattle.std.specs.Prelude.{IsErrOf, MatchOption};
 ghost use Rattle.std.specs.List.{prefix_len};
 ghost use Rattle.request_checks.specs.Tags.{is_tag_byte, is_ows_byte};
-ghost use Rattle.request_checks.specs.readers.Fields.{Before, Behind, behind_blanks, IsTrimmed, behind_byte, closed, opaque_front, first_tag, tags_from, with_tags, entity_tag};
+ghost use Rattle.request_checks.specs.readers.Fields.{Before, Behind, behind_blanks, IsTrimmed};
+ghost use Rattle.request_checks.specs.readers.Fields.{behind_byte, closed, opaque_front, first_tag};
+ghost use Rattle.request_checks.specs.readers.Fields.{tags_from, with_tags, entity_tag};
 
 use crate::{ConditionFault, NoMemory};
 use std::alloc::Global;

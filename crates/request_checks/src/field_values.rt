@@ -10,7 +10,7 @@ use crate::NoMemory;
 use http_wire::{Field, is_same_ignoring_case};
 use std::alloc::Global;
 use xcap_io::Bytes;
-use xml_tree::{List, Text};
+use xml_names::{List, Text};
 
 fn is_word(text: &Text, word: &[u8]) -> bool
     requires { IsTrue (list_all is_ascii word.now) }

@@ -5,7 +5,7 @@ ghost use Rattle.request_checks.specs.Rights.{is_allowed, is_fixed_usage, is_use
 use crate::field_values::single_value;
 use doc_names::{Auid, Home};
 use http_wire::{Field, Request};
-use xml_tree::Text;
+use xml_names::Text;
 
 /// Whether a request that writes, or only reads, is allowed for a document of this application
 /// usage in this home. Does not allocate.

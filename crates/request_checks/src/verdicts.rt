@@ -3,7 +3,8 @@ ghost use Rattle.std.specs.Prelude.{◌≡◌, decimal};
 ghost use Rattle.std.specs.List.{list_any};
 ghost use Rattle.std.specs.Str.{bytes_eq};
 ghost use Rattle.request_checks.specs.inner.Values.{value_of};
-ghost use Rattle.request_checks.specs.Verdicts.{is_own, is_strongly_own, if_match_holds, if_none_match_holds, verdict_of};
+ghost use Rattle.request_checks.specs.Verdicts.{is_own, is_strongly_own, if_match_holds};
+ghost use Rattle.request_checks.specs.Verdicts.{if_none_match_holds, verdict_of};
 
 use crate::condition_fields::ConditionField;
 use crate::{Conditions, EntityTag};

@@ -1,9 +1,11 @@
 -- A peer over a server in memory, as its callers see it. The project's own.
-use Rattle.std.specs.Prelude.{◌≡◌, ◌≢◌, ℕ, ◌-◌, ◌<◌, ◌⊎◌, min, true, false, List, [], ◌∷◌, ◌++◌, length, take, drop, Result, Ok, Err, None, MatchResult}
+use Rattle.std.specs.Prelude.{◌≡◌, ◌≢◌, ℕ, ◌-◌, ◌<◌, ◌⊎◌, min, true, false, List, [], ◌∷◌, ◌++◌}
+use Rattle.std.specs.Prelude.{length, take, drop, Result, Ok, Err, None, MatchResult}
 use Rattle.xcap_io.specs.Causes.{StreamState, inward_of, no_port}
-use Rattle.xcap_io.specs.Histories.{ConnectionHistory, no_history, with_end, with_given, with_next, with_taken}
+use Rattle.xcap_io.specs.Histories.{ConnectionHistory, no_history, with_end, with_given, with_next}
+use Rattle.xcap_io.specs.Histories.{with_taken}
 use Rattle.xcap_io.specs.Memory.{one_more}
-use Rattle.xcap_server.specs.Servers.{ServerState}
+use Rattle.xcap_machine.specs.Servers.{ServerState}
 use Rattle.server_peer.specs.Rooms.{RepliesState, WrittenState}
 use Rattle.server_peer.specs.Serving.{AddsReplies}
 
@@ -61,12 +63,19 @@ IsFull p = (p.history.is_present ≡ false) ⊎ (length p.written.bytes ≡ p.wr
 
 -- the peer after these bytes were written on the current connection
 abbrev pub with_written : PeerOverServer → List ℕ → PeerOverServer
-with_written p bytes = record p { written = record p.written { bytes = p.written.bytes ++ bytes }; history = with_taken p.history bytes }
+with_written p bytes =
+    record p {
+      written = record p.written { bytes = p.written.bytes ++ bytes };
+      history = with_taken p.history bytes;
+    }
 
 -- A write takes the bytes that fit, and fails exactly where the buffer is full.
 abbrev pub PeerWrite : {E : Type 0} → PeerOverServer → PeerOverServer → List ℕ → Result ℕ E → Type 0
-PeerWrite old new piece (Ok n) = HasRoom old × (n ≡ min (length piece) (old.written.room - length old.written.bytes)) × (new ≡ with_written old (take n piece))
-PeerWrite old new piece (Err e) = IsFull old × (new ≡ record old { write_faults = one_more old.write_faults })
+PeerWrite old new piece (Ok n) =
+    HasRoom old × (n ≡ min (length piece) (old.written.room - length old.written.bytes))
+    × (new ≡ with_written old (take n piece))
+PeerWrite old new piece (Err e) =
+    IsFull old × (new ≡ record old { write_faults = one_more old.write_faults })
 
 -- ---- reads
 
@@ -77,12 +86,17 @@ unserved_bytes p = drop p.written.served p.written.bytes
 -- The server served all that was written since its last replies, as the bytes of one connection.
 pub record ServesWritten (old new : PeerOverServer) : Type 0 where
   pub adds : AddsReplies old.server new.server (unserved_bytes old) old.replies new.replies
-  pub leaves : new ≡ record old { server = new.server; written = record old.written { served = length old.written.bytes }; replies = new.replies }
+  pub leaves : new ≡ record old {
+    server = new.server;
+    written = record old.written { served = length old.written.bytes };
+    replies = new.replies;
+  }
 
 -- Before a read gives anything, the server serves what was written since its last replies, if
 -- anything was.
 abbrev pub Settles : PeerOverServer → PeerOverServer → Type 0
-Settles old new = ((unserved_bytes old ≡ []) × (new ≡ old)) ⊎ ((unserved_bytes old ≢ []) × ServesWritten old new)
+Settles old new =
+    ((unserved_bytes old ≡ []) × (new ≡ old)) ⊎ ((unserved_bytes old ≢ []) × ServesWritten old new)
 
 -- the replies that no read has given yet
 abbrev pub unread : PeerOverServer → List ℕ
@@ -95,11 +109,15 @@ IsSpent p = (length p.history.now.given ≡ p.replies.room) × (p.replies.more �
 -- A read of at most `wanted` bytes gives the next bytes of the replies, and fails exactly where
 -- the buffer for replies was read to its end and more are due.
 abbrev pub GivesReplies : {E : Type 0} → PeerOverServer → PeerOverServer → ℕ → Result ℕ E → Type 0
-GivesReplies old new wanted (Ok n) = ¬ (IsSpent old) × (n ≡ min wanted (length (unread old))) × (new ≡ record old { history = with_given old.history (take n (unread old)) })
-GivesReplies old new wanted (Err e) = IsSpent old × (new ≡ record old { read_faults = one_more old.read_faults })
+GivesReplies old new wanted (Ok n) =
+    ¬ (IsSpent old) × (n ≡ min wanted (length (unread old)))
+    × (new ≡ record old { history = with_given old.history (take n (unread old)) })
+GivesReplies old new wanted (Err e) =
+    IsSpent old × (new ≡ record old { read_faults = one_more old.read_faults })
 
 abbrev pub PeerRead : {E : Type 0} → PeerOverServer → PeerOverServer → ℕ → Result ℕ E → Type 0
-PeerRead old new wanted result = (mid : PeerOverServer) × Settles old mid × GivesReplies mid new wanted result
+PeerRead old new wanted result =
+    (mid : PeerOverServer) × Settles old mid × GivesReplies mid new wanted result
 
 -- ---- connections
 
@@ -113,5 +131,7 @@ with_connection p address = record p {
 }
 
 -- `connect` never fails
-abbrev pub PeerConnect : {E : Type 0} → PeerOverServer → PeerOverServer → Result (Unit {0}) E → List ℕ → Type 0
-PeerConnect old new result address = MatchResult result (λ _. new ≡ with_connection old address) (λ _. ⊥)
+abbrev pub PeerConnect : {E : Type 0} → PeerOverServer → PeerOverServer → Result (Unit {0}) E
+    → List ℕ → Type 0
+PeerConnect old new result address =
+    MatchResult result (λ _. new ≡ with_connection old address) (λ _. ⊥)

@@ -11,7 +11,7 @@ use Rattle.store_core.specs.Contents.{Represents}
 use Rattle.store_core.specs.ValidStates.{IsValidState}
 use Rattle.store_core.specs.State.{State}
 use Rattle.xcap_machine.specs.SubscriberVersions.{FollowedStep}
-use Rattle.xcap_server.specs.Servers.{ServerState}
+use Rattle.xcap_machine.specs.Servers.{ServerState}
 use Rattle.server_peer.specs.Rooms.{RepliesState, with_replies}
 
 -- all bytes of a connection, to their end, and all replies
@@ -25,17 +25,20 @@ pub record Replies (old new : ServerState) (asked replies : List ℕ) (m : State
   pub kept : IsValidState next
   pub stands : Represents new.content next
   pub edits : List Edit
-  pub serves : Serves (InBytes (FollowedStep old.root)) fixed Closed m (whole asked replies) next edits
+  pub serves : Serves (InBytes (FollowedStep old.root)) fixed Closed m (whole asked replies) next
+      edits
 
 -- The server served these bytes with these replies, by the machine of its root, from each valid
 -- state that its contents represent.
 pub record RepliesTo (old new : ServerState) (asked replies : List ℕ) : Type 0 where
   pub same_root : new.root ≡ old.root
-  pub by_machine : (m : State) → IsValidState m → Represents old.content m → Replies old new asked replies m
+  pub by_machine : (m : State) → IsValidState m → Represents old.content m
+      → Replies old new asked replies m
 
 -- The server served these bytes, and the replies are appended to the earlier ones, as far as they
 -- fit.
-pub record AddsReplies (old new : ServerState) (asked : List ℕ) (before after : RepliesState) : Type 0 where
+pub record AddsReplies (old new : ServerState) (asked : List ℕ)
+    (before after : RepliesState) : Type 0 where
   pub replies : List ℕ
   pub served : RepliesTo old new asked replies
   pub behind : after ≡ with_replies before replies

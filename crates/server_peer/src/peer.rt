@@ -5,7 +5,8 @@ ghost use Rattle.xcap_io.specs.Causes.{OnlyReads, OnlyWrites};
 ghost use Rattle.xcap_io.specs.Connections.{ConnectsOnly};
 ghost use Rattle.xcap_io.specs.StreamTraffic.{GivesReadBytes, TakesWrittenBytes};
 ghost use Rattle.xcap_io.specs.Streams.{WritesSome};
-ghost use Rattle.server_peer.specs.Peers.{GivesReplies, PeerConnect, PeerRead, PeerWrite, Settles, new_peer, peer_line};
+ghost use Rattle.server_peer.specs.Peers.{GivesReplies, PeerConnect, PeerRead, PeerWrite, Settles};
+ghost use Rattle.server_peer.specs.Peers.{new_peer, peer_line};
 
 use crate::replies::Replies;
 use crate::written_bytes::WrittenBytes;

@@ -22,9 +22,14 @@ impl Model for Replies {
 
     ghost Value = { RepliesState };
 
-    ghost view = { λ r. record { bytes = take r.held r.room.items; more = r.is_over; room = length r.room.items } };
+    ghost view = { λ r. record {
+      bytes = take r.held r.room.items;
+      more = r.is_over;
+      room = length r.room.items;
+    } };
 
-    ghost invariant = { λ r. (r.held ≤ length r.room.items) × (r.is_over ≡ true → r.held ≡ length r.room.items) };
+    ghost invariant = { λ r.
+        (r.held ≤ length r.room.items) × (r.is_over ≡ true → r.held ≡ length r.room.items) };
 }
 
 impl Replies {

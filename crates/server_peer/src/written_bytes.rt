@@ -20,7 +20,11 @@ impl Model for WrittenBytes {
 
     ghost Value = { WrittenState };
 
-    ghost view = { λ w. record { bytes = take w.len w.room.items; served = w.served; room = length w.room.items } };
+    ghost view = { λ w. record {
+      bytes = take w.len w.room.items;
+      served = w.served;
+      room = length w.room.items;
+    } };
 
     ghost invariant = { λ w. (w.len ≤ length w.room.items) × (w.served ≤ w.len) };
 }

@@ -7,11 +7,8 @@ use Rattle.doc_names.specs.Equality.{same_id}
 use Rattle.doc_names.specs.declared.doc_id.DocId.{DocId}
 use Rattle.store_core.specs.declared.entry.Entry.{Entry}
 use Rattle.store_core.specs.DocumentChanges.{content_after}
-use Rattle.store_core.specs.Contents.{Represents, StoreContents as Content}
-use Rattle.store_core.specs.KeyAddresses.{KeepsAddressesOf}
 use Rattle.store_core.specs.inner.Storing.{IsStoring, content_in, exchanged, registered, trees_in}
 use Rattle.store_core.specs.PreparedChanges.{HasTree, IsReady, Readied}
-use Rattle.store_core.proofs.KeyAddresses.{change_stays}
 use Rattle.store_core.proofs.Stored.{steppable, stored}
 use Rattle.store_core.specs.Stored.{Room, Stored}
 use Rattle.store_core.specs.inner.Planning.{Stepped, Steppable}
@@ -51,8 +48,3 @@ module _ (es : List (DocId × Entry)) (rs : List (List ℕ × ℕ)) (last total 
         ∙ (stored es rs last total p p.step created next rows storing ready-here.planned ready-here.planned.step stepped-so exchanges).0
         ∙ ap (λ (x : Stored). content_after x.content p.doc p.note.change) seen
         ∙ ap (λ (x : Readied). content_after s.content x.doc x.note.change) same
-
-    pub keeps-addresses : KeepsAddressesOf s.content q.doc q.note.change (content_in next number)
-    keeps-addresses =
-        let stands : Represents s.content storing.kept.0 = subst (λ (x : Stored). Represents x.content storing.kept.0) seen storing.kept.1 in
-        subst (λ (x : Content). KeepsAddressesOf s.content q.doc q.note.change x) (sym holds-next) (change_stays s.content storing.kept.0 q.doc q.note.change stands storing.kept.2 ready.planned.asks)

@@ -12,12 +12,12 @@ use Rattle.doc_names.specs.declared.usages.Usage.TheVariants as usages
 use Rattle.edit_ops.specs.Changes.{Fits, edited}
 use Rattle.edit_ops.specs.declared.change.Change.{Change}
 use Rattle.edit_ops.specs.declared.change.Change.TheVariants.{CreateDocument, Insert, Replace, Remove, SetAttr, DropAttr, RemoveDocument}
-use Rattle.xml_tree.specs.Attributes.{change_item}
+use Rattle.xml_names.specs.Attributes.{change_item}
 use Rattle.xml_tree.specs.Edits.{change_at, change_child, cut_child, drop_attr, own_number, parent_path, put_kid, write_attr}
 use Rattle.xml_tree.specs.Proper.{IsProperPart, ProperIn}
-use Rattle.xml_tree.specs.Scopes.{inside}
+use Rattle.xml_tree.specs.TreeScopes.{inside}
 use Rattle.xml_tree.specs.Tree.{Tree, at, child_elements_of}
-use Rattle.xml_tree.specs.declared.names.Name.{Name}
+use Rattle.xml_names.specs.declared.names.Name.{Name}
 use Rattle.xml_tree.proofs.EverywhereLaws.{Everywhere-child_element}
 use Rattle.xml_tree.proofs.PlaceLaws.{child_elements-change, child_elements-cut, child_elements-put}
 use Rattle.usage_docs.specs.Keys.{value_of}

@@ -16,7 +16,6 @@ pub mod Holders
 pub mod InOrder
 pub mod Keeps
 pub mod KeptAfter
-pub mod KeyAddresses
 pub mod Keyed
 pub mod Listing
 pub mod Owning

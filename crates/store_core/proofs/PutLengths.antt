@@ -1,8 +1,9 @@
 -- How long a printed document is, and which print a put element has.
 use Rattle.std.proofs.Common.{◌≡◌, ℕ, ◌+◌, List, length, encode_utf8_all, Option, None, Some, refl, sym, ap, ◌∙◌}
 use Rattle.xml_tree.specs.Tree.{Tree}
-use Rattle.xml_tree.specs.Print.{byte_len, print, document_print, header}
-use Rattle.xml_tree.proofs.PrintLengths.{byte_len-append}
+use Rattle.xml_names.specs.Markup.{byte_len}
+use Rattle.xml_tree.specs.Print.{print, document_print, header}
+use Rattle.xml_names.proofs.PrintLengths.{byte_len-append}
 use Rattle.edit_ops.specs.Lengths.{element_len}
 use Rattle.edit_ops.specs.declared.change.Change.{Change}
 use Rattle.edit_ops.specs.declared.change.Change.TheVariants.{CreateDocument, Insert, Replace, Remove, SetAttr, DropAttr, RemoveDocument}

@@ -8,8 +8,8 @@ use Rattle.std.specs.Set.{is_member}
 use Rattle.std.specs.Str.{bytes_eq}
 use Rattle.std.proofs.lemmas.Slice.Eq.{bytes_eq-Decides}
 use Rattle.xml_tree.specs.Tree.{Tree, child_elements_of}
-use Rattle.xml_tree.specs.declared.names.Attr.{Attr}
-use Rattle.xml_tree.specs.Scopes.{inside}
+use Rattle.xml_names.specs.declared.names.Attr.{Attr}
+use Rattle.xml_tree.specs.TreeScopes.{inside}
 use Rattle.usage_docs.specs.UniqueKeys.{HasUniqueKeys, mark, mark_of}
 use Rattle.usage_docs.specs.Keys.{attribute_of, key_of, key_value, value_of}
 use Rattle.usage_docs.specs.SchemaTable.{Scope, child_named, kind_of, content_model_of, namespace_of_children, root_kind, element_namespace, local_name_of}

@@ -7,12 +7,13 @@ use Rattle.std.specs.List.{AllByRecursion, IsDistinct}
 use Rattle.std.specs.Option.{ForSome, option_map_or}
 use Rattle.std.specs.Str.{bytes_eq}
 use Rattle.doc_names.specs.declared.usages.Usage.TheVariants as usages
-use Rattle.xml_tree.specs.Attributes.{is_written_so, with_new_value, with_attr, without_attr}
-use Rattle.xml_tree.specs.Expanded.{ExpandedName, attr_name, same_expanded}
-use Rattle.xml_tree.specs.Scopes.{bound, inside}
+use Rattle.xml_names.specs.Attributes.{is_written_so, with_new_value, with_attr, without_attr}
+use Rattle.xml_names.specs.Expanded.{ExpandedName, attr_name, same_expanded}
+use Rattle.xml_names.specs.Scopes.{bound}
+use Rattle.xml_tree.specs.TreeScopes.{inside}
 use Rattle.xml_tree.specs.Tree.{Content, last, more, comment_node, Tree, child_elements, child_elements_of}
-use Rattle.xml_tree.specs.declared.names.Attr.{Attr}
-use Rattle.xml_tree.specs.declared.names.Name.{Name}
+use Rattle.xml_names.specs.declared.names.Attr.{Attr}
+use Rattle.xml_names.specs.declared.names.Name.{Name}
 use Rattle.usage_docs.specs.Keys.{attribute_of, attrs_pass, is_key, value_of, word}
 use Rattle.usage_docs.specs.SchemaTable.{Scope, Child, known, foreign, stray, ModelItem as Item, any, ends, takes, may_take, takes_none, takes_more, takes_no_more, IsIn, MatchesModel as Matches, child_class_of, children_in, is_foreign, items_in, kind_by, kind_in, kind_of, content_model_of, root_kind, element_namespace}
 use Rattle.usage_docs.specs.Services.{service_uri}

@@ -11,15 +11,21 @@ use Rattle.store_core.specs.Limits.{max_bytes_together, max_documents}
 use Rattle.store_core.specs.State.{State}
 use Rattle.store_core.specs.ValidStates.{AreDistinct, IsSoundFor, IsUserDocument, addresses}
 use Rattle.doc_names.specs.Usages.{usage_of}
-use Rattle.store_core.specs.DocumentChanges.{Act, Makes, Edits, Removes, act_of, after, document_in, document_name}
+use Rattle.store_core.specs.DocumentChanges.{Act, Makes, Edits, Removes, act_of, after, document_in}
+use Rattle.store_core.specs.DocumentChanges.{document_name}
 
 abbrev pub SuitsAct : State → DocId → Change → Act → Type 0
-SuitsAct m id change (Makes root) = (document_in document_name m.documents id ≡ None) × IsAddressable id × IsUserDocument id.home × IsSoundFor (usage_of id.auid) root
-SuitsAct m id change Edits = IsSomeAnd (document_in document_name m.documents id) (λ d. Fits d.now.tree change × IsSoundFor (usage_of d.id.auid) (edited d.now.tree change))
+SuitsAct m id change (Makes root) =
+    (document_in document_name m.documents id ≡ None) × IsAddressable id × IsUserDocument id.home
+    × IsSoundFor (usage_of id.auid) root
+SuitsAct m id change Edits =
+    IsSomeAnd (document_in document_name m.documents id) (λ d.
+    Fits d.now.tree change × IsSoundFor (usage_of d.id.auid) (edited d.now.tree change))
 SuitsAct m id change Removes = IsSome (document_in document_name m.documents id)
 
 pub record Suits (m : State) (id : DocId) (change : Change) : Type 0 where
   pub act : SuitsAct m id change (act_of change)
   pub services : AreDistinct (addresses (after m id change).documents)
   pub few : length (after m id change).documents ≤ max_documents
-  pub room : sum_by (λ d. document_len d.now.tree) (after m id change).documents ≤ max_bytes_together
+  pub room : sum_by (λ d. document_len d.now.tree) (after m id change).documents
+      ≤ max_bytes_together

@@ -1,12 +1,14 @@
 -- What a change of a document does to the machine's state and to a store's contents, and why it
 -- may be refused. RFC 4825, section 8.5 (a new entity tag for each change); RFC 4826, section
 -- 4.4.5 (service addresses are unique over all documents).
-use Rattle.std.specs.Prelude.{ℕ, ◌+◌, nat_lt, nat_le, min, Bool, true, false, not, ◌&&◌, List, [], ◌∷◌, ◌++◌, length, map, sum_by, filter, flat_map, find, position, Option, None, Some, option_map, if◌then◌else◌, Result, Ok, Err}
+use Rattle.std.specs.Prelude.{ℕ, ◌+◌, nat_lt, nat_le, min, Bool, true, false, not, ◌&&◌, List, []}
+use Rattle.std.specs.Prelude.{◌∷◌, ◌++◌, length, map, sum_by, filter, flat_map, find, position}
+use Rattle.std.specs.Prelude.{Option, None, Some, option_map, if◌then◌else◌, Result, Ok, Err}
 use Rattle.std.specs.Set.{is_member}
 use Rattle.std.specs.Str.{bytes_eq}
 use Rattle.std.specs.Option.{option_or}
 use Rattle.xml_tree.specs.Tree.{Tree}
-use Rattle.xml_tree.specs.Limits.{u64_max}
+use Rattle.xml_names.specs.Limits.{u64_max}
 use Rattle.usage_docs.specs.Services.{document_len}
 use Rattle.usage_docs.specs.declared.keys.Clash.{Clash}
 use Rattle.usage_docs.specs.declared.schema_table.Key.TheVariants.{Uri}
@@ -18,7 +20,8 @@ use Rattle.edit_ops.specs.declared.change.Change.TheVariants.{CreateDocument, Re
 use Rattle.edit_ops.specs.Notes.{Note, note_of}
 use Rattle.store_core.specs.Limits.{max_bytes, max_bytes_together, max_documents}
 use Rattle.store_core.specs.declared.refusal.StoreRefusal.{StoreRefusal}
-use Rattle.store_core.specs.declared.refusal.StoreRefusal.TheVariants.{ServiceTaken, TooLarge, TooMany, StoreFull, NoNumber}
+use Rattle.store_core.specs.declared.refusal.StoreRefusal.TheVariants.{ServiceTaken, TooLarge}
+use Rattle.store_core.specs.declared.refusal.StoreRefusal.TheVariants.{TooMany, StoreFull, NoNumber}
 use Rattle.store_core.specs.State.{Document, State, created, renewed, retained}
 use Rattle.store_core.specs.Contents.{StoredDocument, StoreContents}
 use Rattle.store_core.specs.ValidStates.{addresses_in}
@@ -60,13 +63,17 @@ act_of _ = Edits
 -- ---- the state
 
 abbrev pub after_act : State → DocId → Change → Act → State
-after_act m id change (Makes root) = record { documents = m.documents ++ created id m.next root ∷ []; next = m.next + 1 }
+after_act m id change (Makes root) =
+    record { documents = m.documents ++ created id m.next root ∷ []; next = m.next + 1 }
 after_act m id change Edits =
     record {
-      documents = with_document document_name (λ d. renewed m.next d (note_of d.now.tag m.next d.now.tree change)) m.documents id;
+      documents =
+          with_document document_name
+          (λ d. renewed m.next d (note_of d.now.tag m.next d.now.tree change)) m.documents id;
       next = m.next + 1;
     }
-after_act m id change Removes = record { documents = without_document document_name m.documents id; next = m.next + 1 }
+after_act m id change Removes =
+    record { documents = without_document document_name m.documents id; next = m.next + 1 }
 
 -- the state after a change that is accepted
 abbrev pub after : State → DocId → Change → State
@@ -86,9 +93,17 @@ held_after number change h =
 
 abbrev pub content_after_act : StoreContents → DocId → Change → Act → StoreContents
 content_after_act c id change (Makes root) =
-    record { documents = c.documents ++ record { id = id; tag = c.next; tree = root; notes = [] } ∷ []; next = c.next + 1 }
-content_after_act c id change Edits = record { documents = with_document stored_name (held_after c.next change) c.documents id; next = c.next + 1 }
-content_after_act c id change Removes = record { documents = without_document stored_name c.documents id; next = c.next + 1 }
+    record {
+      documents = c.documents ++ record { id = id; tag = c.next; tree = root; notes = [] } ∷ [];
+      next = c.next + 1;
+    }
+content_after_act c id change Edits =
+    record {
+      documents = with_document stored_name (held_after c.next change) c.documents id;
+      next = c.next + 1;
+    }
+content_after_act c id change Removes =
+    record { documents = without_document stored_name c.documents id; next = c.next + 1 }
 
 -- the contents after a change that the store makes
 abbrev pub content_after : StoreContents → DocId → Change → StoreContents
@@ -99,11 +114,13 @@ content_after c id change = content_after_act c id change (act_of change)
 -- the first service whose address another document has. In a valid document every element child of
 -- the root is a service with an address, so the i-th address is the i-th child's.
 abbrev pub taken : List (List ℕ) → List (List ℕ) → Option Clash
-taken others own = option_map (λ i. record { path = i ∷ []; key = Uri }) (position (is_member bytes_eq others) own)
+taken others own =
+    option_map (λ i. record { path = i ∷ []; key = Uri }) (position (is_member bytes_eq others) own)
 
 -- the addresses of the other documents, and the lengths of their prints together
 abbrev pub other_addresses : StoreContents → DocId → List (List ℕ)
-other_addresses c id = flat_map (λ h. addresses_in h.id.auid h.tree) (without_document stored_name c.documents id)
+other_addresses c id =
+    flat_map (λ h. addresses_in h.id.auid h.tree) (without_document stored_name c.documents id)
 
 abbrev pub other_lengths : StoreContents → DocId → ℕ
 other_lengths c id = sum_by (λ h. document_len h.tree) (without_document stored_name c.documents id)
@@ -114,18 +131,23 @@ only_if holds refusal = if holds then Some refusal else None
 -- a reason against a tree that the document would have; is_new says whether it isn't stored yet
 abbrev pub against_tree : StoreContents → DocId → Bool → Tree → Option StoreRefusal
 against_tree c id is_new t =
-    option_or (option_map (λ clash. ServiceTaken clash) (taken (other_addresses c id) (addresses_in id.auid t)))
-    (option_or (only_if (nat_lt max_bytes (document_len t)) (TooLarge (min (document_len t) u64_max)))
+    option_or (option_map (λ clash. ServiceTaken clash)
+    (taken (other_addresses c id) (addresses_in id.auid t)))
+    (option_or
+    (only_if (nat_lt max_bytes (document_len t)) (TooLarge (min (document_len t) u64_max)))
     (option_or (only_if (is_new && nat_le max_documents (length c.documents)) TooMany)
-    (only_if (nat_lt max_bytes_together (other_lengths c id + document_len t)) (StoreFull (other_lengths c id + document_len t)))))
+    (only_if (nat_lt max_bytes_together (other_lengths c id + document_len t))
+    (StoreFull (other_lengths c id + document_len t)))))
 
 -- a reason against the number that the change would get: it doesn't fit 64 bits
 abbrev pub against_number : StoreContents → Option StoreRefusal
 against_number c = only_if (nat_le (u64_max + 1) c.next) NoNumber
 
-abbrev pub against : StoreContents → DocId → Change → Option StoredDocument → Act → Option StoreRefusal
+abbrev pub against : StoreContents → DocId → Change → Option StoredDocument → Act
+    → Option StoreRefusal
 against c id change held (Makes root) = option_or (against_tree c id true root) (against_number c)
-against c id change (Some h) Edits = option_or (against_tree c id false (edited h.tree change)) (against_number c)
+against c id change (Some h) Edits =
+    option_or (against_tree c id false (edited h.tree change)) (against_number c)
 against c id change None Edits = None
 against c id change held Removes = against_number c
 
@@ -133,14 +155,17 @@ against c id change held Removes = against_number c
 
 -- the change record: the etag before, or 0 where there is none, and the new number
 abbrev pub note_for : StoreContents → DocId → Change → Option StoredDocument → Note
-note_for c id change None = record { previous = 0; next = c.next; bindings = []; change = change; fresh = false }
+note_for c id change None =
+    record { previous = 0; next = c.next; bindings = []; change = change; fresh = false }
 note_for c id change (Some h) = note_of h.tag c.next h.tree change
 
-abbrev pub answered : Option StoreRefusal → Note → StoreContents → Result (Note × StoreContents) StoreRefusal
+abbrev pub answered : Option StoreRefusal → Note → StoreContents
+    → Result (Note × StoreContents) StoreRefusal
 answered None note next = Ok (note, next)
 answered (Some refusal) note next = Err refusal
 
 -- the first reason against the change, or its record and the contents after it
 abbrev pub changing : StoreContents → DocId → Change → Result (Note × StoreContents) StoreRefusal
 changing c id change =
-    answered (against c id change (document_in stored_name c.documents id) (act_of change)) (note_for c id change (document_in stored_name c.documents id)) (content_after c id change)
+    answered (against c id change (document_in stored_name c.documents id) (act_of change))
+    (note_for c id change (document_in stored_name c.documents id)) (content_after c id change)

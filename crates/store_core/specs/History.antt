@@ -20,7 +20,8 @@ AreSound usage t (n ∷ ns) = IsSoundFor usage t × AreSound usage (edited t n.c
 
 -- the records lead from the first version to the second, through sound trees, and have etags below
 -- a bound
-pub record Leads (usage : Option Usage) (next : ℕ) (from : Version) (ns : List Note) (to : Version) : Type 0 where
+pub record Leads (usage : Option Usage) (next : ℕ) (from : Version) (ns : List Note)
+    (to : Version) : Type 0 where
   pub notes : AreNotesOf from.tag from.tree ns
   pub tree : tree_after from.tree ns ≡ to.tree
   pub tag : tag_after from.tag ns ≡ to.tag

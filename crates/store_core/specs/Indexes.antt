@@ -1,6 +1,7 @@
 -- The documents that the index of all services lists. RFC 4826, section 4.4.7: the users'
 -- documents with the name `index`.
-use Rattle.std.specs.Prelude.{◌≡◌, ℕ, Bool, true, List, map, codes, Option, None, Some, chars, filter_map}
+use Rattle.std.specs.Prelude.{◌≡◌, ℕ, Bool, true, List, map, codes, Option, None, Some, chars}
+use Rattle.std.specs.Prelude.{filter_map}
 use Rattle.std.specs.List.Sorted.{IsSortedByKey, IsStableByKey}
 use Rattle.std.specs.Cmp.Lexicographic.{slice_cmp}
 use Rattle.std.specs.Ordering.{nat_cmp}
@@ -36,4 +37,6 @@ pub record AreByUser (documents ordered : List (List ℕ × Tree)) : Type 0 wher
 
 -- the trees that the index lists, by the users' names
 abbrev pub AreIndexTrees : StoreContents → List Tree → Type 0
-AreIndexTrees c trees = (ordered : List (List ℕ × Tree)) × AreByUser (filter_map indexed c.documents) ordered × (trees ≡ map (λ d. d.1) ordered)
+AreIndexTrees c trees =
+    (ordered : List (List ℕ × Tree)) × AreByUser (filter_map indexed c.documents) ordered
+    × (trees ≡ map (λ d. d.1) ordered)

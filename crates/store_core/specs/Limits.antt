@@ -1,7 +1,8 @@
 -- The limits of the store, which are the constants of the code. They are this server's own; no
 -- standard sets any.
 use Rattle.std.specs.Prelude.{ℕ}
-use Rattle.store_core.specs.declared.limits.TheConstants.{MAX_DOCUMENTS, MAX_BYTES, MAX_BYTES_TOGETHER, MAX_NOTES, MAX_WEIGHT}
+use Rattle.store_core.specs.declared.limits.TheConstants.{MAX_DOCUMENTS, MAX_BYTES}
+use Rattle.store_core.specs.declared.limits.TheConstants.{MAX_BYTES_TOGETHER, MAX_NOTES, MAX_WEIGHT}
 
 -- the greatest number of documents
 abbrev pub max_documents : ℕ

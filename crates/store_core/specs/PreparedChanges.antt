@@ -1,5 +1,6 @@
 -- A prepared change, and what makes it ready for a store.
-use Rattle.std.specs.Prelude.{◌≡◌, ℕ, ◌+◌, ◌≤◌, Bool, List, [], ◌++◌, length, sum_by, Option, None, Some, Result, Ok, Err, MatchResult}
+use Rattle.std.specs.Prelude.{◌≡◌, ℕ, ◌+◌, ◌≤◌, Bool, List, [], ◌++◌, length, sum_by, Option, None}
+use Rattle.std.specs.Prelude.{Some, Result, Ok, Err, MatchResult}
 use Rattle.std.specs.Map.{lookup}
 use Rattle.usage_docs.specs.Services.{document_len}
 use Rattle.doc_names.specs.Equality.{same_id}
@@ -13,7 +14,8 @@ use Rattle.store_core.specs.Contents.{StoredDocument, StoreContents}
 use Rattle.store_core.specs.ValidStates.{addresses_in}
 use Rattle.store_core.specs.Queries.{Asks}
 use Rattle.store_core.specs.TreeChanges.{IsOwnWhere, IsStagedIn}
-use Rattle.store_core.specs.DocumentChanges.{Edits, act_of, changing, content_after, document_in, stored_name}
+use Rattle.store_core.specs.DocumentChanges.{Edits, act_of, changing, content_after, document_in}
+use Rattle.store_core.specs.DocumentChanges.{stored_name}
 use Rattle.store_core.specs.Stored.{Stored, entry_of}
 
 -- ---- a prepared change
@@ -30,7 +32,9 @@ pub record Readied : Type 0 where
 
 -- some addresses are replaced by these, between the same others
 abbrev pub Exchanges : List (List ℕ) → List (List ℕ) → List (List ℕ) → List (List ℕ) → Type 0
-Exchanges old leaves enters new = (before : List (List ℕ)) × (behind : List (List ℕ)) × (old ≡ before ++ (leaves ++ behind)) × (new ≡ before ++ (enters ++ behind))
+Exchanges old leaves enters new =
+    (before : List (List ℕ)) × (behind : List (List ℕ))
+    × (old ≡ before ++ (leaves ++ behind)) × (new ≡ before ++ (enters ++ behind))
 
 abbrev pub total_of : StoreContents → ℕ
 total_of c = sum_by (λ h. document_len h.tree) c.documents
@@ -38,16 +42,24 @@ total_of c = sum_by (λ h. document_len h.tree) c.documents
 -- the step is the change's
 abbrev pub IsStepOf : StoreContents → Readied → Step → Type 0
 IsStepOf c p (Make key entry) =
-    (document_in stored_name c.documents p.doc ≡ None) × (p.note.change ≡ CreateDocument entry.tree.root) × (entry ≡ entry_of c.next entry.tree.root) × (p.leaves ≡ [])
-    × (p.enters ≡ addresses_in p.doc.auid entry.tree.root) × (p.total ≡ total_of c + document_len entry.tree.root)
+    (document_in stored_name c.documents p.doc ≡ None)
+    × (p.note.change ≡ CreateDocument entry.tree.root) × (entry ≡ entry_of c.next entry.tree.root)
+    × (p.leaves ≡ [])
+    × (p.enters ≡ addresses_in p.doc.auid entry.tree.root)
+    × (p.total ≡ total_of c + document_len entry.tree.root)
     × (key ≡ p.doc)
 IsStepOf c p (Edit staged kept len) =
-    (h : StoredDocument) × (document_in stored_name c.documents p.doc ≡ Some h) × (act_of p.note.change ≡ Edits) × IsStagedIn h.tree p.note.change staged
-    × (len ≡ document_len (edited h.tree p.note.change)) × (kept ≡ p.note) × (p.note ≡ note_of h.tag c.next h.tree p.note.change)
-    × Exchanges (addresses_in p.doc.auid h.tree) p.leaves p.enters (addresses_in p.doc.auid (edited h.tree p.note.change))
+    (h : StoredDocument) × (document_in stored_name c.documents p.doc ≡ Some h)
+    × (act_of p.note.change ≡ Edits) × IsStagedIn h.tree p.note.change staged
+    × (len ≡ document_len (edited h.tree p.note.change)) × (kept ≡ p.note)
+    × (p.note ≡ note_of h.tag c.next h.tree p.note.change)
+    × Exchanges (addresses_in p.doc.auid h.tree) p.leaves p.enters
+    (addresses_in p.doc.auid (edited h.tree p.note.change))
     × (p.total + document_len h.tree ≡ total_of c + len)
 IsStepOf c p End =
-    (h : StoredDocument) × (document_in stored_name c.documents p.doc ≡ Some h) × (p.note.change ≡ RemoveDocument) × (p.leaves ≡ addresses_in p.doc.auid h.tree) × (p.enters ≡ [])
+    (h : StoredDocument) × (document_in stored_name c.documents p.doc ≡ Some h)
+    × (p.note.change ≡ RemoveDocument) × (p.leaves ≡ addresses_in p.doc.auid h.tree)
+    × (p.enters ≡ [])
     × (p.total + document_len h.tree ≡ total_of c)
 
 -- it is a change that the store makes, with the record that the store returns
@@ -75,4 +87,5 @@ pub record IsReady (s : Stored) (p : Readied) : Type 0 where
 
 -- the call makes the stated step; or nothing changes, and the refusal is the stated one
 abbrev pub Steps : {N S E : Type 0} → Result (N × S) E → Result N E → S → S → Type 0
-Steps stated r old new = MatchResult r (λ n. stated ≡ Ok (n, new)) (λ e. (new ≡ old) × (stated ≡ Err e))
+Steps stated r old new =
+    MatchResult r (λ n. stated ≡ Ok (n, new)) (λ e. (new ≡ old) × (stated ≡ Err e))

@@ -4,7 +4,7 @@
 use Rattle.std.specs.Prelude.{◌≡◌, ◌≤◌, [], Option, None, Some, IsSome, IsSomeAnd}
 use Rattle.xml_tree.specs.Tree.{Tree, height}
 use Rattle.xml_tree.specs.Proper.{ProperIn}
-use Rattle.xml_tree.specs.Limits.{max_levels}
+use Rattle.xml_names.specs.Limits.{max_levels}
 use Rattle.usage_docs.specs.Validation.{HasFirstFault}
 use Rattle.doc_names.specs.declared.usages.Usage.{Usage}
 use Rattle.doc_names.specs.Ids.{IsAddressable}
@@ -13,7 +13,8 @@ use Rattle.edit_ops.specs.Changes.{Fits, edited}
 use Rattle.edit_ops.specs.declared.change.Change.{Change}
 use Rattle.store_core.specs.ValidStates.{IsUserDocument}
 use Rattle.doc_names.specs.Usages.{usage_of}
-use Rattle.store_core.specs.DocumentChanges.{Act, Makes, Edits, Removes, act_of, document_in, stored_name}
+use Rattle.store_core.specs.DocumentChanges.{Act, Makes, Edits, Removes, act_of, document_in}
+use Rattle.store_core.specs.DocumentChanges.{stored_name}
 use Rattle.store_core.specs.Contents.{StoreContents}
 
 -- a tree that may be a document of the application usage, if it isn't too long
@@ -27,8 +28,12 @@ MayBeFor None t = ⊥
 MayBeFor (Some usage) t = MayBe usage t
 
 abbrev pub AsksAct : StoreContents → DocId → Change → Act → Type 0
-AsksAct c id change (Makes root) = (document_in stored_name c.documents id ≡ None) × IsAddressable id × IsUserDocument id.home × MayBeFor (usage_of id.auid) root
-AsksAct c id change Edits = IsSomeAnd (document_in stored_name c.documents id) (λ h. Fits h.tree change × MayBeFor (usage_of h.id.auid) (edited h.tree change))
+AsksAct c id change (Makes root) =
+    (document_in stored_name c.documents id ≡ None) × IsAddressable id × IsUserDocument id.home
+    × MayBeFor (usage_of id.auid) root
+AsksAct c id change Edits =
+    IsSomeAnd (document_in stored_name c.documents id) (λ h.
+    Fits h.tree change × MayBeFor (usage_of h.id.auid) (edited h.tree change))
 AsksAct c id change Removes = IsSome (document_in stored_name c.documents id)
 
 abbrev pub Asks : StoreContents → DocId → Change → Type 0

@@ -22,4 +22,7 @@ notes_from tag (n ∷ ns) = if n.previous == tag then Some (n ∷ ns) else notes
 -- the changes of a document since the version with this etag
 abbrev pub since : StoreContents → DocId → ℕ → ChangesSince
 since c id tag =
-    option_map_or (λ h. if h.tag == tag then ReportedChanges [] else option_map_or ReportedChanges (notes_from tag h.notes) Unknown) (document_in stored_name c.documents id) Gone
+    option_map_or (λ h.
+    if h.tag == tag then ReportedChanges []
+    else option_map_or ReportedChanges (notes_from tag h.notes) Unknown)
+    (document_in stored_name c.documents id) Gone

@@ -1,6 +1,7 @@
 -- The state of the abstract machine: every document with all its versions. RFC 4825, section 8.5:
 -- each change gives a document a new entity tag.
-use Rattle.std.specs.Prelude.{ℕ, Bool, ◌&&◌, nat_le, List, [], ◌∷◌, length, reverse, sum_by, Option, None, Some, if◌then◌else◌, filter_map}
+use Rattle.std.specs.Prelude.{ℕ, Bool, ◌&&◌, nat_le, List, [], ◌∷◌, length, reverse, sum_by, Option}
+use Rattle.std.specs.Prelude.{None, Some, if◌then◌else◌, filter_map}
 use Rattle.xml_tree.specs.Tree.{Tree}
 use Rattle.doc_names.specs.declared.doc_id.DocId.{DocId}
 use Rattle.edit_ops.specs.Changes.{edited}
@@ -47,7 +48,8 @@ is_small weight xs = nat_le (length xs) max_notes && nat_le (sum_by weight xs) m
 abbrev pub small_end : {A : Type 0} → (A → ℕ) → List A → List A
 small_end weight [] = []
 small_end weight (x ∷ []) = x ∷ []
-small_end weight (x ∷ y ∷ xs) = if is_small weight (x ∷ y ∷ xs) then x ∷ y ∷ xs else small_end weight (y ∷ xs)
+small_end weight (x ∷ y ∷ xs) =
+    if is_small weight (x ∷ y ∷ xs) then x ∷ y ∷ xs else small_end weight (y ∷ xs)
 
 -- the retained records; a record weighs as many bytes as its operation's text has
 abbrev pub retained : List Note → List Note
@@ -57,8 +59,14 @@ retained ns = small_end weight ns
 
 -- the document after a change of its tree
 abbrev pub renewed : ℕ → Document → Note → Document
-renewed tag d n = record { id = d.id; now = record { tag = tag; tree = edited d.now.tree n.change; note = Some n }; earlier = versions d }
+renewed tag d n =
+    record {
+      id = d.id;
+      now = record { tag = tag; tree = edited d.now.tree n.change; note = Some n };
+      earlier = versions d;
+    }
 
 -- a new document
 abbrev pub created : DocId → ℕ → Tree → Document
-created id tag root = record { id = id; now = record { tag = tag; tree = root; note = None }; earlier = [] }
+created id tag root =
+    record { id = id; now = record { tag = tag; tree = root; note = None }; earlier = [] }

@@ -21,4 +21,10 @@ pub record Stored : Type 0 where
 -- the entry of a document created with this number, whose change record shares its tree
 abbrev pub entry_of : ℕ → Tree → Entry
 entry_of number t =
-    record { created = number; tag = number; tree = record { root = t; own = false }; len = document_len t; notes = [] }
+    record {
+      created = number;
+      tag = number;
+      tree = record { root = t; own = false };
+      len = document_len t;
+      notes = [];
+    }

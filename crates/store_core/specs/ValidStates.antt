@@ -1,9 +1,10 @@
 -- The invariant of a machine's state, for every version of every document.
-use Rattle.std.specs.Prelude.{◌≡◌, ◌≢◌, ℕ, ◌<◌, ◌≤◌, List, [], ◌∷◌, length, map, sum_by, flat_map, Option, None, Some}
+use Rattle.std.specs.Prelude.{◌≡◌, ◌≢◌, ℕ, ◌<◌, ◌≤◌, List, [], ◌∷◌, length, map, sum_by, flat_map}
+use Rattle.std.specs.Prelude.{Option, None, Some}
 use Rattle.std.specs.List.{AllByRecursion}
 use Rattle.xml_tree.specs.Tree.{Tree, height}
 use Rattle.xml_tree.specs.Proper.{ProperIn}
-use Rattle.xml_tree.specs.Limits.{max_levels}
+use Rattle.xml_names.specs.Limits.{max_levels}
 use Rattle.usage_docs.specs.Validation.{HasFirstFault}
 use Rattle.usage_docs.specs.Services.{document_len, service_uris}
 use Rattle.doc_names.specs.declared.usages.Usage.{Usage}
@@ -50,7 +51,9 @@ IsSoundFor (Some usage) t = IsSound usage t
 abbrev pub FollowFrom : Version → List Version → Type 0
 FollowFrom v [] = v.note ≡ None
 FollowFrom v (w ∷ ws) =
-    ((n : Note) × (v.note ≡ Some n) × Fits w.tree n.change × (v.tree ≡ edited w.tree n.change) × (n ≡ note_of w.tag v.tag w.tree n.change)) × (w.tag < v.tag)
+    ((n : Note) × (v.note ≡ Some n) × Fits w.tree n.change × (v.tree ≡ edited w.tree n.change)
+    × (n ≡ note_of w.tag v.tag w.tree n.change))
+    × (w.tag < v.tag)
     × FollowFrom w ws
 
 -- ---- documents

@@ -6,13 +6,17 @@ ghost use Rattle.usage_docs.specs.Keys.{word};
 ghost use Rattle.usage_docs.specs.Services.{service_uris};
 ghost use Rattle.usage_docs.specs.declared.schema_table.Key.TheVariants as keys;
 ghost use Rattle.store_core.specs.ValidStates.{addresses_in};
-ghost use Rattle.store_core.specs.inner.Addresses.{address, address_at, addresses_at, enter_in, first, first_number, is_uri, leave_in, put_at, added_address, services_enter, services_leave, written_at};
+ghost use Rattle.store_core.specs.inner.Addresses.{address, address_at, addresses_at, enter_in};
+ghost use Rattle.store_core.specs.inner.Addresses.{first, first_number, is_uri, leave_in, put_at};
+ghost use Rattle.store_core.specs.inner.Addresses.{added_address, services_enter, services_leave};
+ghost use Rattle.store_core.specs.inner.Addresses.{written_at};
 
 use doc_names::Auid;
 use edit_ops::Change;
 use std::alloc::{AllocError, Global};
 use usage_docs::{Key, services, value_of};
-use xml_tree::{Element, List, LocalName, Name, Path, Text};
+use xml_names::{List, LocalName, Name, Text};
+use xml_tree::{Element, Path};
 
 // ---- all of a document
 

@@ -1,8 +1,7 @@
 //! Commits prepared changes.
-ghost use Rattle.std.specs.Prelude.{◌≡◌, IfOk, Ok, OnErr, OnOk};
+ghost use Rattle.std.specs.Prelude.{◌≡◌, IfOk, OnErr};
 ghost use Rattle.store_core.specs.Queries.{Asks};
 ghost use Rattle.store_core.specs.DocumentChanges.{changing, content_after};
-ghost use Rattle.store_core.specs.KeyAddresses.{KeepsAddressesOf};
 ghost use Rattle.store_core.specs.PreparedChanges.{IsReady, Steps};
 
 use crate::NoMemory;
@@ -21,8 +20,6 @@ impl Store {
         ensures holds_change { self.new.content
             ≡ content_after self.old.content prepared.doc prepared.note.change }
         ensures prepared_edit { result ≡ record { doc = prepared.doc; note = prepared.note } }
-        ensures keeps_key_addresses { KeepsAddressesOf self.old.content prepared.doc
-            prepared.note.change self.new.content }
     {
         let Prepared {
             doc,
@@ -57,8 +54,6 @@ impl Store {
             (λ r. Steps (changing self.old.content doc change) r self.old.content
             self.new.content) }
         ensures no_memory_unchanged { OnErr result (self.new.content ≡ self.old.content) }
-        ensures keeps_key_addresses { IfOk result
-            (λ r. OnOk r (KeepsAddressesOf self.old.content doc change self.new.content)) }
     {
         match self.prepare(doc, change)? {
             Ok(prepared) => Ok(Ok(self.commit(prepared).note)),

@@ -2,7 +2,7 @@
 ghost use Rattle.std.specs.Prelude.{◌≡◌, ◌≤◌, [], map, All, IfOk, None, if◌then◌else◌};
 ghost use Rattle.std.specs.Str.{bytes_eq};
 ghost use Rattle.std.specs.Option.{option_map};
-ghost use Rattle.xml_tree.specs.Limits.{max_levels};
+ghost use Rattle.xml_names.specs.Limits.{max_levels};
 ghost use Rattle.xml_tree.specs.Tree.{Tree, height};
 ghost use Rattle.store_core.specs.Indexes.{AreIndexTrees, index, indexed_by, indexed_in};
 ghost use Rattle.store_core.specs.inner.ServiceListing.{entered, listed, pairs_in};
@@ -12,7 +12,8 @@ use crate::{NoMemory, Store};
 use doc_names::{Auid, DocId, Home};
 use std::alloc::{AllocError, Global};
 use std::collections::BTreeMap;
-use xml_tree::{Element, Text};
+use xml_names::Text;
+use xml_tree::Element;
 
 // The user who owns the home.
 fn user_of(home: &Home) -> Option<&Text>

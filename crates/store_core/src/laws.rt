@@ -5,9 +5,9 @@ ghost use Rattle.xml_tree.specs.Tree.{Tree};
 ghost use Rattle.store_core.specs.State.{State, first_state};
 ghost use Rattle.store_core.specs.Contents.{Represents, StoreContents};
 ghost use Rattle.store_core.specs.Indexes.{AreIndexTrees};
-ghost use Rattle.store_core.specs.KeyAddresses.{KeepsAddressesOf};
 ghost use Rattle.store_core.specs.ValidStates.{IsValidState};
-ghost use Rattle.store_core.specs.DocumentChanges.{after, changing, content_after, document_in, stored_name, note_for};
+ghost use Rattle.store_core.specs.DocumentChanges.{after, changing, content_after, document_in};
+ghost use Rattle.store_core.specs.DocumentChanges.{stored_name, note_for};
 ghost use Rattle.store_core.specs.AcceptableChanges.{Suits};
 ghost use Rattle.doc_names.specs.declared.doc_id.DocId.{DocId};
 ghost use Rattle.edit_ops.specs.Notes.{Note};
@@ -53,17 +53,10 @@ pub fn changes_that_are_made_keep_store_and_state()
 pub fn changes_that_suit_the_state_are_made()
     ensures suited_is_made { (c : StoreContents) (m : State) (id : DocId) (change : Change)
         → Represents c m → IsValidState m
-        → Suits m id change → m.next < 18446744073709551616 → changing c id change
-        ≡ Ok (note_for c id change (document_in stored_name c.documents id), content_after c id change) }
-{}
-
-/// A law: where contents represent a valid state, a change that the store makes preserves what the
-/// document's key addresses select. An address that selected an element selects it where the
-/// change moves it, if it still exists and no key on its path is written or removed.
-pub fn changes_that_are_made_leave_key_addresses()
-    ensures keeps_selected { (c : StoreContents) (m : State) (id : DocId) (change : Change)
-        (note : Note) (next : StoreContents) → Represents c m → IsValidState m → Asks c id change
-        → changing c id change ≡ Ok (note, next) → KeepsAddressesOf c id change next }
+        → Suits m id change → m.next < 18446744073709551616
+        → changing c id change
+        ≡ Ok
+        (note_for c id change (document_in stored_name c.documents id), content_after c id change) }
 {}
 
 /// A law: the contents have exactly one list of the trees that the index of services lists.

@@ -32,10 +32,9 @@ mod step;
 mod store;
 
 pub use laws::{
-    changes_that_are_made_keep_store_and_state, changes_that_are_made_leave_key_addresses,
-    changes_that_are_made_suit_the_state, changes_that_suit_the_state_are_made,
-    states_stay_valid_after_each_change, stores_stand_after_each_change, the_first_state_is_valid,
-    the_index_has_one_list,
+    changes_that_are_made_keep_store_and_state, changes_that_are_made_suit_the_state,
+    changes_that_suit_the_state_are_made, states_stay_valid_after_each_change,
+    stores_stand_after_each_change, the_first_state_is_valid, the_index_has_one_list,
 };
 pub use limits::MAX_BYTES;
 pub use prepared_change::Prepared;

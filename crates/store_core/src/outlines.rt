@@ -24,7 +24,8 @@ use doc_names::DocId;
 use edit_ops::{Change, EditNote, RecordedTree, stage};
 use std::alloc::Global;
 use xcap_io::Bytes;
-use xml_tree::{Element, List, Text};
+use xml_names::{List, Text};
+use xml_tree::Element;
 
 /// What is known of a document after a change, before there is a change record.
 #[derive(Drop)]
@@ -73,7 +74,13 @@ fn noted_creation(
     requires print_of_part { IsPrintOf root print }
     requires length_exact { len ≡ document_len root }
     ensures creation_record { IfOk result
-        (λ made. made.0 ≡ record { previous = 0; next = number; bindings = []; change = changes.CreateDocument root; fresh = false }) }
+        (λ made. made.0 ≡ record {
+          previous = 0;
+          next = number;
+          bindings = [];
+          change = changes.CreateDocument root;
+          fresh = false;
+        }) }
     ensures makes_document { IfOk result
         (λ made. made.1 ≡ steps.Make doc.now (entry_of number root)) }
 {
@@ -96,7 +103,13 @@ pub(crate) fn creation(
     requires length_exact { outline.len ≡ document_len root }
     ensures ok { IfOk result (λ p. p ≡ record {
       doc = doc;
-      note = record { previous = 0; next = outline.number; bindings = []; change = changes.CreateDocument root; fresh = false };
+      note = record {
+        previous = 0;
+        next = outline.number;
+        bindings = [];
+        change = changes.CreateDocument root;
+        fresh = false;
+      };
       step = steps.Make doc (entry_of outline.number root);
       leaves = outline.leaves;
       enters = outline.enters;
@@ -136,7 +149,13 @@ pub(crate) fn removal(
 ) -> Result<Prepared, NoMemory>
     ensures ok { IfOk result (λ p. p ≡ record {
       doc = doc;
-      note = record { previous = tag; next = number; bindings = []; change = changes.RemoveDocument; fresh = false };
+      note = record {
+        previous = tag;
+        next = number;
+        bindings = [];
+        change = changes.RemoveDocument;
+        fresh = false;
+      };
       step = steps.End;
       leaves = leaves;
       enters = [];

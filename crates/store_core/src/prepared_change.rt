@@ -5,7 +5,7 @@ use crate::step::Step;
 use doc_names::DocId;
 use edit_ops::EditNote;
 use std::marker::Model;
-use xml_tree::{List, Text};
+use xml_names::{List, Text};
 
 /// A change of a document with all its memory. It borrows nothing, and if it is dropped the
 /// store's contents are unchanged; but a tree that was shared may then be the document's own.
@@ -33,7 +33,14 @@ impl Model for Prepared {
 
     ghost coded = { Prim.hlevel (codes, d.the_row.coded, c.the_row.coded, s.the_row.coded) };
 
-    ghost view = { λ p. record { doc = p.doc; note = p.note; step = p.step; leaves = p.leaves; enters = p.enters; total = p.total } };
+    ghost view = { λ p. record {
+      doc = p.doc;
+      note = p.note;
+      step = p.step;
+      leaves = p.leaves;
+      enters = p.enters;
+      total = p.total;
+    } };
 }
 
 impl Prepared {

@@ -5,7 +5,8 @@ ghost use Rattle.edit_ops.specs.Lengths.{element_len};
 ghost use Rattle.edit_ops.specs.Inserted.{BringsElement, inserted_part};
 ghost use Rattle.store_core.specs.inner.Prints.{IsInsertedPrint, IsPrintOf};
 ghost use Rattle.usage_docs.specs.Services.{document_len};
-ghost use Rattle.xml_tree.specs.Print.{byte_len, print};
+ghost use Rattle.xml_names.specs.Markup.{byte_len};
+ghost use Rattle.xml_tree.specs.Print.{print};
 ghost use Rattle.xml_tree.specs.Tree.{Tree};
 
 use crate::NoMemory;

@@ -1,13 +1,14 @@
 //! The registry of service addresses: which document has each, by the number of the document's
 //! creation (RFC 4826, section 4.4.5).
-ghost use Rattle.std.specs.Prelude.{◌≡◌, ℕ, ◌≤◌, List, position, vec_len, Some, None, if◌then◌else◌};
+ghost use Rattle.std.specs.Prelude.{◌≡◌, ℕ, ◌≤◌, List, position, vec_len, Some, None};
+ghost use Rattle.std.specs.Prelude.{if◌then◌else◌};
 ghost use Rattle.std.specs.Set.{is_member};
 ghost use Rattle.std.specs.Str.{bytes_eq};
 ghost use Rattle.indexmap.specs.IndexMap.{spare};
 ghost use Rattle.store_core.specs.inner.Storing.{is_others, registered};
 
 use indexmap::IndexMap;
-use xml_tree::Text;
+use xml_names::Text;
 
 pub(crate) type Registry = IndexMap<Text, u64>;
 

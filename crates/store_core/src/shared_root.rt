@@ -8,7 +8,8 @@ use crate::NoMemory;
 use edit_ops::{Change, RecordedTree, Staged, apply_staged};
 use std::alloc::Global;
 use std::mem;
-use xml_tree::{Element, LocalName, Name, Prefix, copy_tree};
+use xml_names::{LocalName, Name, Prefix};
+use xml_tree::{Element, copy_tree};
 
 /// The root of a tree.
 #[derive(Drop)]

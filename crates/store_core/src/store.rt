@@ -1,7 +1,7 @@
 //! The store of all documents.
 ghost use Rattle.std.specs.Prelude.{◌≡◌, ℕ, ◌+◌, ◌≤◌, [], length, sum_by, IfOk, IfSome, OnOk};
 ghost use Rattle.std.specs.Option.{option_map};
-ghost use Rattle.xml_tree.specs.Limits.{max_levels};
+ghost use Rattle.xml_names.specs.Limits.{max_levels};
 ghost use Rattle.xml_tree.specs.Tree.{Tree, height};
 ghost use Rattle.usage_docs.specs.Services.{document_len};
 ghost use Rattle.store_core.specs.State.{State};
@@ -44,7 +44,14 @@ impl Model for Store {
 
     ghost coded = { Prim.hlevel (codes, tree_code, d.the_row.coded, c.the_row.coded) };
 
-    ghost view = { λ s. record { content = content_in s.documents.entries s.last; room = record { documents = spare s.documents; services = spare s.services; trees = trees_in s.documents.entries } } };
+    ghost view = { λ s. record {
+      content = content_in s.documents.entries s.last;
+      room = record {
+        documents = spare s.documents;
+        services = spare s.services;
+        trees = trees_in s.documents.entries;
+      };
+    } };
 
     ghost invariant = { λ s. IsStoring s.documents.entries s.services.entries s.last s.total };
 }

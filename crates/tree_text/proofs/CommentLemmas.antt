@@ -5,11 +5,11 @@ use Rattle.std.specs.List.{list_all, cons_option as with_char}
 use Rattle.std.proofs.lemmas.Bool.{eqb-true, eq-eqb}
 use Rattle.xml_grammar.specs.Reading.{Stop, Syntax, ◌>>=◌, head_is, starts}
 use Rattle.xml_grammar.specs.readers.Functions.{read_up_to}
-use Rattle.xml_tree.specs.Characters.{is_char}
-use Rattle.xml_tree.specs.Comments.{is_kept_char, hyphens_apart, is_comment}
-use Rattle.tree_text.specs.declared.fault_kind.FaultKind.{FaultKind}
-use Rattle.tree_text.specs.Pieces.{line_ends}
-use Rattle.tree_text.specs.readers.Words.{dashes}
+use Rattle.xml_names.specs.Characters.{is_char}
+use Rattle.xml_names.specs.Comments.{is_kept_char, hyphens_apart, is_comment}
+use Rattle.xml_tokens.specs.declared.fault_kind.FaultKind.{FaultKind}
+use Rattle.xml_tokens.specs.Values.{line_ends}
+use Rattle.xml_tokens.specs.readers.Words.{dashes}
 
 -- there is a first character, and it isn't a hyphen
 other_head : List ℕ → Bool

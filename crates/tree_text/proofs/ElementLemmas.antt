@@ -6,20 +6,21 @@ use Rattle.xml_grammar.specs.Reading.{Reader, Stop, Syntax, Faulty, ◌>>=◌, h
 use Rattle.xml_grammar.specs.readers.Functions.{judgement, read_judged, read_at_most, read_many}
 use Rattle.xml_tree.specs.Edits.{with_text}
 use Rattle.xml_tree.specs.Tree.{Content, last, Tree, tree_of}
-use Rattle.xml_tree.specs.declared.names.Decl.{Decl}
+use Rattle.xml_names.specs.declared.names.Decl.{Decl}
 use Rattle.tree_text.specs.readers.Bindings.{AreBack, AreOpenNamespaces, lists}
 use Rattle.tree_text.specs.declared.bindings.Bindings.{Bindings}
-use Rattle.tree_text.specs.declared.fault_kind.FaultKind.{FaultKind}
-use Rattle.tree_text.specs.declared.parse_error.ParseError.{ParseError as CodeStop}
-use Rattle.tree_text.specs.declared.parse_error.ParseError.TheVariants as stops
-use Rattle.tree_text.specs.readers.Results.{Fails}
+use Rattle.xml_tokens.specs.declared.fault_kind.FaultKind.{FaultKind}
+use Rattle.xml_tokens.specs.declared.parse_error.ParseError.{ParseError as CodeStop}
+use Rattle.xml_tokens.specs.declared.parse_error.ParseError.TheVariants as stops
+use Rattle.xml_tokens.specs.readers.Results.{Fails}
 use Rattle.tree_text.specs.readers.Members.{filled, tree_with, with_chars, with_one, read_chars_onto, read_member, read_child, read_onto, read_filled, read_filled_behind}
 use Rattle.tree_text.specs.Names.{decls_of, attrs_of, element_of}
 use Rattle.tree_text.specs.readers.Judging.{counted_back, first_of_tag, tag_fault}
 use Rattle.tree_text.specs.Pieces.{Markup, Inner, StartTag, with_pieces}
-use Rattle.tree_text.specs.readers.Texts.{markup_follows, other_follows, read_chars, read_markup, read_tag, read_behind_tag, read_element}
-use Rattle.tree_text.specs.readers.Words.{bang, instruction_start}
-use Rattle.tree_text.proofs.Loops.{finish, start, valued_ok, valued_err, valued_stops}
+use Rattle.xml_tokens.specs.readers.Tokens.{read_chars}
+use Rattle.tree_text.specs.readers.Texts.{markup_follows, other_follows, read_markup, read_tag, read_behind_tag, read_element}
+use Rattle.xml_tokens.specs.readers.Words.{bang, instruction_start}
+use Rattle.xml_tokens.proofs.Loops.{finish, start, valued_ok, valued_err, valued_stops}
 
 abbrev dressed_read : StartTag → Result (Content × List ℕ) (Stop FaultKind) → Result (Tree × List ℕ) (Stop FaultKind)
 dressed_read t out = out >>= λ y. Ok (element_of (t, y.0), y.1)

@@ -6,7 +6,7 @@ use Rattle.std.proofs.lemmas.Str.{IsUtf8-take, IsUtf8-drop, IsCharBoundary-befor
 use Rattle.std.proofs.lemmas.Grind.{flat_map-append}
 use Rattle.std.proofs.lemmas.List.{take_more}
 use Rattle.std.proofs.lemmas.Bool.Decides.{nat_tests}
-use Rattle.xml_tree.proofs.Escapes.{encode-text, encode-value}
+use Rattle.xml_names.proofs.Escapes.{encode-text, encode-value}
 use Rattle.tree_text.specs.declared.escapes.Place.{Place}
 use Rattle.tree_text.specs.declared.escapes.Place.TheVariants.{Content, Quotes}
 use Rattle.tree_text.specs.inner.Escapes.{escape_in}

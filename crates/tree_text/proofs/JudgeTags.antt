@@ -2,22 +2,24 @@
 use Rattle.std.proofs.Common.{◌≡◌, ℕ, zero, suc, ◌+◌, ◌-◌, ◌<◌, ◌≤◌, Bool, true, false, cond, List, [], ◌∷◌, ◌++◌, length, ◌⊎◌, inl, inr, ⊎_elim, refl, sym, ap, subst, ◌∙◌, append_assoc, arith}
 use Rattle.std.specs.Prelude.{Option, None, Some}
 use Rattle.std.proofs.lemmas.List.{length-append, append-nil}
-use Rattle.xml_tree.specs.Characters.{is_name_start, is_name_char, is_space}
-use Rattle.xml_tree.specs.declared.names.Name.{Name}
-use Rattle.xml_tree.specs.declared.names.Decl.{Decl}
+use Rattle.xml_names.specs.Characters.{is_name_start, is_name_char, is_space}
+use Rattle.xml_names.specs.declared.names.Name.{Name}
+use Rattle.xml_names.specs.declared.names.Decl.{Decl}
 use Rattle.xml_grammar.specs.Rules.{Each, word, sequence, many, optional, keeping_first, keeping_second, name_rule as name_of}
 use Rattle.xml_grammar.proofs.Heads.{uses}
 use Rattle.xml_grammar.proofs.Marks.{Judges}
-use Rattle.tree_text.specs.readers.Words.{colon}
-use Rattle.tree_text.specs.declared.fault_kind.FaultKind.{FaultKind}
-use Rattle.tree_text.specs.declared.fault_kind.FaultKind.TheVariants.{Encoded, Doctyped, Depth, Unbound, Repeated}
+use Rattle.xml_tokens.specs.readers.Words.{colon}
+use Rattle.xml_tokens.specs.declared.fault_kind.FaultKind.{FaultKind}
+use Rattle.xml_tokens.specs.declared.fault_kind.FaultKind.TheVariants.{Encoded, Doctyped, Depth, Unbound, Repeated}
 use Rattle.tree_text.specs.declared.raw_attribute.RawAttribute.{RawAttribute}
 use Rattle.tree_text.specs.FaultKinds.{is_fault, rank, faults}
-use Rattle.tree_text.specs.Pieces.{StartTag, qname_of, written}
+use Rattle.xml_tokens.specs.Values.{qname_of, written}
+use Rattle.tree_text.specs.Pieces.{StartTag}
 use Rattle.tree_text.specs.Names.{is_misnamed, is_repeated, IsWrongSaid, widths, IsWrong, inside_tag as inside, opening_size as opening, is_unbound_in as is_unbound}
 use Rattle.tree_text.specs.readers.Judging.{wrong_said, or_later, first_wrong, first_of_tag, counted_back, tag_fault}
-use Rattle.tree_text.specs.Grammar.{name, qname, spaces, raw_attribute, tag_end, start_tag}
-use Rattle.tree_text.proofs.NameLemmas.{prefixed_size}
+use Rattle.xml_tokens.specs.Tokens.{name, qname, spaces}
+use Rattle.tree_text.specs.Grammar.{raw_attribute, tag_end, start_tag}
+use Rattle.xml_tokens.proofs.NameLemmas.{prefixed_size}
 use Rattle.tree_text.proofs.ReadParts.{starts_attribute}
 
 -- # How long the parts of a tag are

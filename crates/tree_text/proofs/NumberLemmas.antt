@@ -8,8 +8,8 @@ use Rattle.std.specs.Ordering.{nat_cmp}
 use Rattle.std.specs.Global.{Vec}
 use Rattle.std.specs.Option.{is_some}
 use Rattle.std.specs.Prelude.{if◌then◌else◌}
-use Rattle.xml_tree.specs.Scopes.{xml_uri}
-use Rattle.xml_tree.specs.declared.names.Decl.{Decl}
+use Rattle.xml_names.specs.Scopes.{xml_uri}
+use Rattle.xml_names.specs.declared.names.Decl.{Decl}
 use Rattle.tree_text.specs.readers.Bindings.{AreNumbers, AreOf, at_text, number, numbers_at, stack, uris}
 use Rattle.tree_text.specs.declared.namespaces.Namespaces.{Namespaces}
 use Rattle.tree_text.proofs.StackLemmas.{uris-append}

@@ -5,15 +5,16 @@ use Rattle.std.specs.Str.{chars}
 use Rattle.xml_grammar.specs.Reading.{Faulty}
 use Rattle.xml_grammar.proofs.Whole.{told_alike}
 use Rattle.xml_tree.specs.Tree.{Tree}
-use Rattle.xml_tree.specs.declared.names.Decl.{Decl}
+use Rattle.xml_names.specs.declared.names.Decl.{Decl}
 use Rattle.tree_text.specs.declared.fault.TextFault.{TextFault}
 use Rattle.tree_text.specs.declared.fault.TextFault.TheVariants as texts
 use Rattle.tree_text.specs.declared.fault.ValueFault.{ValueFault}
-use Rattle.tree_text.specs.declared.fault_kind.FaultKind.{FaultKind}
-use Rattle.tree_text.specs.declared.fault_kind.FaultKind.TheVariants.{Encoded, Doctyped, Depth, Unbound, Repeated}
+use Rattle.xml_tokens.specs.declared.fault_kind.FaultKind.{FaultKind}
+use Rattle.xml_tokens.specs.declared.fault_kind.FaultKind.TheVariants.{Encoded, Doctyped, Depth, Unbound, Repeated}
 use Rattle.tree_text.specs.FaultKinds.{faults, rank}
 use Rattle.tree_text.specs.Grammar.{document, spelling}
-use Rattle.tree_text.specs.Faults.{byte_at, stop_fault, TextAnswer, spelling_of, body_result, BodyAnswer, text_result as told}
+use Rattle.xml_tokens.specs.Places.{byte_at}
+use Rattle.tree_text.specs.Faults.{stop_fault, TextAnswer, spelling_of, body_result, BodyAnswer, text_result as told}
 
 -- the fault of a rank
 by_rank : List ℕ → List ℕ → ℕ → TextFault

@@ -2,13 +2,14 @@
 use Rattle.std.proofs.Common.{◌≡◌, ℕ, ◌+◌, ◌<◌, ◌≤◌, Bool, true, false, List, [], ◌∷◌, ◌++◌, length, drop, get_or, refl, sym, ap, ◌∙◌, append_assoc}
 use Rattle.std.proofs.lemmas.List.{append-nil, drop_all}
 use Rattle.xml_tree.specs.Nodes.{content_of, AreNormal}
-use Rattle.xml_tree.specs.Print.{closing, declaring, ending, is_empty, print_content}
+use Rattle.xml_names.specs.Markup.{closing, declaring}
+use Rattle.xml_tree.specs.Print.{ending, is_empty, print_content}
 use Rattle.xml_tree.specs.inner.Print.{print_node}
 use Rattle.xml_tree.specs.Tree.{Tree}
-use Rattle.xml_tree.specs.declared.names.Name.{Name}
+use Rattle.xml_names.specs.declared.names.Name.{Name}
 use Rattle.xml_tree.specs.declared.tree.Node.{Node}
 use Rattle.xml_tree.proofs.PrintedNodes.{print-nodes, no_nodes, some_nodes}
-use Rattle.xml_tree.proofs.ScopeLemmas.{drop_item}
+use Rattle.xml_names.proofs.ScopeLemmas.{drop_item}
 use Rattle.std.specs.Prelude.{codes}
 use Rattle.std.specs.Str.{bytes_eq, chars}
 

@@ -1,34 +1,33 @@
 -- Printed elements are read as what was printed.
 use Rattle.std.proofs.Common.{◌≡◌, ℕ, zero, suc, ◌+◌, ◌<◌, ◌≤◌, Bool, true, false, cond, List, [], ◌∷◌, ◌++◌, length, None, refl, sym, ap, subst, ◌∙◌, append_assoc, append-nil, flat_map, length-append, arith}
 use Rattle.xml_grammar.specs.Reading.{Reader}
-use Rattle.xml_tree.specs.Characters.{is_name_start, is_space}
+use Rattle.xml_names.specs.Characters.{is_name_start}
 use Rattle.xml_tree.specs.Edits.{with_text_before}
-use Rattle.xml_tree.specs.Print.{opening, ending, closing, is_empty, print, print_attr, print_content, print_decl, print_name, print_text, print_comment}
+use Rattle.xml_names.specs.Markup.{opening, closing, print_attr, print_decl, print_name, print_text, print_comment}
+use Rattle.xml_tree.specs.Print.{ending, is_empty, print, print_content}
 use Rattle.xml_tree.specs.Proper.{IsTag, ProperIn}
 use Rattle.xml_tree.specs.inner.Proper.{Proper}
-use Rattle.xml_tree.specs.Scopes.{bound, xmlns_prefix}
+use Rattle.xml_names.specs.Scopes.{bound, xmlns_prefix}
 use Rattle.xml_tree.specs.Tree.{Content, last, more, comment_node, Tree, tree_of, height, content_height}
-use Rattle.xml_tree.specs.declared.names.Name.{Name}
-use Rattle.xml_tree.specs.declared.names.Decl.{Decl}
-use Rattle.xml_tree.specs.declared.names.Attr.{Attr}
-use Rattle.tree_text.specs.readers.Words.{end_start, greater}
-use Rattle.tree_text.specs.declared.fault_kind.FaultKind.{FaultKind}
+use Rattle.xml_names.specs.declared.names.Name.{Name}
+use Rattle.xml_names.specs.declared.names.Decl.{Decl}
+use Rattle.xml_names.specs.declared.names.Attr.{Attr}
+use Rattle.xml_tokens.specs.declared.fault_kind.FaultKind.{FaultKind}
 use Rattle.tree_text.specs.Names.{decls_of, attrs_of, element_of, inside_tag as inside}
-use Rattle.tree_text.specs.Pieces.{StartTag, written, written_by}
-use Rattle.tree_text.specs.readers.Texts.{read_end_tag, read_behind_tag, read_element}
-use Rattle.tree_text.proofs.ReadFronts.{Reads, reads_sequence, reads_valued, reads_before, reads_behind, reads_word, reads_none}
+use Rattle.xml_tokens.specs.Values.{written, written_by}
+use Rattle.tree_text.specs.Pieces.{StartTag}
+use Rattle.tree_text.specs.readers.Texts.{read_behind_tag, read_element}
+use Rattle.xml_tokens.proofs.ReadFronts.{Reads, reads_sequence, reads_valued, reads_before}
 use Rattle.tree_text.proofs.PrintedNames.{printed_head}
 use Rattle.tree_text.proofs.PrintedTags.{still_unbound, tag_from, tag_mark, tag_read}
 use Rattle.tree_text.proofs.PrintedContent.{IsContent, content_none, content_text, content_note, content_elem, reads_content}
+use Rattle.xml_tokens.proofs.NameFronts.{end_read}
 
 -- ---- end tags
 
 written_is : (p l : List ℕ) → print_name (record { prefix = p; local = l }) ≡ written_by p l
 written_is [] l = refl
 written_is (c ∷ cs) l = refl
-
-pub end_read : (n : Name) (rest : List ℕ) → Reads (read_end_tag n) (60 ∷ 47 ∷ (written n ++ 62 ∷ rest)) tt rest
-end_read n rest = reads_behind (reads_word end_start (written n ++ 62 ∷ rest)) (reads_behind (reads_word (written n) (62 ∷ rest)) (reads_behind (reads_none is_space (62 ∷ rest) refl) (reads_word greater rest)))
 
 closing_is : (n : Name) (rest : List ℕ) → closing n ++ rest ≡ 60 ∷ 47 ∷ (written n ++ 62 ∷ rest)
 closing_is n rest = ap (λ (z : List ℕ). 60 ∷ 47 ∷ z) (append_assoc (print_name n) (62 ∷ []) rest ∙ ap (λ (z : List ℕ). z ++ 62 ∷ rest) (written_is n.prefix n.local))

@@ -5,20 +5,21 @@ use Rattle.std.specs.List.{list_all}
 use Rattle.xml_grammar.specs.Rules.{AllPass}
 use Rattle.xml_grammar.specs.Reading.{head_is, read_run, read_valued, read_word}
 use Rattle.xml_grammar.specs.readers.Functions.{read_empty, read_behind, read_quoted}
-use Rattle.xml_tree.specs.Characters.{is_char, is_space, is_name_start, is_name_char, is_name}
-use Rattle.xml_tree.specs.Print.{declaring, print_attr, print_decl, print_name, value_escape, quoted_text as quoted}
+use Rattle.xml_names.specs.Characters.{is_char, is_space, is_name_start, is_name_char, is_name}
+use Rattle.xml_names.specs.Markup.{declaring, print_attr, print_decl, print_name, value_escape, quoted_text as quoted}
 use Rattle.xml_tree.specs.Proper.{is_prefix}
-use Rattle.xml_tree.specs.Scopes.{xmlns_prefix}
-use Rattle.xml_tree.specs.declared.names.Name.{Name}
-use Rattle.xml_tree.specs.declared.names.Decl.{Decl}
-use Rattle.xml_tree.specs.declared.names.Attr.{Attr}
-use Rattle.tree_text.specs.readers.Words.{colon}
+use Rattle.xml_names.specs.Scopes.{xmlns_prefix}
+use Rattle.xml_names.specs.declared.names.Name.{Name}
+use Rattle.xml_names.specs.declared.names.Decl.{Decl}
+use Rattle.xml_names.specs.declared.names.Attr.{Attr}
+use Rattle.xml_tokens.specs.readers.Words.{colon}
 use Rattle.tree_text.specs.declared.raw_attribute.RawAttribute.{RawAttribute}
-use Rattle.tree_text.specs.Grammar.{is_quote}
-use Rattle.tree_text.specs.Pieces.{qname_of}
+use Rattle.xml_tokens.specs.Tokens.{is_quote}
+use Rattle.xml_tokens.specs.Values.{qname_of}
 use Rattle.tree_text.specs.readers.TagValues.{said_of}
-use Rattle.tree_text.specs.readers.Texts.{colon_follows, read_name, read_qname, read_equals, read_value, read_attribute, read_said, said_follows}
-use Rattle.tree_text.proofs.ReadFronts.{Reads, reads_sequence, reads_valued, reads_behind, reads_left, reads_right, reads_sized, reads_word, reads_one, reads_none, reads_name_of, reads_quoted, AllRead}
+use Rattle.xml_tokens.specs.readers.Tokens.{colon_follows, read_name, read_qname, read_equals, read_value}
+use Rattle.tree_text.specs.readers.Texts.{read_attribute, read_said, said_follows}
+use Rattle.xml_tokens.proofs.ReadFronts.{Reads, reads_sequence, reads_valued, reads_behind, reads_left, reads_right, reads_sized, reads_word, reads_one, reads_none, reads_name_of, reads_quoted, AllRead}
 use Rattle.tree_text.proofs.PrintedValues.{both, longer, reads_value}
 
 -- ---- names

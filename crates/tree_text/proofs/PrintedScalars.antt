@@ -4,15 +4,16 @@ use Rattle.std.specs.Prelude.{◌&&◌, ◌==◌, not}
 use Rattle.std.specs.List.{list_all, AllByRecursion}
 use Rattle.std.proofs.lemmas.Bool.Decides.{nat_tests}
 use lib.Utf8.{scalar, scalars}
-use Rattle.xml_tree.specs.Characters.{is_char, is_name_start, is_name_char, is_name}
-use Rattle.xml_tree.specs.Comments.{is_kept_char, hyphens_apart, is_comment}
-use Rattle.xml_tree.specs.Print.{opening, ending, closing, is_empty, print, print_attr, print_comment, print_content, print_decl, print_name, print_text, text_escape, value_escape, quoted_text as quoted, header, document_print}
+use Rattle.xml_names.specs.Characters.{is_char, is_name_start, is_name_char, is_name}
+use Rattle.xml_names.specs.Comments.{is_kept_char, hyphens_apart, is_comment}
+use Rattle.xml_names.specs.Markup.{opening, closing, print_attr, print_comment, print_decl, print_name, print_text, text_escape, value_escape, quoted_text as quoted}
+use Rattle.xml_tree.specs.Print.{ending, is_empty, print, print_content, header, document_print}
 use Rattle.xml_tree.specs.Proper.{is_prefix, IsTag, ProperIn}
 use Rattle.xml_tree.specs.inner.Proper.{Proper}
 use Rattle.xml_tree.specs.Tree.{Content, last, more, comment_node, Tree}
-use Rattle.xml_tree.specs.declared.names.Name.{Name}
-use Rattle.xml_tree.specs.declared.names.Decl.{Decl}
-use Rattle.xml_tree.specs.declared.names.Attr.{Attr}
+use Rattle.xml_names.specs.declared.names.Name.{Name}
+use Rattle.xml_names.specs.declared.names.Decl.{Decl}
+use Rattle.xml_names.specs.declared.names.Attr.{Attr}
 use Rattle.tree_text.specs.Printing.{body_escape, body_print}
 use Rattle.tree_text.proofs.PrintedValues.{both}
 use Rattle.tree_text.proofs.PrintedNames.{IsWritten, IsPrinted, ArePrinted, attr_for, as_attrs}

@@ -7,27 +7,28 @@ use Rattle.std.specs.Option.{option_or}
 use Rattle.std.specs.Str.{bytes_eq}
 use Rattle.std.proofs.lemmas.Slice.Eq.{bytes_eq-Decides}
 use Rattle.std.proofs.lemmas.Map.Keys.{IsDistinct-head, IsDistinct-tail}
-use Rattle.xml_tree.specs.Characters.{is_char, is_space}
-use Rattle.xml_tree.specs.Expanded.{ExpandedName, attr_name, same_expanded}
-use Rattle.xml_tree.specs.Print.{opening, print_attr, print_name}
+use Rattle.xml_names.specs.Characters.{is_char, is_space}
+use Rattle.xml_names.specs.Expanded.{ExpandedName, attr_name, same_expanded}
+use Rattle.xml_names.specs.Markup.{opening, print_attr, print_name}
 use Rattle.xml_tree.specs.Proper.{is_declaration, is_prefix, may_stand, IsAttribute, IsNamed, IsTag}
-use Rattle.xml_tree.specs.Scopes.{bound, declared, joined, some_text, xmlns_prefix}
-use Rattle.xml_tree.specs.declared.names.Name.{Name}
-use Rattle.xml_tree.specs.declared.names.Decl.{Decl}
-use Rattle.xml_tree.specs.declared.names.Attr.{Attr}
+use Rattle.xml_names.specs.Scopes.{bound, declared, joined, some_text, xmlns_prefix}
+use Rattle.xml_names.specs.declared.names.Name.{Name}
+use Rattle.xml_names.specs.declared.names.Decl.{Decl}
+use Rattle.xml_names.specs.declared.names.Attr.{Attr}
 use Rattle.xml_tree.proofs.ScopesAlike.{bound-inner}
 use Rattle.xml_grammar.specs.Reading.{Reader}
 use Rattle.xml_grammar.specs.readers.Functions.{read_judged}
-use Rattle.tree_text.specs.readers.Words.{less}
-use Rattle.tree_text.specs.declared.fault_kind.FaultKind.{FaultKind}
+use Rattle.xml_tokens.specs.readers.Words.{less}
+use Rattle.xml_tokens.specs.declared.fault_kind.FaultKind.{FaultKind}
 use Rattle.tree_text.specs.declared.raw_attribute.RawAttribute.{RawAttribute}
 use Rattle.tree_text.specs.Names.{decls_of, attrs_of, is_misnamed, says_again, is_repeated, raw_attribute_decl as decl_of, is_declaring as declares, is_unbound_in as is_unbound}
 use Rattle.tree_text.specs.readers.Judging.{wrong_said, first_wrong, first_of_tag, counted_back, tag_fault}
 use Rattle.tree_text.specs.Names as names
 use Rattle.tree_text.specs.Pieces.{StartTag}
 use Rattle.tree_text.specs.readers.TagValues.{start_tag_of}
-use Rattle.tree_text.specs.readers.Texts.{read_spaces, read_said, said_follows, read_tag_end, read_tag}
-use Rattle.tree_text.proofs.ReadFronts.{Reads, reads_sequence, reads_valued, reads_before, reads_behind, reads_judged, sized_by, reads_word, reads_none, reads_many}
+use Rattle.xml_tokens.specs.readers.Tokens.{read_spaces}
+use Rattle.tree_text.specs.readers.Texts.{read_said, said_follows, read_tag_end, read_tag}
+use Rattle.xml_tokens.proofs.ReadFronts.{Reads, reads_sequence, reads_valued, reads_before, reads_behind, reads_judged, sized_by, reads_word, reads_none, reads_many}
 use Rattle.tree_text.proofs.PrintedValues.{not_true}
 use Rattle.tree_text.proofs.PrintedNames.{EndsName, reads_qname, said_from, ArePrinted, reads_attrs, declared_name, attr_for, as_attrs, decl_printed}
 

@@ -9,23 +9,24 @@ use lib.Utf8.{scalars}
 use Rattle.xml_grammar.specs.Reading.{Stop, Syntax, Faulty, Reader}
 use Rattle.xml_grammar.specs.readers.Functions.{read_whole}
 use Rattle.xml_grammar.specs.Answers.{Answers, IsSpelled}
-use Rattle.xml_tree.specs.Characters.{is_char, is_space, is_name_start}
+use Rattle.xml_names.specs.Characters.{is_char, is_space, is_name_start}
 use Rattle.xml_tree.specs.Print.{print, ending, is_empty, print_content, header, document_print}
 use Rattle.xml_tree.specs.Proper.{ProperIn}
-use Rattle.xml_tree.specs.Scopes.{bound, xmlns_prefix}
+use Rattle.xml_names.specs.Scopes.{bound, xmlns_prefix}
 use Rattle.xml_tree.specs.Tree.{Tree, height}
-use Rattle.xml_tree.specs.declared.names.Decl.{Decl}
+use Rattle.xml_names.specs.declared.names.Decl.{Decl}
 use Rattle.tree_text.specs.declared.fault.TextFault.{TextFault}
 use Rattle.tree_text.specs.declared.fault.ValueFault.{ValueFault}
-use Rattle.tree_text.specs.declared.fault_kind.FaultKind.{FaultKind}
+use Rattle.xml_tokens.specs.declared.fault_kind.FaultKind.{FaultKind}
 use Rattle.tree_text.specs.Faults.{body_result, in_quotes, spelling_of, TextAnswer, BodyAnswer, text_result as told}
 use Rattle.tree_text.specs.Grammar.{document, spelling}
 use Rattle.tree_text.specs.FaultKinds.{faults}
 use Rattle.tree_text.specs.Printing.{body_escape, body_print}
-use Rattle.tree_text.specs.readers.Texts.{read_mark_if, read_declaration_if, read_spaces, read_dropped, misc_follows, read_prolog_misc, read_prolog, read_epilog, read_element, read_text, read_spelling}
+use Rattle.xml_tokens.specs.readers.Tokens.{read_mark_if, read_declaration_if, read_spaces, read_dropped}
+use Rattle.tree_text.specs.readers.Texts.{misc_follows, read_prolog_misc, read_prolog, read_epilog, read_element, read_text, read_spelling}
 use Rattle.tree_text.specs.readers.Whole.{text_read, body_read}
 use Rattle.tree_text.proofs.ReadAnswers.{text_answer, body_answer}
-use Rattle.tree_text.proofs.ReadFronts.{Reads, reads_valued, reads_before, reads_behind, reads_none, reads_more, AreBetween, reads_between}
+use Rattle.xml_tokens.proofs.ReadFronts.{Reads, reads_valued, reads_before, reads_behind, reads_none, reads_more, AreBetween, reads_between}
 use Rattle.tree_text.proofs.PrintedValues.{reads_spelling}
 use Rattle.tree_text.proofs.PrintedContent.{no_mark}
 use Rattle.tree_text.proofs.PrintedElements.{element_head, print_read}

@@ -3,14 +3,15 @@ use Rattle.std.proofs.Common.{◌≡◌, ℕ, ◌<◌, Bool, true, false, List, 
 use Rattle.std.specs.Prelude.{◌&&◌, ◌||◌, ◌==◌, not}
 use Rattle.std.specs.List.{list_all}
 use Rattle.xml_grammar.specs.Reading.{Reader, head_is, read_run}
-use Rattle.xml_tree.specs.Characters.{is_char}
-use Rattle.xml_tree.specs.Print.{text_escape, value_escape}
-use Rattle.tree_text.specs.declared.fault_kind.FaultKind.{FaultKind}
+use Rattle.xml_names.specs.Characters.{is_char}
+use Rattle.xml_names.specs.Markup.{text_escape, value_escape}
+use Rattle.xml_tokens.specs.declared.fault_kind.FaultKind.{FaultKind}
 use Rattle.tree_text.specs.Printing.{body_escape}
-use Rattle.tree_text.specs.Grammar.{is_raw, is_raw_in}
-use Rattle.tree_text.specs.readers.Texts.{read_reference, reference_follows, read_value, read_whole_reference, read_spelling}
-use Rattle.tree_text.proofs.ReadFronts.{Reads, reads_none, reads_more, reads_valued, reads_atomic, AreBetween, between_none, between_more, reads_between}
-use Rattle.tree_text.specs.Pieces.{value_spelled as value_of}
+use Rattle.xml_tokens.specs.Tokens.{is_raw, is_raw_in}
+use Rattle.xml_tokens.specs.readers.Tokens.{read_reference, reference_follows, read_value}
+use Rattle.tree_text.specs.readers.Texts.{read_whole_reference, read_spelling}
+use Rattle.xml_tokens.proofs.ReadFronts.{Reads, reads_none, reads_more, reads_valued, reads_atomic, AreBetween, between_none, between_more, reads_between}
+use Rattle.xml_tokens.specs.Values.{value_spelled as value_of}
 
 pub both : (a b : Bool) → a && b ≡ true → (a ≡ true) × (b ≡ true)
 both true true h = (refl, refl)

@@ -2,20 +2,22 @@
 use Rattle.std.proofs.Common.{◌≡◌, ℕ, true, List, [], ◌∷◌, Result, Ok, Err, inl, inr, sym, ap, subst, ◌∙◌}
 use Rattle.std.specs.Prelude.{IfOk, IsTrue}
 use Rattle.std.specs.Str.{chars}
-use Rattle.xml_tree.specs.Characters.{is_char, all_chars}
+use Rattle.xml_names.specs.Characters.{is_char, all_chars}
 use Rattle.xml_grammar.specs.Rules.{AllPass, Each, run, sequence, atomic}
 use Rattle.xml_grammar.specs.Reading.{Stop, Syntax, Faulty}
 use Rattle.xml_grammar.specs.Answers.{Answers}
 use Rattle.xml_grammar.proofs.Fronts.{pass_append}
-use Rattle.tree_text.specs.declared.fault_kind.FaultKind.{FaultKind}
+use Rattle.xml_tokens.specs.declared.fault_kind.FaultKind.{FaultKind}
 use Rattle.tree_text.specs.declared.fault.ValueFault.{ValueFault}
-use Rattle.xml_tree.specs.declared.read_error.ReadError.{ReadError}
+use Rattle.xml_names.specs.declared.read_error.ReadError.{ReadError}
 use Rattle.tree_text.specs.FaultKinds.{faults}
-use Rattle.tree_text.specs.Pieces.{line_ends, raw, more_value}
-use Rattle.tree_text.specs.Grammar.{is_raw, reference, spelling}
+use Rattle.xml_tokens.specs.Values.{line_ends, raw, more_value}
+use Rattle.xml_tokens.specs.Tokens.{is_raw, reference}
+use Rattle.tree_text.specs.Grammar.{spelling}
 use Rattle.tree_text.specs.Faults.{spelling_of, body_result, BodyAnswer}
-use Rattle.xml_tree.specs.Memory.{Answered}
-use Rattle.tree_text.proofs.ProperTags.{weaker, pass_all, raw_char, lines_chars, blanks_chars, reference_char}
+use Rattle.xml_names.specs.Memory.{Answered}
+use Rattle.xml_tokens.proofs.Passing.{pass_all}
+use Rattle.tree_text.proofs.ProperTags.{weaker, raw_char, lines_chars, blanks_chars, reference_char}
 
 raw_chars : (cs : List ℕ) → AllPass is_raw cs → AllPass is_char (raw cs)
 raw_chars cs h = blanks_chars (line_ends cs) (lines_chars cs (weaker is_raw is_char raw_char cs h))

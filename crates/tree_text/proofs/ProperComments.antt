@@ -1,18 +1,18 @@
 -- The inside of a comment, as spelled, may occur in a tree.
 use Rattle.std.proofs.Common.{◌≡◌, ℕ, true, List, [], Result, Ok, Err, refl, sym, ap, ◌∙◌}
 use Rattle.std.proofs.lemmas.List.{append-nil}
-use Rattle.xml_tree.specs.Characters.{is_char}
-use Rattle.xml_tree.specs.Comments.{is_comment}
+use Rattle.xml_names.specs.Characters.{is_char}
+use Rattle.xml_names.specs.Comments.{is_comment}
 use Rattle.xml_grammar.specs.Rules.{up_to}
 use Rattle.xml_grammar.specs.Reading.{Stop, Syntax, Faulty}
 use Rattle.xml_grammar.specs.readers.Functions.{read_up_to}
 use Rattle.xml_grammar.proofs.Exact.{Outcome, Exact}
 use Rattle.xml_grammar.proofs.Closed.{anything}
 use Rattle.xml_grammar.proofs.UpTo.{exact_up_to}
-use Rattle.tree_text.specs.readers.Words.{dashes}
-use Rattle.tree_text.specs.declared.fault_kind.FaultKind.{FaultKind}
+use Rattle.xml_tokens.specs.readers.Words.{dashes}
+use Rattle.xml_tokens.specs.declared.fault_kind.FaultKind.{FaultKind}
 use Rattle.tree_text.specs.FaultKinds.{faults}
-use Rattle.tree_text.specs.Pieces.{line_ends}
+use Rattle.xml_tokens.specs.Values.{line_ends}
 use Rattle.tree_text.specs.Grammar.{comment}
 use Rattle.tree_text.proofs.CommentLemmas.{read_is_comment}
 use Rattle.tree_text.proofs.ReadTexts.{some_dashes, dashes_chars}

@@ -3,28 +3,26 @@ use Rattle.std.proofs.Common.{◌≡◌, ℕ, ◌+◌, ◌-◌, ◌≤◌, arith
 use Rattle.std.specs.Prelude.{◌&&◌, ◌||◌, ◌≢◌, ◌==◌, not, Option, None, Some, IsSome, is_some}
 use Rattle.std.specs.List.{list_all, list_any, AllByRecursion, IsDistinct, cons_option as with_char}
 use Rattle.std.specs.Str.{bytes_eq}
-use Rattle.xml_tree.specs.Characters.{is_char, is_name_start, is_name_char, is_name}
-use Rattle.xml_tree.specs.Scopes.{bound, xmlns_prefix}
-use Rattle.xml_tree.specs.Expanded.{attr_name, same_expanded}
+use Rattle.xml_names.specs.Characters.{is_char, is_name_start, is_name_char, is_name}
+use Rattle.xml_names.specs.Scopes.{bound, xmlns_prefix}
+use Rattle.xml_names.specs.Expanded.{attr_name, same_expanded}
 use Rattle.xml_tree.specs.Proper.{is_prefix, may_stand, is_declaration, IsNamed, IsAttribute, IsTag}
-use Rattle.xml_tree.specs.declared.names.Name.{Name}
-use Rattle.xml_tree.specs.declared.names.Decl.{Decl}
+use Rattle.xml_names.specs.declared.names.Name.{Name}
+use Rattle.xml_names.specs.declared.names.Decl.{Decl}
 use Rattle.xml_grammar.specs.Digits.{decimal_digits, hexadecimal}
 use Rattle.xml_grammar.specs.Rules.{AllPass, Each, word, run, number, sequence, either, optional, keeping_second}
 use Rattle.xml_grammar.proofs.Fronts.{pass_append}
-use Rattle.tree_text.specs.readers.Words.{colon, small_x}
-use Rattle.tree_text.specs.declared.fault_kind.FaultKind.{FaultKind}
-use Rattle.tree_text.specs.declared.fault_kind.FaultKind.TheVariants.{Unbound, Repeated}
+use Rattle.xml_tokens.specs.readers.Words.{colon, small_x}
+use Rattle.xml_tokens.specs.declared.fault_kind.FaultKind.{FaultKind}
+use Rattle.xml_tokens.specs.declared.fault_kind.FaultKind.TheVariants.{Unbound, Repeated}
 use Rattle.tree_text.specs.declared.raw_attribute.RawAttribute.{RawAttribute}
-use Rattle.tree_text.specs.Pieces.{StartTag, qname_of, line_ends, blanks, raw, more_value}
+use Rattle.xml_tokens.specs.Values.{qname_of, line_ends, blanks, raw, more_value}
+use Rattle.tree_text.specs.Pieces.{StartTag}
 use Rattle.tree_text.specs.Names.{said_attr, decls_of, attrs_of, is_misnamed, says_again, is_repeated, widths, IsWrong, inside_tag as inside, opening_size as opening, raw_attribute_decl as decl_of, is_declaring as declares, is_unbound_in as is_unbound}
-use Rattle.tree_text.specs.Grammar.{last_char, name, qname, reference, char_ref, entity, is_raw, is_raw_in, value, raw_attribute, start_tag}
+use Rattle.xml_tokens.specs.Tokens.{last_char, name, qname, reference, char_ref, entity, is_raw, is_raw_in, value}
+use Rattle.tree_text.specs.Grammar.{raw_attribute, start_tag}
 use Rattle.tree_text.proofs.JudgeTags.{widths_parts, tag_sizes}
-
-pub join : (a b : Bool) → a ≡ true → b ≡ true → a && b ≡ true
-join true true h i = refl
-join true false h i = absurd cc
-join false b h i = absurd cc
+use Rattle.xml_tokens.proofs.Passing.{join, pass_all}
 
 or_right : (a b : Bool) → b ≡ true → a || b ≡ true
 or_right true b h = refl
@@ -33,10 +31,6 @@ or_right false b h = h
 pub weaker : (p q : ℕ → Bool) → ((c : ℕ) → p c ≡ true → q c ≡ true) → (cs : List ℕ) → AllPass p cs → AllPass q cs
 weaker p q f [] h = tt
 weaker p q f (c ∷ cs) h = (f c h.0, weaker p q f cs h.1)
-
-pub pass_all : (p : ℕ → Bool) (cs : List ℕ) → AllPass p cs → list_all p cs ≡ true
-pass_all p [] h = refl
-pass_all p (c ∷ cs) h = join (p c) (list_all p cs) h.0 (pass_all p cs h.1)
 
 -- # Names
 

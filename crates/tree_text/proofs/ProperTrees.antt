@@ -3,25 +3,26 @@ use Rattle.std.proofs.Common.{◌≡◌, ℕ, zero, suc, ◌+◌, ◌-◌, ◌<�
 use Rattle.std.specs.Prelude.{nat_lt}
 use Rattle.std.proofs.lemmas.Bool.Decides.{nat_tests}
 use Rattle.std.proofs.lemmas.List.{append-nil, take-append-drop, length-drop}
-use Rattle.xml_tree.specs.Characters.{is_char}
-use Rattle.xml_tree.specs.Comments.{is_comment}
+use Rattle.xml_names.specs.Characters.{is_char}
+use Rattle.xml_names.specs.Comments.{is_comment}
 use Rattle.xml_tree.specs.Tree.{Content, last, more, comment_node, Tree, height, content_height}
 use Rattle.xml_tree.specs.Edits.{with_text, with_elem, with_comment}
 use Rattle.xml_tree.specs.Proper.{Letters, IsProperPart, ProperIn}
 use Rattle.xml_tree.specs.inner.Proper.{Proper}
-use Rattle.xml_tree.specs.declared.names.Name.{Name}
-use Rattle.xml_tree.specs.declared.names.Decl.{Decl}
+use Rattle.xml_names.specs.declared.names.Name.{Name}
+use Rattle.xml_names.specs.declared.names.Decl.{Decl}
 use Rattle.xml_tree.proofs.EverywhereLaws.{Letters-append}
 use Rattle.xml_grammar.specs.Rules.{Mark, Rule, Split, AllPass, Each, word, sequence, many, judged, optional, keeping_first, keeping_second}
 use Rattle.xml_grammar.specs.Answers.{IsCalm, IsSpelled}
 use Rattle.xml_grammar.proofs.Laws.{Lawful}
-use Rattle.tree_text.specs.readers.Words.{byte_order_mark}
-use Rattle.tree_text.specs.declared.fault_kind.FaultKind.{FaultKind}
-use Rattle.tree_text.specs.declared.fault_kind.FaultKind.TheVariants.{Depth}
+use Rattle.xml_tokens.specs.readers.Words.{byte_order_mark}
+use Rattle.xml_tokens.specs.declared.fault_kind.FaultKind.{FaultKind}
+use Rattle.xml_tokens.specs.declared.fault_kind.FaultKind.TheVariants.{Depth}
 use Rattle.tree_text.specs.Pieces.{Markup, Reference, Section, Comment, Instruction, Inner, with_markup, with_pieces}
 use Rattle.tree_text.specs.FaultKinds.{is_fault, faults}
 use Rattle.tree_text.specs.Names.{IsWrong, inside_tag as inside}
-use Rattle.tree_text.specs.Grammar.{is_raw, chars, section, markup, content, start_tag, end_tag, behind_tag, element, dropped, IsForeign, xml_declaration, prolog, epilog, document}
+use Rattle.xml_tokens.specs.Tokens.{is_raw, chars, dropped, IsForeign, xml_declaration}
+use Rattle.tree_text.specs.Grammar.{section, markup, content, start_tag, end_tag, behind_tag, element, prolog, epilog, document}
 use Rattle.tree_text.proofs.JudgeTags.{is_wrong_fault}
 use Rattle.tree_text.proofs.ReadParts.{led_tag}
 use Rattle.tree_text.proofs.ReadDocuments.{lawful_document}

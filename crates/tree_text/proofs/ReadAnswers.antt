@@ -4,7 +4,7 @@ use Rattle.std.specs.Str.{is_utf8, chars}
 use Rattle.std.proofs.lemmas.Str.{IsUtf8-from_is_utf8, is_utf8-from_IsUtf8}
 use Rattle.xml_grammar.specs.readers.Functions.{read_whole}
 use Rattle.xml_grammar.specs.Answers.{Answers}
-use Rattle.xml_tree.specs.declared.names.Decl.{Decl}
+use Rattle.xml_names.specs.declared.names.Decl.{Decl}
 use Rattle.tree_text.specs.declared.fault.TextFault.TheVariants as texts
 use Rattle.tree_text.specs.declared.fault.ValueFault.TheVariants as bodies
 use Rattle.tree_text.specs.FaultKinds.{faults}

@@ -11,11 +11,12 @@ use Rattle.xml_grammar.proofs.Laws.{Lawful, lawful_run, lawful_atomic, lawful_va
 use Rattle.xml_grammar.proofs.Closed.{exact_atomic}
 use Rattle.xml_grammar.proofs.Tests.{exact_between_run_head}
 use Rattle.xml_grammar.proofs.Whole.{ends, heads_ends, answers_whole}
-use Rattle.tree_text.specs.declared.fault_kind.FaultKind.{FaultKind}
-use Rattle.tree_text.specs.Grammar.{reference, spelling}
+use Rattle.xml_tokens.specs.declared.fault_kind.FaultKind.{FaultKind}
+use Rattle.xml_tokens.specs.Tokens.{reference}
+use Rattle.tree_text.specs.Grammar.{spelling}
 use Rattle.tree_text.specs.readers.Texts.{read_spelling}
 use Rattle.tree_text.proofs.ReadParts.{closed_reference, starts_reference, quiet_reference, same}
-use Rattle.tree_text.specs.Pieces.{value_spelled as value_of}
+use Rattle.xml_tokens.specs.Values.{value_spelled as value_of}
 
 module _ (faults : Faults FaultKind) where
   pub exact_spelling : Exact faults spelling (λ _. ends) read_spelling

@@ -3,9 +3,9 @@ use Rattle.std.proofs.Common.{◌≡◌, ℕ, suc, ◌+◌, ◌<◌, Bool, true,
 use Rattle.std.specs.Prelude.{◌||◌, ◌==◌, Option, None, Some}
 use Rattle.std.proofs.lemmas.Bool.Decides.{nat_tests}
 use Rattle.std.proofs.lemmas.List.{length-append, append_cancel_right}
-use Rattle.xml_tree.specs.Characters.{is_space, is_name_start}
+use Rattle.xml_names.specs.Characters.{is_space, is_name_start}
 use Rattle.xml_tree.specs.Tree.{Tree}
-use Rattle.xml_tree.specs.declared.names.Decl.{Decl}
+use Rattle.xml_names.specs.declared.names.Decl.{Decl}
 use Rattle.std.specs.Char.{is_ascii_digit as is_digit}
 use Rattle.xml_grammar.specs.Rules.{Begin, Rule, word, either, judged, trap, optional, keeping_first, keeping_second}
 use Rattle.xml_grammar.specs.Reading.{Reader, Stop, Syntax, head_is, starts, read_word}
@@ -26,12 +26,14 @@ use Rattle.xml_grammar.proofs.Led.{Led, led_then, led_valued, led_before, led_ei
 use Rattle.xml_grammar.proofs.Tests.{passed_covers, failed_covers, exact_either_head, exact_optional_head, exact_either_next}
 use Rattle.xml_grammar.proofs.Spaced.{blank_some_of, Leads, leads_weaker, leads_behind, Spaced, spaced_run, spaced_behind, spaced_optional, exact_spaced_optional}
 use Rattle.xml_grammar.proofs.Whole.{ends, heads_ends, inside_ends, answers_whole}
-use Rattle.tree_text.specs.readers.Words.{instruction_start, instruction_end, declaration_start, one_dot, encoding, standalone, yes, not_alone, bang, doctype, byte_order_mark}
-use Rattle.tree_text.specs.declared.fault_kind.FaultKind.{FaultKind}
-use Rattle.tree_text.specs.declared.fault_kind.FaultKind.TheVariants.{Encoded, Doctyped}
+use Rattle.xml_tokens.specs.readers.Words.{instruction_start, instruction_end, declaration_start, one_dot, encoding, standalone, yes, not_alone, bang, doctype, byte_order_mark}
+use Rattle.xml_tokens.specs.declared.fault_kind.FaultKind.{FaultKind}
+use Rattle.xml_tokens.specs.declared.fault_kind.FaultKind.TheVariants.{Encoded, Doctyped}
 use Rattle.tree_text.specs.FaultKinds.{is_fault, rank, faults}
-use Rattle.tree_text.specs.Grammar.{spaces, is_quote, comment, is_target, instructed, instruction, dropped, element, version_number, is_encoding_char, encoding_name, yes_or_no, pseudo_attribute, xml_declaration, is_our_encoding, IsForeign, misc, prolog, epilog, document}
-use Rattle.tree_text.specs.readers.Texts.{read_spaces, read_dropped, read_element, read_version_number, read_encoding_name, read_yes_or_no, read_declared, read_xml_declaration, encoding_fault, declaration_follows, read_misc, misc_follows, read_prolog_misc, read_prolog, less_follows, read_epilog, read_text}
+use Rattle.xml_tokens.specs.Tokens.{spaces, is_quote, dropped, version_number, is_encoding_char, encoding_name, yes_or_no, pseudo_attribute, xml_declaration, is_our_encoding, IsForeign}
+use Rattle.tree_text.specs.Grammar.{comment, is_target, instructed, instruction, element, misc, prolog, epilog, document}
+use Rattle.xml_tokens.specs.readers.Tokens.{read_spaces, read_dropped, read_version_number, read_encoding_name, read_yes_or_no, read_declared, read_xml_declaration, encoding_fault, declaration_follows}
+use Rattle.tree_text.specs.readers.Texts.{read_element, read_misc, misc_follows, read_prolog_misc, read_prolog, less_follows, read_epilog, read_text}
 use Rattle.tree_text.proofs.ReadParts.{NoSpace, quote_no_space, exact_spaces, exact_equals, lawful_equals, quiet_equals, same, apart}
 use Rattle.tree_text.proofs.ReadTexts.{closed_comment, lawful_comment, led_comment, led_bang_comment, closed_instruction, lawful_instruction, led_instruction}
 use Rattle.tree_text.proofs.ReadElements.{both_true, led_element, lawful_element, exact_element}

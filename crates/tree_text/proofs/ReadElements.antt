@@ -3,10 +3,10 @@ use Rattle.std.proofs.Common.{◌≡◌, ℕ, zero, suc, ◌+◌, ◌<◌, ◌�
 use Rattle.std.specs.Prelude.{◌&&◌, ◌||◌, ◌==◌, not, nat_eq}
 use Rattle.std.proofs.lemmas.Bool.{eqb-true}
 use Rattle.std.proofs.lemmas.Bool.Decides.{nat_tests}
-use Rattle.xml_tree.specs.Characters.{is_name_start}
+use Rattle.xml_names.specs.Characters.{is_name_start}
 use Rattle.xml_tree.specs.Tree.{last, Tree}
-use Rattle.xml_tree.specs.declared.names.Name.{Name}
-use Rattle.xml_tree.specs.declared.names.Decl.{Decl}
+use Rattle.xml_names.specs.declared.names.Name.{Name}
+use Rattle.xml_names.specs.declared.names.Decl.{Decl}
 use Rattle.xml_grammar.specs.Rules.{Begin, Rule, word, sequence, valued, judged}
 use Rattle.xml_grammar.specs.Reading.{Reader, Stop, Syntax, ◌>>=◌, head_is, starts, read_word}
 use Rattle.xml_grammar.specs.readers.Functions.{read_behind, read_never}
@@ -23,14 +23,17 @@ use Rattle.xml_grammar.proofs.Marks.{exact_judged, Marks, exact_marked, exact_un
 use Rattle.xml_grammar.proofs.Shapes.{exact_before, exact_behind, exact_between, past_member, inside_past_member}
 use Rattle.xml_grammar.proofs.Led.{Past, Led, led_word, led_sequence, led_valued, led_behind, led_judged, led_marked, starts_led, led_covers, led_covers_rest, led_stopped, next_true, next_false, next_is}
 use Rattle.xml_grammar.proofs.Tests.{failed_covers}
-use Rattle.tree_text.specs.readers.Words.{less, greater, end_start, ampersand, section_end}
-use Rattle.tree_text.specs.declared.fault_kind.FaultKind.{FaultKind}
-use Rattle.tree_text.specs.declared.fault_kind.FaultKind.TheVariants.{Depth}
-use Rattle.tree_text.specs.Pieces.{Reference, Section, Comment, Inner, line_ends, written, with_pieces}
+use Rattle.xml_tokens.specs.readers.Words.{less, greater, end_start, ampersand, section_end}
+use Rattle.xml_tokens.specs.declared.fault_kind.FaultKind.{FaultKind}
+use Rattle.xml_tokens.specs.declared.fault_kind.FaultKind.TheVariants.{Depth}
+use Rattle.xml_tokens.specs.Values.{line_ends, written}
+use Rattle.tree_text.specs.Pieces.{Reference, Section, Comment, Inner, with_pieces}
 use Rattle.tree_text.specs.FaultKinds.{is_fault, faults}
 use Rattle.tree_text.specs.Names.{IsWrong, element_of, inside_tag as inside}
-use Rattle.tree_text.specs.Grammar.{is_raw, chars, markup, content, end_tag, start_tag, behind_tag, StartsTag, element}
-use Rattle.tree_text.specs.readers.Texts.{read_name, read_chars, markup_follows, read_content, read_end_tag, read_behind_tag, starts_tag, read_element}
+use Rattle.xml_tokens.specs.Tokens.{is_raw, chars}
+use Rattle.tree_text.specs.Grammar.{markup, content, end_tag, start_tag, behind_tag, StartsTag, element}
+use Rattle.xml_tokens.specs.readers.Tokens.{read_name, read_chars, read_end_tag}
+use Rattle.tree_text.specs.readers.Texts.{markup_follows, read_content, read_behind_tag, starts_tag, read_element}
 use Rattle.tree_text.proofs.ReadParts.{exact_spaces, starts_reference, lawful_reference, closed_tag, lawful_tag, quiet_tag, led_tag}
 use Rattle.tree_text.proofs.JudgeTags.{tag_judges}
 use Rattle.tree_text.proofs.ReadTexts.{some_section_end, section_raw, lawful_comment, lawful_section, lawful_instruction, led_markup, closed_markup}

@@ -3,7 +3,7 @@ use Rattle.std.proofs.Common.{◌≡◌, ℕ, true, false, List, [], ◌∷◌, 
 use Rattle.std.specs.Prelude.{◌==◌}
 use Rattle.std.proofs.lemmas.Bool.Decides.{nat_tests}
 use Rattle.std.specs.Char.{is_ascii_digit as is_digit, is_ascii_hexdigit as is_hex_digit}
-use Rattle.xml_tree.specs.Characters.{is_char, is_space, is_name_start, is_name_char}
+use Rattle.xml_names.specs.Characters.{is_char, is_space, is_name_start, is_name_char}
 use Rattle.xml_grammar.specs.Digits.{decimal_digits, hexadecimal}
 use Rattle.xml_grammar.specs.Rules.{word, keeping_second}
 use Rattle.xml_grammar.specs.Answers.{Faults}
@@ -19,17 +19,15 @@ use Rattle.xml_grammar.proofs.Shapes.{exact_before, exact_behind, exact_name_of,
 use Rattle.xml_grammar.proofs.Led.{Led, led_word, led_then, led_valued, led_sized}
 use Rattle.xml_grammar.proofs.Tests.{exact_either_head, exact_optional_head, exact_between_run_head, exact_either_next}
 use Rattle.xml_grammar.proofs.Spaced.{blank_some_of, Leads, leads_sequence, leads_valued, spaced_run, exact_spaced_many}
-use Rattle.tree_text.specs.readers.Words.{less, greater, empty_end, colon, ampersand, semicolon, hash, small_x, amp, lt, gt, quot, apos, equals_sign}
-use Rattle.tree_text.specs.declared.fault_kind.FaultKind.{FaultKind}
-use Rattle.tree_text.specs.Pieces.{qname_of, value_spelled as value_of}
+use Rattle.xml_tokens.specs.readers.Words.{less, greater, empty_end, colon, ampersand, semicolon, hash, small_x, amp, lt, gt, quot, apos, equals_sign}
+use Rattle.xml_tokens.specs.declared.fault_kind.FaultKind.{FaultKind}
+use Rattle.xml_tokens.specs.Values.{qname_of, value_spelled as value_of}
 use Rattle.tree_text.specs.readers.TagValues.{said_of, start_tag_of}
-use Rattle.tree_text.specs.Grammar.{name, qname, spaces, equals, stands_for, entity, last_char, char_ref, reference, is_quote, is_raw_in, value, attribute, raw_attribute, tag_end, start_tag}
-use Rattle.tree_text.specs.readers.Texts.{read_name, read_qname, read_spaces, read_equals, read_stands_for, read_entity, read_numbered, read_reference, read_value, read_attribute, read_said, read_tag_end, read_tag}
-
--- # Disjoint classes
-
-abbrev pub NoName : ℕ → Type 0
-NoName c = is_name_char c ≡ false
+use Rattle.xml_tokens.specs.Tokens.{name, qname, spaces, equals, stands_for, entity, last_char, char_ref, reference, is_quote, is_raw_in, value}
+use Rattle.tree_text.specs.Grammar.{attribute, raw_attribute, tag_end, start_tag}
+use Rattle.xml_tokens.specs.readers.Tokens.{read_name, read_qname, read_spaces, read_equals, read_stands_for, read_entity, read_numbered, read_reference, read_value}
+use Rattle.tree_text.specs.readers.Texts.{read_attribute, read_said, read_tag_end, read_tag}
+use Rattle.xml_tokens.proofs.NameFronts.{NoName}
 
 -- neither a name character nor a colon
 abbrev pub NoQName : ℕ → Type 0
@@ -37,9 +35,6 @@ NoQName c = (is_name_char c ≡ false) × ((c == 58) ≡ false)
 
 abbrev pub NoSpace : ℕ → Type 0
 NoSpace c = is_space c ≡ false
-
-pub space_no_name : (c : ℕ) → is_space c ≡ true → NoName c
-space_no_name c h = grind (arith, nat_tests)
 
 pub space_no_qname : (c : ℕ) → is_space c ≡ true → NoQName c
 space_no_qname c h = (grind (arith, nat_tests), grind (arith, nat_tests))

@@ -6,17 +6,17 @@ use Rattle.xml_grammar.specs.Reading.{Stop}
 use Rattle.xml_grammar.specs.Answers.{Answers}
 use Rattle.xml_tree.specs.Tree.{Tree, height}
 use Rattle.xml_tree.specs.Proper.{ProperIn}
-use Rattle.xml_tree.specs.declared.names.Decl.{Decl}
-use Rattle.tree_text.specs.declared.fault_kind.FaultKind.{FaultKind}
+use Rattle.xml_names.specs.declared.names.Decl.{Decl}
+use Rattle.xml_tokens.specs.declared.fault_kind.FaultKind.{FaultKind}
 use Rattle.tree_text.specs.declared.fault.TextFault.{TextFault}
 use Rattle.tree_text.specs.declared.fault.ValueFault.{ValueFault}
-use Rattle.xml_tree.specs.declared.read_error.ReadError.{ReadError}
+use Rattle.xml_names.specs.declared.read_error.ReadError.{ReadError}
 use Rattle.tree_text.specs.FaultKinds.{faults}
 use Rattle.tree_text.specs.Grammar.{document}
 use Rattle.tree_text.specs.Faults.{TextAnswer, BodyAnswer, text_result as told}
-use Rattle.xml_tree.specs.Memory.{Answered}
+use Rattle.xml_names.specs.Memory.{Answered}
 use Rattle.tree_text.specs.readers.Whole.{text_read, body_read}
-use Rattle.tree_text.proofs.Answering.{answered_so}
+use Rattle.xml_tokens.proofs.Answering.{answered_so}
 use Rattle.tree_text.proofs.ReadAnswers.{text_answer, body_answer}
 use Rattle.tree_text.proofs.ProperTrees.{document_proper}
 

@@ -2,7 +2,7 @@
 use Rattle.std.proofs.Common.{◌≡◌, ℕ, ◌<◌, true, false, List, [], ◌∷◌, length, refl, arith}
 use Rattle.std.specs.Prelude.{◌==◌}
 use Rattle.std.proofs.lemmas.Bool.Decides.{nat_tests}
-use Rattle.xml_tree.specs.Characters.{is_char, is_space, is_name_start, is_name_char}
+use Rattle.xml_names.specs.Characters.{is_char, is_space, is_name_start, is_name_char}
 use Rattle.xml_tree.specs.Tree.{Tree}
 use Rattle.xml_grammar.specs.Rules.{Rule, AllPass, either, valued}
 use Rattle.xml_grammar.specs.Reading.{Reader, starts, read_valued}
@@ -18,12 +18,15 @@ use Rattle.xml_grammar.proofs.Closed.{anything, heads_unless, exact_only}
 use Rattle.xml_grammar.proofs.Shapes.{exact_before, exact_behind, exact_name_of, covered_first, starts_behind}
 use Rattle.xml_grammar.proofs.Led.{Led, led_word, led_valued, led_behind, led_either, led_weaker, led_shorter, starts_led, led_covers, next_true, next_is}
 use Rattle.xml_grammar.proofs.Tests.{exact_either_head, exact_either_next, next_covers, other_covers}
-use Rattle.tree_text.specs.readers.Words.{greater, comment_start, dashes, section_start, section_end, instruction_start, instruction_end, bang_bracket}
-use Rattle.tree_text.specs.declared.fault_kind.FaultKind.{FaultKind}
-use Rattle.tree_text.specs.Pieces.{Markup, Reference, Section, Comment, Instruction, Inner, line_ends}
-use Rattle.tree_text.specs.Grammar.{is_raw, comment, section, is_target, instructed, instruction, markup}
+use Rattle.xml_tokens.specs.readers.Words.{greater, comment_start, dashes, section_start, section_end, instruction_start, instruction_end, bang_bracket}
+use Rattle.xml_tokens.specs.declared.fault_kind.FaultKind.{FaultKind}
+use Rattle.xml_tokens.specs.Values.{line_ends}
+use Rattle.tree_text.specs.Pieces.{Markup, Reference, Section, Comment, Instruction, Inner}
+use Rattle.xml_tokens.specs.Tokens.{is_raw}
+use Rattle.tree_text.specs.Grammar.{comment, section, is_target, instructed, instruction, markup}
 use Rattle.tree_text.specs.readers.Texts.{read_comment, read_section, read_instructed, read_instruction, read_markup}
-use Rattle.tree_text.proofs.ReadParts.{NoName, NoSpace, space_no_name, exact_name, closed_reference, starts_reference, same, apart}
+use Rattle.xml_tokens.proofs.NameFronts.{NoName, space_no_name}
+use Rattle.tree_text.proofs.ReadParts.{NoSpace, exact_name, closed_reference, starts_reference, same, apart}
 
 pub some_dashes : 0 < length dashes
 some_dashes = omega arith

@@ -6,7 +6,7 @@ use Rattle.std.specs.Str.{IsAscii}
 use Rattle.std.proofs.lemmas.Bool.{and_parts, ltb-false, ltb-true, ne_eqb, true≢false}
 use Rattle.std.proofs.lemmas.Str.{encodes-chars, encodes-IsAscii}
 use Rattle.std.proofs.lemmas.Str.Ascii.{IsAscii-nil, IsAscii-cons}
-use Rattle.xml_tree.specs.Characters.{is_space}
+use Rattle.xml_names.specs.Characters.{is_space}
 
 no_space : (c : ℕ) → 128 ≤ c → is_space c ≡ false
 no_space c high = rw (ne_eqb c 32 (λ e. omega (arith, e, high)), ne_eqb c 9 (λ e. omega (arith, e, high)), ne_eqb c 13 (λ e. omega (arith, e, high)), ne_eqb c 10 (λ e. omega (arith, e, high))) refl

@@ -8,9 +8,9 @@ use Rattle.std.specs.Ordering.{nat_cmp}
 use Rattle.std.proofs.lemmas.List.{length-append, length-map, map-append, take-map}
 use Rattle.std.proofs.lemmas.Map.Text.{is_eq-slice_cmp}
 use Rattle.std.proofs.Math.Seq.{take-append_seam}
-use Rattle.xml_tree.specs.declared.names.Decl.{Decl}
-use Rattle.xml_tree.specs.Scopes.{bound, declared, joined, some_text, xml_prefix}
-use Rattle.xml_tree.proofs.ScopeLemmas.{option_or-none}
+use Rattle.xml_names.specs.declared.names.Decl.{Decl}
+use Rattle.xml_names.specs.Scopes.{bound, declared, joined, some_text, xml_prefix}
+use Rattle.xml_names.proofs.ScopeLemmas.{option_or-none}
 use Rattle.tree_text.specs.readers.Bindings.{AreOf, at_text, number, numbers_at, stack, uris}
 use Rattle.tree_text.specs.declared.namespaces.Namespaces.{Namespaces}
 

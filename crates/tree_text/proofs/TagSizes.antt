@@ -3,13 +3,14 @@ use Rattle.std.proofs.Common.{◌≡◌, ℕ, suc, ◌+◌, ◌≤◌, List, len
 use Rattle.xml_grammar.specs.Reading.{Stop}
 use Rattle.xml_grammar.proofs.Exact.{IsRead, Outcome}
 use Rattle.xml_grammar.proofs.Closed.{anything}
-use Rattle.xml_tree.specs.declared.names.Name.{Name}
-use Rattle.tree_text.specs.declared.fault_kind.FaultKind.{FaultKind}
+use Rattle.xml_names.specs.declared.names.Name.{Name}
+use Rattle.xml_tokens.specs.declared.fault_kind.FaultKind.{FaultKind}
 use Rattle.tree_text.specs.FaultKinds.{faults}
 use Rattle.tree_text.specs.Grammar.{attribute, start_tag}
 use Rattle.tree_text.specs.Names.{widths}
-use Rattle.tree_text.specs.Pieces.{StartTag, written}
-use Rattle.tree_text.specs.readers.Ends.{EndsWith}
+use Rattle.xml_tokens.specs.Values.{written}
+use Rattle.tree_text.specs.Pieces.{StartTag}
+use Rattle.xml_tokens.specs.readers.Ends.{EndsWith}
 use Rattle.tree_text.specs.readers.Texts.{read_attribute, read_tag}
 use Rattle.tree_text.proofs.JudgeTags.{tag_sizes}
 use Rattle.tree_text.proofs.ReadParts.{closed_attribute, closed_tag}

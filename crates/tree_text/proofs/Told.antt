@@ -6,19 +6,20 @@ use Rattle.std.proofs.lemmas.Str.{IsUtf8-from_is_utf8, is_utf8-from_IsUtf8}
 use Rattle.xml_grammar.specs.Reading.{Stop, Syntax, Faulty}
 use Rattle.xml_grammar.specs.readers.Functions.{read_whole}
 use Rattle.xml_tree.specs.Tree.{Tree}
-use Rattle.xml_tree.specs.declared.names.Decl.{Decl}
-use Rattle.tree_text.specs.declared.fault_kind.FaultKind.{FaultKind}
+use Rattle.xml_names.specs.declared.names.Decl.{Decl}
+use Rattle.xml_tokens.specs.declared.fault_kind.FaultKind.{FaultKind}
 use Rattle.tree_text.specs.declared.fault.TextFault.{TextFault}
 use Rattle.tree_text.specs.declared.fault.TextFault.TheVariants as texts
-use Rattle.tree_text.specs.declared.parse_error.ParseError.{ParseError as CodeStop}
-use Rattle.tree_text.specs.declared.parse_error.ParseError.TheVariants as stops
-use Rattle.tree_text.specs.Faults.{body_result, body_place, byte_at, in_quotes, spelling_of, text_result as told, closing_len as closing}
+use Rattle.xml_tokens.specs.declared.parse_error.ParseError.{ParseError as CodeStop}
+use Rattle.xml_tokens.specs.declared.parse_error.ParseError.TheVariants as stops
+use Rattle.xml_tokens.specs.Places.{byte_at}
+use Rattle.tree_text.specs.Faults.{body_result, body_place, in_quotes, spelling_of, text_result as told, closing_len as closing}
 use Rattle.tree_text.specs.declared.fault.ValueFault.{ValueFault}
 use Rattle.tree_text.specs.declared.fault.ValueFault.TheVariants as bodies
-use Rattle.xml_tree.specs.declared.read_error.ReadError.{ReadError}
-use Rattle.xml_tree.specs.declared.read_error.ReadError.TheVariants as errors
-use Rattle.tree_text.specs.readers.Results.{Fails}
-use Rattle.xml_tree.specs.Memory.{Answered}
+use Rattle.xml_names.specs.declared.read_error.ReadError.{ReadError}
+use Rattle.xml_names.specs.declared.read_error.ReadError.TheVariants as errors
+use Rattle.xml_tokens.specs.readers.Results.{Fails}
+use Rattle.xml_names.specs.Memory.{Answered}
 use Rattle.tree_text.specs.readers.Texts.{read_text, read_spelling}
 use Rattle.tree_text.specs.readers.Whole.{FaultOf, text_read, BodyFaultOf, body_read}
 

@@ -2,9 +2,10 @@
 use Rattle.std.proofs.Common.{◌≡◌, ℕ, List, [], ◌∷◌, ◌++◌, Option, None, Some, refl, subst, append_assoc, option_map, unwrap_or}
 use Rattle.std.specs.List.{slice_get}
 use Rattle.xml_tree.specs.Proper.{IsProperPart, ProperIn}
-use Rattle.xml_tree.specs.Scopes.{bound, scope_at, xmlns_prefix}
+use Rattle.xml_names.specs.Scopes.{bound, xmlns_prefix}
+use Rattle.xml_tree.specs.TreeScopes.{scope_at}
 use Rattle.xml_tree.specs.Tree.{Tree, child_elements_of}
-use Rattle.xml_tree.specs.declared.names.Decl.{Decl}
+use Rattle.xml_names.specs.declared.names.Decl.{Decl}
 use Rattle.xml_tree.proofs.EverywhereLaws.{Everywhere-child_element}
 use Rattle.tree_text.proofs.PrintedTags.{still_unbound}
 

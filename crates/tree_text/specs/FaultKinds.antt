@@ -1,8 +1,9 @@
 -- Which fault kinds are faults, and which of two at one place counts.
 use Rattle.std.specs.Prelude.{ℕ, Bool, true, nat_lt}
 use Rattle.xml_grammar.specs.Answers.{Faults}
-use Rattle.tree_text.specs.declared.fault_kind.FaultKind.{FaultKind}
-use Rattle.tree_text.specs.declared.fault_kind.FaultKind.TheVariants.{Encoded, Doctyped, Depth, Unbound, Repeated}
+use Rattle.xml_tokens.specs.declared.fault_kind.FaultKind.{FaultKind}
+use Rattle.xml_tokens.specs.declared.fault_kind.FaultKind.TheVariants.{Encoded, Doctyped, Depth}
+use Rattle.xml_tokens.specs.declared.fault_kind.FaultKind.TheVariants.{Unbound, Repeated}
 
 -- a start tag is a fault where it is deeper than the limit, the other kinds always
 abbrev pub is_fault : ℕ → FaultKind → Bool

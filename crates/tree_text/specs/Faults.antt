@@ -1,22 +1,23 @@
 -- What bytes are by the grammar: the tree or the value that they spell, or their fault and its
 -- byte. Running out of memory is none of these faults.
-use Rattle.std.specs.Prelude.{◌≡◌, ◌⊎◌, ℕ, ◌+◌, ◌-◌, ◌<◌, Bool, ◌==◌, not, List, [], ◌∷◌, length, Option, None, Some, unwrap_or, Result, Ok, Err, IsUtf8, encode_utf8_all, if◌then◌else◌, chars}
+use Rattle.std.specs.Prelude.{◌≡◌, ◌⊎◌, ℕ, ◌+◌, ◌-◌, ◌<◌, ◌==◌, List, [], ◌∷◌, Option, None, Some}
+use Rattle.std.specs.Prelude.{unwrap_or, Result, Ok, Err, IsUtf8, if◌then◌else◌, chars}
 use Rattle.xml_grammar.specs.Reading.{Stop, Syntax, Faulty, front_of, after_front}
 use Rattle.xml_grammar.specs.Answers.{Answers}
 use Rattle.xml_tree.specs.Tree.{Tree}
-use Rattle.xml_tree.specs.declared.names.Decl.{Decl}
-use Rattle.tree_text.specs.declared.fault_kind.FaultKind.{FaultKind}
-use Rattle.tree_text.specs.declared.fault_kind.FaultKind.TheVariants.{Encoded, Doctyped, Depth, Unbound, Repeated}
+use Rattle.xml_names.specs.declared.names.Decl.{Decl}
+use Rattle.xml_tokens.specs.declared.fault_kind.FaultKind.{FaultKind}
+use Rattle.xml_tokens.specs.declared.fault_kind.FaultKind.TheVariants.{Encoded, Doctyped, Depth}
+use Rattle.xml_tokens.specs.declared.fault_kind.FaultKind.TheVariants.{Unbound, Repeated}
 use Rattle.tree_text.specs.declared.fault.TextFault.{TextFault}
 use Rattle.tree_text.specs.declared.fault.TextFault.TheVariants as texts
 use Rattle.tree_text.specs.declared.fault.ValueFault.{ValueFault}
 use Rattle.tree_text.specs.declared.fault.ValueFault.TheVariants as bodies
 use Rattle.tree_text.specs.FaultKinds.{faults}
-use Rattle.tree_text.specs.Grammar.{is_quote, document, spelling}
-
--- the byte at which this rest of the text begins
-abbrev pub byte_at : List ℕ → List ℕ → ℕ
-byte_at bytes left = length bytes - length (encode_utf8_all left)
+use Rattle.xml_tokens.specs.Tokens.{is_quote}
+use Rattle.tree_text.specs.Grammar.{document, spelling}
+use Rattle.xml_tokens.specs.Places.{byte_at}
+use Rattle.xml_tokens.specs.Tokens.{is_other}
 
 -- ---- documents and fragments
 
@@ -36,13 +37,17 @@ text_result bytes (Err stop) = Err (stop_fault bytes stop)
 
 -- The answer for bytes by the grammar: the tree that they spell and no other, or the first fault.
 -- It doesn't depend on how many more levels than the limit the grammar is given.
-pub record IsTextAnswer (limit : ℕ) (scope : List (List Decl)) (bytes : List ℕ) (answer : Result Tree TextFault) : Type 0 where
+pub record IsTextAnswer (limit : ℕ) (scope : List (List Decl)) (bytes : List ℕ)
+    (answer : Result Tree TextFault) : Type 0 where
   pub stated : Result Tree (Stop FaultKind)
-  pub by_grammar : (n : ℕ) → limit + 1 < n → Answers (faults limit) (document n scope) (chars bytes) stated
+  pub by_grammar : (n : ℕ) → limit + 1 < n
+      → Answers (faults limit) (document n scope) (chars bytes) stated
   pub is_told : answer ≡ text_result bytes stated
 
 abbrev pub TextAnswer : ℕ → List (List Decl) → List ℕ → Result Tree TextFault → Type 0
-TextAnswer limit scope bytes answer = (IsUtf8 bytes × IsTextAnswer limit scope bytes answer) ⊎ ((IsUtf8 bytes → ⊥) × (answer ≡ Err texts.NotUtf8))
+TextAnswer limit scope bytes answer =
+    (IsUtf8 bytes × IsTextAnswer limit scope bytes answer)
+    ⊎ ((IsUtf8 bytes → ⊥) × (answer ≡ Err texts.NotUtf8))
 
 -- ---- bodies that spell a value
 
@@ -52,14 +57,12 @@ all_but_one front [] = None
 all_but_one front (c ∷ []) = Some front
 all_but_one front (c ∷ d ∷ cs) = None
 
--- another character than this one
-abbrev pub is_other : ℕ → ℕ → Bool
-is_other one c = not (c == one)
-
 -- the inside of a body between two quotes of one kind, which doesn't contain that quote
 abbrev pub in_quotes : List ℕ → Option (List ℕ)
 in_quotes [] = None
-in_quotes (c ∷ cs) = if is_quote c then all_but_one (front_of (is_other c) cs) (after_front (is_other c) cs) else None
+in_quotes (c ∷ cs) =
+    if is_quote c then all_but_one (front_of (is_other c) cs) (after_front (is_other c) cs)
+    else None
 
 -- the part of a body that spells its value: that inside, or the whole body
 abbrev pub spelling_of : List ℕ → List ℕ
@@ -75,7 +78,8 @@ abbrev pub body_place : List ℕ → List ℕ → List ℕ → ℕ
 body_place body bytes left = byte_at bytes left - closing_len (in_quotes body)
 
 -- the value, or the fault
-abbrev pub body_result : List ℕ → List ℕ → Result (List ℕ) (Stop FaultKind) → Result (List ℕ) ValueFault
+abbrev pub body_result : List ℕ → List ℕ → Result (List ℕ) (Stop FaultKind)
+    → Result (List ℕ) ValueFault
 body_result body bytes (Ok value) = Ok value
 body_result body bytes (Err (Syntax left)) = Err (bodies.NotValue (body_place body bytes left))
 body_result body bytes (Err (Faulty kind left)) = Err (bodies.NotValue (body_place body bytes left))
@@ -87,4 +91,6 @@ pub record IsBodyAnswer (bytes : List ℕ) (answer : Result (List ℕ) ValueFaul
   pub is_told : answer ≡ body_result (chars bytes) bytes stated
 
 abbrev pub BodyAnswer : List ℕ → Result (List ℕ) ValueFault → Type 0
-BodyAnswer bytes answer = (IsUtf8 bytes × IsBodyAnswer bytes answer) ⊎ ((IsUtf8 bytes → ⊥) × (answer ≡ Err bodies.NotUtf8))
+BodyAnswer bytes answer =
+    (IsUtf8 bytes × IsBodyAnswer bytes answer)
+    ⊎ ((IsUtf8 bytes → ⊥) × (answer ≡ Err bodies.NotUtf8))

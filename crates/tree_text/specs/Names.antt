@@ -1,30 +1,34 @@
 -- Names in start tags: which of them are declarations, and which are wrong in the scope of the
 -- tag. Namespaces in XML 1.0, sections 3 to 6.
-use Rattle.std.specs.Prelude.{◌≡◌, ◌⊎◌, ℕ, suc, ◌+◌, Bool, true, ◌&&◌, ◌||◌, not, List, [], ◌∷◌, ◌++◌, length, if◌then◌else◌, is_some}
+use Rattle.std.specs.Prelude.{◌≡◌, ◌⊎◌, ℕ, suc, ◌+◌, Bool, true, ◌&&◌, ◌||◌, not, List, [], ◌∷◌}
+use Rattle.std.specs.Prelude.{◌++◌, length, if◌then◌else◌, is_some}
 use Rattle.std.specs.Str.{bytes_eq}
 use Rattle.std.specs.List.{list_any}
 use Rattle.xml_tree.specs.Tree.{Content, Tree, tree_of}
-use Rattle.xml_tree.specs.Scopes.{bound, xmlns_prefix}
-use Rattle.xml_tree.specs.Expanded.{attr_name, same_expanded}
+use Rattle.xml_names.specs.Scopes.{bound, xmlns_prefix}
+use Rattle.xml_names.specs.Expanded.{attr_name, same_expanded}
 use Rattle.xml_tree.specs.Proper.{may_stand}
-use Rattle.xml_tree.specs.declared.names.Name.{Name}
-use Rattle.xml_tree.specs.declared.names.Decl.{Decl}
-use Rattle.xml_tree.specs.declared.names.Attr.{Attr}
-use Rattle.tree_text.specs.declared.fault_kind.FaultKind.{FaultKind}
-use Rattle.tree_text.specs.declared.fault_kind.FaultKind.TheVariants.{Unbound, Repeated}
+use Rattle.xml_names.specs.declared.names.Name.{Name}
+use Rattle.xml_names.specs.declared.names.Decl.{Decl}
+use Rattle.xml_names.specs.declared.names.Attr.{Attr}
+use Rattle.xml_tokens.specs.declared.fault_kind.FaultKind.{FaultKind}
+use Rattle.xml_tokens.specs.declared.fault_kind.FaultKind.TheVariants.{Unbound, Repeated}
 use Rattle.tree_text.specs.declared.raw_attribute.RawAttribute.{RawAttribute}
-use Rattle.tree_text.specs.Pieces.{StartTag, written}
+use Rattle.xml_tokens.specs.Values.{written}
+use Rattle.tree_text.specs.Pieces.{StartTag}
 
 -- ---- declarations and attributes
 
 -- an attribute named `xmlns`, or with the prefix `xmlns`, is a declaration
 abbrev pub is_declaring : Name → Bool
-is_declaring n = (bytes_eq n.prefix [] && bytes_eq n.local xmlns_prefix) || bytes_eq n.prefix xmlns_prefix
+is_declaring n =
+    (bytes_eq n.prefix [] && bytes_eq n.local xmlns_prefix) || bytes_eq n.prefix xmlns_prefix
 
 -- the declaration that a raw attribute is: `xmlns` declares the default namespace, `xmlns:p` the
 -- prefix `p`
 abbrev pub raw_attribute_decl : RawAttribute → Decl
-raw_attribute_decl s = record { prefix = if bytes_eq s.name.prefix [] then [] else s.name.local; uri = s.value }
+raw_attribute_decl s =
+    record { prefix = if bytes_eq s.name.prefix [] then [] else s.name.local; uri = s.value }
 
 abbrev pub said_attr : RawAttribute → Attr
 said_attr s = record { name = s.name; value = s.value }
@@ -32,7 +36,8 @@ said_attr s = record { name = s.name; value = s.value }
 -- the declarations of a tag, and its attributes, each in order
 abbrev pub decls_of : List RawAttribute → List Decl
 decls_of [] = []
-decls_of (s ∷ ss) = if is_declaring s.name then (raw_attribute_decl s ∷ decls_of ss) else decls_of ss
+decls_of (s ∷ ss) =
+    if is_declaring s.name then (raw_attribute_decl s ∷ decls_of ss) else decls_of ss
 
 abbrev pub attrs_of : List RawAttribute → List Attr
 attrs_of [] = []
@@ -54,14 +59,18 @@ is_unbound_in here n = not (bytes_eq n.prefix []) && not (is_some (bound here n.
 
 -- a declaration that isn't allowed, or an attribute with an unbound prefix
 abbrev pub is_misnamed : List (List Decl) → RawAttribute → Bool
-is_misnamed here s = if is_declaring s.name then not (may_stand (raw_attribute_decl s)) else is_unbound_in here s.name
+is_misnamed here s =
+    if is_declaring s.name then not (may_stand (raw_attribute_decl s))
+    else is_unbound_in here s.name
 
 -- two declarations of one prefix, or two attributes of equal expanded names
 abbrev pub says_again : List (List Decl) → RawAttribute → RawAttribute → Bool
 says_again here s e =
     if is_declaring s.name
-    then (is_declaring e.name && bytes_eq (raw_attribute_decl e).prefix (raw_attribute_decl s).prefix)
-    else (not (is_declaring e.name) && same_expanded (attr_name here e.name) (attr_name here s.name))
+    then (is_declaring e.name
+    && bytes_eq (raw_attribute_decl e).prefix (raw_attribute_decl s).prefix)
+    else (not (is_declaring e.name)
+    && same_expanded (attr_name here e.name) (attr_name here s.name))
 
 -- an earlier raw attribute of the tag declares the same prefix or has the same expanded name
 abbrev pub is_repeated : List (List Decl) → List RawAttribute → RawAttribute → Bool
@@ -85,14 +94,16 @@ abbrev pub opening_size : StartTag → ℕ
 opening_size t = suc (length (written t.name))
 
 -- the element's own name is wrong; its place is a number of characters before the end of the tag
-pub record IsWrongName (scope : List (List Decl)) (t : StartTag) (kind : FaultKind) (back : ℕ) : Type 0 where
+pub record IsWrongName (scope : List (List Decl)) (t : StartTag) (kind : FaultKind)
+    (back : ℕ) : Type 0 where
   pub wrong : is_unbound_in (inside_tag scope t) t.name ≡ true
   pub kind_is : kind ≡ Unbound
   pub place : back + 1 ≡ t.size
 
 -- an attribute or declaration of the tag is wrong; the place of its name is a number of
 -- characters before the end of the tag
-pub record HasWrongSaid (scope : List (List Decl)) (t : StartTag) (kind : FaultKind) (back : ℕ) : Type 0 where
+pub record HasWrongSaid (scope : List (List Decl)) (t : StartTag) (kind : FaultKind)
+    (back : ℕ) : Type 0 where
   pub earlier : List RawAttribute
   pub raw_attribute : RawAttribute
   pub later : List RawAttribute

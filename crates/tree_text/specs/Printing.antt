@@ -6,8 +6,14 @@ use Rattle.std.specs.Prelude.{ℕ, ◌==◌, codes, List, [], ◌∷◌, flat_ma
 -- references
 abbrev pub body_escape : ℕ → List ℕ
 body_escape c =
-    if c == 38 then codes "&amp;" else (if c == 60 then codes "&lt;" else (if c == 34 then codes "&quot;" else (if c == 39 then codes "&apos;" else
-    (if c == 9 then codes "&#x9;" else (if c == 10 then codes "&#xA;" else (if c == 13 then codes "&#xD;" else (c ∷ [])))))))
+    if c == 38 then codes "&amp;"
+    else if c == 60 then codes "&lt;"
+    else if c == 34 then codes "&quot;"
+    else if c == 39 then codes "&apos;"
+    else if c == 9 then codes "&#x9;"
+    else if c == 10 then codes "&#xA;"
+    else if c == 13 then codes "&#xD;"
+    else (c ∷ [])
 
 -- a body: its characters, escaped
 abbrev pub body_print : List ℕ → List ℕ

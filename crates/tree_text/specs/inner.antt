@@ -1,3 +1,2 @@
 -- Definitions for private functions and proofs; no public clause needs them.
-pub mod Classes
 pub mod Escapes

@@ -3,23 +3,22 @@
 ghost use Rattle.std.specs.Prelude.{◌≡◌, option_map, IfOk, IsTrue, Ok};
 ghost use Rattle.std.specs.Str.{chars};
 ghost use Rattle.xml_grammar.specs.readers.Functions.{read_whole};
-ghost use Rattle.xml_tree.specs.Characters.{all_chars};
-ghost use Rattle.tree_text.specs.Faults.{BodyAnswer, all_but_one, in_quotes, spelling_of, closing_len};
-ghost use Rattle.tree_text.specs.readers.Results.{Gives, GivesAll};
-ghost use Rattle.tree_text.specs.Grammar.{is_quote};
-ghost use Rattle.xml_tree.specs.Memory.{Answered};
+ghost use Rattle.xml_names.specs.Characters.{all_chars};
+ghost use Rattle.tree_text.specs.Faults.{BodyAnswer, all_but_one, in_quotes, spelling_of};
+ghost use Rattle.tree_text.specs.Faults.{closing_len};
+ghost use Rattle.xml_tokens.specs.readers.Results.{Gives, GivesAll};
+ghost use Rattle.xml_tokens.specs.Tokens.{is_quote};
+ghost use Rattle.xml_names.specs.Memory.{Answered};
 ghost use Rattle.tree_text.specs.readers.Texts.{read_spelling, read_plain, read_whole_reference};
 ghost use Rattle.tree_text.specs.readers.Whole.{BodyFaultOf, body_read};
 
-use crate::attribute_values::{is_quote, push_piece, push_raw, reference, reference_follows};
-use crate::character_classes::{Class, run};
-use crate::cursor::{is_over, split_first};
 use crate::fault::ValueFault;
-use crate::fault_places::place;
-use crate::parse_error::ParseError;
-use crate::text_buffers::no_text;
 use std::alloc::Global;
-use xml_tree::{ReadError, Text};
+use xml_names::{ReadError, Text};
+use xml_tokens::{
+    Class, ParseError, is_over, is_quote, no_text, place, push_piece, push_raw, reference,
+    reference_follows, run, split_first,
+};
 
 /// A reference, read whole or not at all, and what follows it.
 fn whole_reference(text: &str) -> Result<(char, &str), ParseError<'_>>

@@ -1,13 +1,13 @@
 //! The meanings of the names in a start tag, no two of which may be equal.
 ghost use Rattle.std.specs.Prelude.{◌≡◌, option_map, Some};
-ghost use Rattle.xml_tree.specs.Expanded.{attr_name};
+ghost use Rattle.xml_names.specs.Expanded.{attr_name};
 ghost use Rattle.tree_text.specs.readers.Bindings.{AreOpenNamespaces, lists, number};
 ghost use Rattle.tree_text.specs.readers.Meanings.{Means};
 
 use crate::bindings::Bindings;
 use crate::names::{declared_prefix, declares, is_nothing};
 use crate::raw_attribute::RawAttribute;
-use xml_tree::{LocalName, Name};
+use xml_names::{LocalName, Name};
 
 /// The meaning of a name in a start tag.
 #[derive(Drop, PartialEq, Eq, PartialOrd, Ord)]

@@ -1,12 +1,13 @@
 //! The declarations of the open elements, and the namespaces that they bind.
 ghost use Rattle.std.specs.Prelude.{◌≡◌, ◌++◌, ◌<◌, ◌∷◌, [], option_map, Some, IfOk, OnOk, length};
-ghost use Rattle.xml_tree.specs.Scopes.{bound};
-ghost use Rattle.xml_tree.specs.declared.names.Decl.{Decl};
+ghost use Rattle.xml_names.specs.Scopes.{bound};
+ghost use Rattle.xml_names.specs.declared.names.Decl.{Decl};
 ghost use Rattle.tree_text.specs.readers.Bindings.{AreOpenNamespaces, lists, number};
 
 use crate::namespaces::Namespaces;
 use std::alloc::{AllocError, Global};
-use xml_tree::{Decl, Prefix, Scope, copy_decls};
+use xml_names::{Decl, Prefix, copy_decls};
+use xml_tree::Scope;
 
 /// The declarations in force at a place.
 #[derive(Drop)]

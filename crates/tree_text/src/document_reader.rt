@@ -6,22 +6,19 @@ ghost use Rattle.xml_tree.specs.declared.scope.TheConstants.{SCOPE_LIMIT};
 ghost use Rattle.xml_tree.specs.Proper.{ProperIn};
 ghost use Rattle.xml_tree.specs.Tree.{height};
 ghost use Rattle.tree_text.specs.Faults.{TextAnswer};
-ghost use Rattle.tree_text.specs.readers.Results.{GivesAll};
-ghost use Rattle.xml_tree.specs.Memory.{Answered};
+ghost use Rattle.xml_tokens.specs.readers.Results.{GivesAll};
+ghost use Rattle.xml_names.specs.Memory.{Answered};
 ghost use Rattle.tree_text.specs.readers.Texts.{read_text};
 ghost use Rattle.tree_text.specs.readers.Whole.{FaultOf, text_read};
 
 use crate::bindings::Bindings;
-use crate::cursor::is_over;
 use crate::elements::element;
 use crate::fault::TextFault;
-use crate::fault_kind::FaultKind;
-use crate::fault_places::place;
 use crate::markup::{epilog, prolog};
-use crate::parse_error::ParseError;
-use crate::xml_declaration::{declaration_if, mark_if};
-use std::alloc::{AllocError, Global};
-use xml_tree::{Element, ReadError, Scope};
+use std::alloc::Global;
+use xml_names::ReadError;
+use xml_tokens::{FaultKind, ParseError, declaration_if, is_over, mark_if, place};
+use xml_tree::{Element, Scope};
 
 /// The root element of a whole text, with at most this many levels.
 fn root<'a>(
@@ -44,26 +41,6 @@ fn root<'a>(
         return Err(ParseError::Syntax(rest));
     }
     Ok(root)
-}
-
-/// The characters of ASCII bytes.
-fn chars_of_ascii(alloc: Global, bytes: &[u8]) -> Result<Vec<char>, AllocError>
-    ensures ok { IfOk result (λ all. all.items ≡ bytes.now) }
-{
-    bytes.iter().map(|&byte| byte as char).collect(alloc)
-}
-
-/// The characters of a text.
-///
-/// # Errors
-/// `NoMemory` when out of memory.
-pub fn chars_of_text(alloc: Global, text: &str) -> Result<Vec<char>, AllocError>
-    ensures same_chars { IfOk result (λ all. all.items ≡ chars text.now) }
-{
-    if text.is_ascii() {
-        return chars_of_ascii(alloc, text.as_bytes());
-    }
-    text.chars().collect(alloc)
 }
 
 /// The error for a stop, in the text of these bytes.

@@ -1,38 +1,37 @@
 //! Elements: their start tags, their content, and the elements in it, within a depth limit.
-ghost use Rattle.std.specs.Prelude.{◌≡◌, ◌==◌, ◌||◌, ◌+◌, ◌≤◌, ◌<◌, ◌++◌, true, [], ◌∷◌, chars, IfOk, OnOk, Ok, Err};
+ghost use Rattle.std.specs.Prelude.{◌≡◌, ◌==◌, ◌||◌, ◌+◌, ◌≤◌, ◌<◌, ◌++◌, true, [], ◌∷◌, chars};
+ghost use Rattle.std.specs.Prelude.{IfOk, OnOk, Ok, Err};
 ghost use Rattle.xml_grammar.specs.Reading.{Reader, head_is};
 ghost use Rattle.xml_grammar.specs.readers.Functions.{judgement};
 ghost use Rattle.xml_tree.specs.Edits.{with_text};
 ghost use Rattle.xml_tree.specs.Tree.{Tree, last, tree_of};
-ghost use Rattle.tree_text.specs.declared.fault_kind.FaultKind.{FaultKind};
+ghost use Rattle.xml_tokens.specs.declared.fault_kind.FaultKind.{FaultKind};
 ghost use Rattle.tree_text.specs.readers.Bindings.{AreBack, AreOpenNamespaces, lists};
-ghost use Rattle.tree_text.specs.readers.Results.{Gives, Fails};
-ghost use Rattle.tree_text.specs.readers.Members.{read_chars_onto, read_onto, read_child, read_filled, read_filled_behind};
+ghost use Rattle.xml_tokens.specs.readers.Results.{Gives, Fails};
+ghost use Rattle.tree_text.specs.readers.Members.{read_chars_onto, read_onto, read_child};
+ghost use Rattle.tree_text.specs.readers.Members.{read_filled, read_filled_behind};
 ghost use Rattle.tree_text.specs.Names.{attrs_of};
 ghost use Rattle.tree_text.specs.readers.Judging.{counted_back, first_of_tag};
-ghost use Rattle.tree_text.specs.readers.Runs.{ends_run};
-ghost use Rattle.tree_text.specs.readers.Texts.{markup_follows, other_follows, read_tag, read_element};
-ghost use Rattle.tree_text.specs.readers.Views.{name_in, tag_in};
+ghost use Rattle.xml_tokens.specs.readers.Runs.{ends_run};
+ghost use Rattle.tree_text.specs.readers.Texts.{markup_follows, other_follows, read_tag};
+ghost use Rattle.tree_text.specs.readers.Texts.{read_element};
+ghost use Rattle.xml_tokens.specs.readers.TokenViews.{name_in};
+ghost use Rattle.tree_text.specs.readers.Views.{tag_in};
 
-use crate::attribute_values::reference;
 use crate::bindings::Bindings;
-use crate::character_classes::{Class, run};
-use crate::character_runs::{lines, raw_run, starts};
-use crate::cursor::{count, is_first, split_first};
 use crate::empty_elements::push_bare;
-use crate::fault_kind::FaultKind;
-use crate::fault_places::before;
-use crate::lookahead::{are_next, is_either_next, is_next};
 use crate::markup::{comment, instruction, section};
 use crate::names::{declares, decls_of, first_of_tag};
-use crate::parse_error::ParseError;
 use crate::raw_attribute::RawAttribute;
-use crate::raw_name::{end_tag, owned_name};
 use crate::start_tags::{RawStartTag, whole_tag};
-use crate::text_buffers::text_of;
-use crate::tokens::starts_with_name;
 use std::alloc::{AllocError, Global};
-use xml_tree::{Attr, Decl, Element, Name, Text, last_elem};
+use xml_names::{Attr, Decl, Name, Text};
+use xml_tokens::{
+    Class, FaultKind, ParseError, are_next, before, content_run, count, end_tag, is_either_next,
+    is_first, is_next, lines, owned_name, reference, run, split_first, starts, starts_with_name,
+    text_of,
+};
+use xml_tree::{Element, last_elem};
 
 /// Stops at the first wrong name of a start tag, inside its element.
 #[inline(always)]
@@ -47,10 +46,13 @@ fn check_tag_names<'a>(
     requires namespaces_in_step { AreOpenNamespaces here.now }
     requires name_matches { name.now ≡ name_in start_tag.now.written }
     requires tag_read { read_tag (chars text.now)
-        ≡ Ok (tag_in (chars text.now) start_tag.now raw_attribute.now, chars start_tag.now.behind.now) }
+        ≡ Ok
+        (tag_in (chars text.now) start_tag.now raw_attribute.now, chars start_tag.now.behind.now) }
     ensures judged_names { Gives
-        (λ _. (tag_in (chars text.now) start_tag.now raw_attribute.now, chars start_tag.now.behind.now))
-        result (judgement (chars text.now)
+        (λ _.
+        (tag_in (chars text.now) start_tag.now raw_attribute.now, chars start_tag.now.behind.now))
+        result
+        (judgement (chars text.now)
         (tag_in (chars text.now) start_tag.now raw_attribute.now, chars start_tag.now.behind.now)
         (counted_back (tag_in (chars text.now) start_tag.now raw_attribute.now).size
         (first_of_tag (lists here.now)
@@ -110,7 +112,7 @@ fn push_mixed<'a>(
     ensures reads_onto { IfOk result
         (λ rest. read_chars_onto element.old (chars text.now) ≡ Ok (element.new, chars rest.now)) }
 {
-    let (run, rest) = raw_run(text);
+    let (run, rest) = content_run(text);
     element.push_text(lines(alloc, run)?)?;
     Ok(rest)
 }
@@ -175,7 +177,9 @@ fn push_raw_attribute(
     raw_attribute: RawAttribute<'_>,
 ) -> Result<(), AllocError>
     ensures appended { OnOk result
-        (element.new ≡ record element.old { attrs = element.old.attrs ++ attrs_of (raw_attribute.entry ∷ []) }) }
+        (element.new ≡ record element.old {
+          attrs = element.old.attrs ++ attrs_of (raw_attribute.entry ∷ []);
+        }) }
 {
     if declares(&raw_attribute.name) {
         return Ok(());
@@ -196,7 +200,9 @@ fn push_all_said(
     raw_attribute: &mut Vec<RawAttribute<'_>>,
 ) -> Result<(), AllocError>
     ensures appended { OnOk result
-        (element.new ≡ record element.old { attrs = element.old.attrs ++ attrs_of raw_attribute.old.items }) }
+        (element.new ≡ record element.old {
+          attrs = element.old.attrs ++ attrs_of raw_attribute.old.items;
+        }) }
 {
     for one in raw_attribute.drain(..) {
         push_raw_attribute(element, one)?;
@@ -213,7 +219,9 @@ fn push_attrs(
     room: usize,
 ) -> Result<(), AllocError>
     ensures appended { OnOk result
-        (element.new ≡ record element.old { attrs = element.old.attrs ++ attrs_of raw_attribute.old.items }) }
+        (element.new ≡ record element.old {
+          attrs = element.old.attrs ++ attrs_of raw_attribute.old.items;
+        }) }
 {
     if raw_attribute.is_empty() {
         return Ok(());
@@ -410,7 +418,10 @@ fn fill<'a>(
     requires namespaces_in_step { AreOpenNamespaces bindings.old }
     requires depth_bounded { depth + inner < 1000 }
     requires tag_read { read_tag (chars text.now)
-        ≡ Ok (tag_in (chars text.now) start_tag.now raw_attribute.old.items, chars start_tag.now.behind.now) }
+        ≡ Ok (
+          tag_in (chars text.now) start_tag.now raw_attribute.old.items,
+          chars start_tag.now.behind.now,
+        ) }
     requires bare { element.old ≡ tree_of (name_in start_tag.now.written) [] [] (last []) }
     ensures reads_rule { Gives (λ rest. (element.new, chars rest.now)) result
         (read_element (inner + 1) (lists bindings.old) depth (chars text.now)) }

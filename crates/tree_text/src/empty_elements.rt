@@ -1,15 +1,17 @@
 //! Empty elements, which have only a name, built in their final place: among the nodes of their
 //! parents.
-ghost use Rattle.std.specs.Prelude.{◌≡◌, ◌<◌, ◌++◌, ◌∷◌, [], chars, length, take, vec_capacity, vec_len, OnOk};
+ghost use Rattle.std.specs.Prelude.{◌≡◌, ◌<◌, ◌++◌, ◌∷◌, [], chars, length, take, vec_capacity};
+ghost use Rattle.std.specs.Prelude.{vec_len, OnOk};
 ghost use Rattle.xml_tree.specs.Tree.{last, tree_of};
 ghost use Rattle.xml_tree.specs.declared.tree.Node.TheVariants.{Elem};
-ghost use Rattle.tree_text.specs.readers.Views.{BeginsWithLocal, name_in};
+ghost use Rattle.xml_tokens.specs.readers.TokenViews.{name_in};
+ghost use Rattle.tree_text.specs.readers.Views.{BeginsWithLocal};
 
-use crate::cursor::{nothing, split_first};
-use crate::raw_name::{RawName, owned_name};
 use crate::start_tags::RawStartTag;
 use std::alloc::{AllocError, Global};
-use xml_tree::{Element, LocalName, Name, Node, Prefix};
+use xml_names::{LocalName, Name, Prefix};
+use xml_tokens::{RawName, nothing, owned_name, split_first};
+use xml_tree::{Element, Node};
 
 /// Reserves capacity for one more node, exactly one where there is none: most elements have one
 /// node or none.

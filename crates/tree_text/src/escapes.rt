@@ -1,10 +1,11 @@
 //! Texts as printed, with references in place of the characters that would be read otherwise.
-ghost use Rattle.std.specs.Prelude.{◌≡◌, ◌++◌, ◌∷◌, [], ◌<◌, length, take, get_or, chars, flat_map, IsTrue, IfSome, IfNone, OnOk};
+ghost use Rattle.std.specs.Prelude.{◌≡◌, ◌++◌, ◌∷◌, [], ◌<◌, length, take, get_or, chars, flat_map};
+ghost use Rattle.std.specs.Prelude.{IsTrue, IfSome, IfNone, OnOk};
 ghost use Rattle.tree_text.specs.inner.Escapes.{escape_in};
 
 use crate::output::Output;
 use std::alloc::AllocError;
-use xml_tree::{is_plain_text, is_plain_value, text_reference, value_reference};
+use xml_names::{is_plain_text, is_plain_value, text_reference, value_reference};
 
 /// Where a text is printed.
 #[derive(Clone, Copy)]

@@ -1,20 +1,22 @@
 //! Markup between runs of characters: comments, CDATA sections and processing instructions.
 ghost use Rattle.std.specs.Prelude.{◌≡◌, true, chars, IfOk, Ok};
 ghost use Rattle.xml_grammar.specs.Reading.{starts};
-ghost use Rattle.xml_tree.specs.Characters.{is_space};
-ghost use Rattle.xml_tree.specs.Comments.{is_comment};
-ghost use Rattle.tree_text.specs.readers.Results.{Gives};
+ghost use Rattle.xml_names.specs.Characters.{is_space};
+ghost use Rattle.xml_names.specs.Comments.{is_comment};
+ghost use Rattle.xml_tokens.specs.readers.Results.{Gives};
 ghost use Rattle.tree_text.specs.Grammar.{is_target};
-ghost use Rattle.tree_text.specs.Pieces.{line_ends};
-ghost use Rattle.tree_text.specs.readers.Texts.{misc_follows, less_follows, read_comment_inside, read_comment, read_section, read_instructed, read_instruction, read_misc, read_prolog_misc, read_prolog, read_epilog};
+ghost use Rattle.xml_tokens.specs.Values.{line_ends};
+ghost use Rattle.tree_text.specs.readers.Texts.{misc_follows, less_follows, read_comment_inside};
+ghost use Rattle.tree_text.specs.readers.Texts.{read_comment, read_section, read_instructed};
+ghost use Rattle.tree_text.specs.readers.Texts.{read_instruction, read_misc, read_prolog_misc};
+ghost use Rattle.tree_text.specs.readers.Texts.{read_prolog, read_epilog};
 
-use crate::character_runs::{lines, same_letters, starts, up_to};
-use crate::cursor::{is_first, split_first};
-use crate::fault_kind::FaultKind;
-use crate::parse_error::ParseError;
-use crate::tokens::{letter, name, spaces, word};
 use std::alloc::Global;
-use xml_tree::{Text, is_space};
+use xml_names::{Text, is_space};
+use xml_tokens::{
+    FaultKind, ParseError, is_first, letter, lines, name, same_letters, spaces, split_first,
+    starts, up_to, word,
+};
 
 /// The inside of a comment, and what follows the comment.
 fn comment_inside(text: &str) -> Result<(&str, &str), ParseError<'_>>

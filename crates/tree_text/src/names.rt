@@ -1,25 +1,27 @@
 //! Names in start tags: declarations and attributes, and the first wrong name of a tag.
-ghost use Rattle.std.specs.Prelude.{◌≡◌, suc, ◌+◌, ◌<◌, ◌^◌, List, [], ◌++◌, ◌∷◌, chars, encode_utf8_all, length, None, IsTrue, IfOk, OnOk, not, if◌then◌else◌};
+ghost use Rattle.std.specs.Prelude.{◌≡◌, suc, ◌+◌, ◌<◌, ◌^◌, List, [], ◌++◌, ◌∷◌, chars};
+ghost use Rattle.std.specs.Prelude.{encode_utf8_all, length, None, IsTrue, IfOk, OnOk, not};
+ghost use Rattle.std.specs.Prelude.{if◌then◌else◌};
 ghost use Rattle.std.specs.Str.{bytes_eq};
-ghost use Rattle.xml_tree.specs.Scopes.{xml_prefix, xml_uri, xmlns_uri};
+ghost use Rattle.xml_names.specs.Scopes.{xml_prefix, xml_uri, xmlns_uri};
 ghost use Rattle.xml_tree.specs.Proper.{may_stand};
-ghost use Rattle.tree_text.specs.Names.{decls_of, is_misnamed, is_repeated, widths, raw_attribute_decl, is_declaring, is_unbound_in};
-ghost use Rattle.tree_text.specs.Pieces.{written};
+ghost use Rattle.tree_text.specs.Names.{decls_of, is_misnamed, is_repeated, widths};
+ghost use Rattle.tree_text.specs.Names.{raw_attribute_decl, is_declaring, is_unbound_in};
+ghost use Rattle.xml_tokens.specs.Values.{written};
 ghost use Rattle.tree_text.specs.readers.Judging.{wrong_said, first_wrong, first_named};
 ghost use Rattle.tree_text.specs.readers.Bindings.{AreOpenNamespaces, lists};
 ghost use Rattle.tree_text.specs.readers.Meanings.{Holds};
-ghost use Rattle.tree_text.specs.readers.Views.{name_in};
+ghost use Rattle.xml_tokens.specs.readers.TokenViews.{name_in};
 ghost use Rattle.tree_text.specs.declared.raw_attribute.RawAttribute.{RawAttribute};
 
 use crate::attribute_meanings::{Meaning, meaning_of};
 use crate::bindings::Bindings;
-use crate::fault_kind::FaultKind;
 use crate::raw_attribute::RawAttribute;
-use crate::raw_name::{RawName, opening};
 use crate::start_tags::RawStartTag;
 use std::alloc::{AllocError, Global};
 use std::collections::BTreeSet;
-use xml_tree::{Decl, Name, Prefix, Text, is_xml, is_xmlns};
+use xml_names::{Decl, Name, Prefix, Text, is_xml, is_xmlns};
+use xml_tokens::{FaultKind, RawName, opening};
 
 /// Whether a prefix is empty.
 #[inline(always)]

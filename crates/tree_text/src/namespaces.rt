@@ -1,14 +1,15 @@
 //! Numbers for namespaces, so that names are compared without reading their namespaces again
 //! (Namespaces in XML 1.0, section 2.3).
-ghost use Rattle.std.specs.Prelude.{◌≡◌, ◌-◌, ◌++◌, List, ℕ, [], ◌∷◌, Some, length, take, option_map, IfOk, OnOk, if◌then◌else◌};
+ghost use Rattle.std.specs.Prelude.{◌≡◌, ◌-◌, ◌++◌, List, ℕ, [], ◌∷◌, Some, length, take};
+ghost use Rattle.std.specs.Prelude.{option_map, IfOk, OnOk, if◌then◌else◌};
 ghost use Rattle.std.specs.Str.{bytes_eq};
-ghost use Rattle.xml_tree.specs.Scopes.{bound, joined};
-ghost use Rattle.xml_tree.specs.declared.names.Decl.{Decl};
+ghost use Rattle.xml_names.specs.Scopes.{bound, joined};
+ghost use Rattle.xml_names.specs.declared.names.Decl.{Decl};
 ghost use Rattle.tree_text.specs.readers.Bindings.{AreNumbers, AreOf, at_text, number, numbers_at};
 
 use std::alloc::{AllocError, Global};
 use std::collections::BTreeMap;
-use xml_tree::{Decl, Prefix, Text};
+use xml_names::{Decl, Prefix, Text};
 
 /// A number for each declared namespace, and the declarations of each prefix.
 #[derive(Drop)]

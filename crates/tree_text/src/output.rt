@@ -1,5 +1,6 @@
 //! A text that is being printed. Contracts see its characters.
-ghost use Rattle.std.specs.Prelude.{◌≡◌, ◌++◌, ◌∷◌, [], OnOk, chars, encode_utf8, encode_utf8_all, string_bytes};
+ghost use Rattle.std.specs.Prelude.{◌≡◌, ◌++◌, ◌∷◌, [], OnOk, chars, encode_utf8, encode_utf8_all};
+ghost use Rattle.std.specs.Prelude.{string_bytes};
 
 use std::alloc::{AllocError, Global};
 use std::marker::Model;

@@ -1,12 +1,14 @@
 //! Laws of prints, each the contract of a function that does nothing.
-ghost use Rattle.std.specs.Prelude.{◌≡◌, ◌≤◌, ◌<◌, ◌+◌, ◌++◌, ℕ, List, None, Ok, IsTrue, encode_utf8_all};
+ghost use Rattle.std.specs.Prelude.{◌≡◌, ◌≤◌, ◌<◌, ◌+◌, ◌++◌, ℕ, List, None, Ok, IsTrue};
+ghost use Rattle.std.specs.Prelude.{encode_utf8_all};
 ghost use Rattle.xml_grammar.specs.Answers.{IsSpelled};
-ghost use Rattle.xml_tree.specs.Characters.{all_chars};
+ghost use Rattle.xml_names.specs.Characters.{all_chars};
 ghost use Rattle.xml_tree.specs.Print.{print, document_print};
 ghost use Rattle.xml_tree.specs.Proper.{ProperIn};
-ghost use Rattle.xml_tree.specs.Scopes.{bound, scope_at, xmlns_prefix};
+ghost use Rattle.xml_names.specs.Scopes.{bound, xmlns_prefix};
+ghost use Rattle.xml_tree.specs.TreeScopes.{scope_at};
 ghost use Rattle.xml_tree.specs.Tree.{Tree, height};
-ghost use Rattle.xml_tree.specs.declared.names.Decl.{Decl};
+ghost use Rattle.xml_names.specs.declared.names.Decl.{Decl};
 ghost use Rattle.tree_text.specs.Faults.{BodyAnswer, TextAnswer};
 ghost use Rattle.tree_text.specs.Grammar.{document, spelling};
 ghost use Rattle.tree_text.specs.FaultKinds.{faults};

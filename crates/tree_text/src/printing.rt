@@ -1,6 +1,10 @@
 //! Printing documents, elements and bodies.
 ghost use Rattle.std.specs.Prelude.{◌≡◌, ◌∷◌, ◌++◌, IfOk, OnOk, chars, encode_utf8_all, flat_map};
-ghost use Rattle.xml_tree.specs.Print.{closing, declaring, ending, is_empty, opening, print, print_content, print_attr, print_comment, print_decl, print_name, print_text, value_escape, quoted_text, header, document_print};
+ghost use Rattle.xml_names.specs.Markup.{closing, declaring, opening, print_attr, print_comment};
+ghost use Rattle.xml_names.specs.Markup.{print_decl, print_name, print_text, value_escape};
+ghost use Rattle.xml_names.specs.Markup.{quoted_text};
+ghost use Rattle.xml_tree.specs.Print.{ending, is_empty, print, print_content, header};
+ghost use Rattle.xml_tree.specs.Print.{document_print};
 ghost use Rattle.xml_tree.specs.inner.Print.{print_node};
 ghost use Rattle.tree_text.specs.Printing.{body_escape, body_print};
 
@@ -9,7 +13,8 @@ use crate::names::is_nothing;
 use crate::output::Output;
 use std::alloc::{AllocError, Global};
 use xcap_io::Bytes;
-use xml_tree::{Attr, Decl, Element, Name, Node, Prefix, Text, value_reference};
+use xml_names::{Attr, Decl, Name, Prefix, Text, value_reference};
+use xml_tree::{Element, Node};
 
 /// Appends a character of a value in quotes.
 fn push_value_char(out: &mut Output, c: char) -> Result<(), AllocError>

@@ -1,6 +1,6 @@
 //! Attributes and declarations as written in a start tag.
 use crate::text_span::Size;
-use xml_tree::{Name, Text};
+use xml_names::{Name, Text};
 
 /// An attribute or a declaration in a start tag.
 #[derive(Drop)]

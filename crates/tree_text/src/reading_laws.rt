@@ -1,7 +1,7 @@
 //! Laws of reading, each the contract of a function that does nothing.
 ghost use Rattle.std.specs.Prelude.{◌≡◌, ℕ, List, Result};
 ghost use Rattle.xml_tree.specs.Tree.{Tree};
-ghost use Rattle.xml_tree.specs.declared.names.Decl.{Decl};
+ghost use Rattle.xml_names.specs.declared.names.Decl.{Decl};
 ghost use Rattle.tree_text.specs.Faults.{BodyAnswer, TextAnswer};
 ghost use Rattle.tree_text.specs.declared.fault.TextFault.{TextFault};
 ghost use Rattle.tree_text.specs.declared.fault.ValueFault.{ValueFault};

@@ -1,25 +1,26 @@
 //! Start tags and the tags of empty elements.
-ghost use Rattle.std.specs.Prelude.{◌≡◌, ◌++◌, ◌∷◌, true, [], chars, length, is_some, IfOk, IfSome, Ok};
+ghost use Rattle.std.specs.Prelude.{◌≡◌, ◌++◌, ◌∷◌, true, [], chars, length, is_some, IfOk, IfSome};
+ghost use Rattle.std.specs.Prelude.{Ok};
 ghost use Rattle.std.specs.List.{list_all};
 ghost use Rattle.xml_grammar.specs.Reading.{after_front, read_valued};
 ghost use Rattle.xml_grammar.specs.readers.Functions.{read_quoted, read_sized};
-ghost use Rattle.xml_tree.specs.Characters.{is_space};
-ghost use Rattle.tree_text.specs.readers.Results.{Gives};
-ghost use Rattle.tree_text.specs.Grammar.{is_quote};
-ghost use Rattle.tree_text.specs.readers.Texts.{read_some_spaces, read_value, read_attribute, read_all_said, said_follows, read_tag_end, read_tag};
+ghost use Rattle.xml_names.specs.Characters.{is_space};
+ghost use Rattle.xml_tokens.specs.readers.Results.{Gives};
+ghost use Rattle.xml_tokens.specs.Tokens.{is_quote};
+ghost use Rattle.xml_tokens.specs.readers.Tokens.{read_some_spaces, read_value};
+ghost use Rattle.tree_text.specs.readers.Texts.{read_attribute, read_all_said, said_follows};
+ghost use Rattle.tree_text.specs.readers.Texts.{read_tag_end, read_tag};
 ghost use Rattle.tree_text.specs.readers.TagValues.{said_of};
 ghost use Rattle.tree_text.specs.readers.Views.{BeginsWithLocal, tag_in};
 
-use crate::attribute_values::{quote, value};
-use crate::character_classes::{Class, run};
-use crate::lookahead::{behind_next, is_next, is_space_next};
-use crate::parse_error::ParseError;
 use crate::raw_attribute::RawAttribute;
-use crate::raw_name::{RawName, front_qname, own_qname};
 use crate::text_span::Size;
-use crate::tokens::{equals, letter, sign, spaces, starts_with_name, word};
 use std::alloc::Global;
-use xml_tree::{Name, Text};
+use xml_names::{Name, Text};
+use xml_tokens::{
+    Class, ParseError, RawName, behind_next, equals, front_qname, is_next, is_space_next, letter,
+    own_qname, quote, run, sign, spaces, starts_with_name, value, word,
+};
 
 /// A start tag, or the tag of an empty element, without its raw attributes.
 #[derive(Clone, Copy)]

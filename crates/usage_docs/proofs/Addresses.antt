@@ -3,7 +3,7 @@ use Rattle.std.proofs.Common.{◌≡◌, ℕ, Bool, true, false, List, [], ◌�
 use Rattle.std.specs.Prelude.{◌==◌, if◌then◌else◌, codes}
 use Rattle.std.specs.List.{list_any, list_all}
 use Rattle.std.proofs.lemmas.Bool.{eqb-true}
-use Rattle.xml_tree.specs.Characters.{is_space}
+use Rattle.xml_names.specs.Characters.{is_space}
 use Rattle.usage_docs.specs.declared.address_states.AddressState.{AddressState}
 use Rattle.usage_docs.specs.declared.address_states.AddressState.TheVariants.{Start, H, Ht, Htt, Http, Https, Colon, Slash, Whole, GoesOn, Other}
 use Rattle.usage_docs.specs.readers.AddressStates.{white, address_after, is_address}

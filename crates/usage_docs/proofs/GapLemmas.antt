@@ -7,7 +7,7 @@ use Rattle.xml_tree.specs.Edits.{put, change, put_in}
 use Rattle.doc_names.specs.declared.usages.Usage.{Usage}
 use Rattle.usage_docs.specs.declared.schema_table.ElementKind.{ElementKind}
 use Rattle.usage_docs.specs.SchemaTable.{Scope, kind_of, root_kind}
-use Rattle.xml_tree.specs.Scopes.{inside}
+use Rattle.xml_tree.specs.TreeScopes.{inside}
 use Rattle.usage_docs.specs.Validity.{KeepsRow, AllKeep, ValidChild, IsValidDocument}
 use Rattle.usage_docs.specs.readers.Parts.{part_of, follows}
 use Rattle.usage_docs.specs.readers.Walks.{Walks}

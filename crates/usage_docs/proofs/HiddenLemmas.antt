@@ -10,12 +10,13 @@ use Rattle.std.specs.List.Sorted.{IsNonDecreasingBy, IsPartitionPoint}
 use Rattle.std.specs.Option.{option_or}
 use Rattle.std.specs.Ordering.{is_lt, ordering_index, ordering_reverse}
 use Rattle.xml_tree.specs.Tree.{Tree, tree_of}
-use Rattle.xml_tree.specs.Print.{print, byte_len}
-use Rattle.xml_tree.specs.Scopes.{AreInOrder, bindings_in, declared}
-use Rattle.xml_tree.specs.declared.names.Decl.{Decl}
-use Rattle.xml_tree.proofs.BindingLaws.{Behind}
-use Rattle.xml_tree.proofs.ByteOrder.{order, order_same, order_equal}
-use Rattle.xml_tree.proofs.ScopeLemmas.{declared-append}
+use Rattle.xml_names.specs.Markup.{byte_len}
+use Rattle.xml_tree.specs.Print.{print}
+use Rattle.xml_names.specs.Scopes.{AreInOrder, bindings_in, declared}
+use Rattle.xml_names.specs.declared.names.Decl.{Decl}
+use Rattle.xml_names.proofs.BindingLaws.{Behind}
+use Rattle.xml_names.proofs.ByteOrder.{order, order_same, order_equal}
+use Rattle.xml_names.proofs.ScopeLemmas.{declared-append}
 use Rattle.usage_docs.specs.Services.{listed_as}
 use Rattle.usage_docs.specs.readers.Lengths.{binding_of, decls_len, hidden}
 use Rattle.usage_docs.proofs.LengthLemmas.{first_more, kept, own_service, unlike, with_decls}

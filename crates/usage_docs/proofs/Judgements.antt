@@ -5,8 +5,8 @@ use Rattle.std.specs.Str.{bytes_eq}
 use Rattle.std.proofs.lemmas.Option.{same_Some}
 use Rattle.std.specs.Cmp.Lexicographic.{bytes_decides}
 use Rattle.xml_tree.specs.Tree.{Content, Tree, child_elements, child_elements_of, last, more, comment_node, tree_of}
-use Rattle.xml_tree.specs.declared.names.Attr.{Attr}
-use Rattle.xml_tree.specs.Scopes.{inside}
+use Rattle.xml_names.specs.declared.names.Attr.{Attr}
+use Rattle.xml_tree.specs.TreeScopes.{inside}
 use Rattle.usage_docs.specs.UniqueKeys.{Clashes, IsFirstClash, Mark, NoLater, Repeats, RepeatsAt, mark}
 use Rattle.usage_docs.specs.Forms.{AllFormed, MeetsConstraints, is_formed}
 use Rattle.usage_docs.specs.Keys.{attrs_pass, key_of, value_of}

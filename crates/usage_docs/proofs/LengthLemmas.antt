@@ -7,19 +7,20 @@ use Rattle.std.specs.Cmp.Lexicographic.{bytes_decides}
 use Rattle.std.specs.Option.{option_or}
 use Rattle.std.specs.Ordering.{match_ordering}
 use Rattle.xml_tree.specs.Tree.{Content, Tree, tree_of}
-use Rattle.xml_tree.specs.Print.{print, print_content, print_decl, opening, ending, is_empty, byte_len}
-use Rattle.xml_tree.specs.inner.Gathering.{gathered, gathered_bindings, placed}
-use Rattle.xml_tree.specs.Scopes.{AreInOrder, binds, bindings_in, declared}
-use Rattle.xml_tree.specs.declared.names.Attr.{Attr}
-use Rattle.xml_tree.specs.declared.names.Decl.{Decl}
-use Rattle.xml_tree.specs.declared.names.Name.{Name}
+use Rattle.xml_names.specs.Markup.{print_decl, opening, byte_len}
+use Rattle.xml_tree.specs.Print.{print, print_content, ending, is_empty}
+use Rattle.xml_names.specs.inner.Gathering.{gathered, gathered_bindings, placed}
+use Rattle.xml_names.specs.Scopes.{AreInOrder, binds, bindings_in, declared}
+use Rattle.xml_names.specs.declared.names.Attr.{Attr}
+use Rattle.xml_names.specs.declared.names.Decl.{Decl}
+use Rattle.xml_names.specs.declared.names.Name.{Name}
 use Rattle.xml_tree.specs.declared.tree.Node.{Node}
-use Rattle.xml_tree.proofs.BindingLaws.{Behind, AreInOrder-placed, AreInOrder-gathered}
-use Rattle.xml_tree.proofs.BindingWords.{gathered_are}
-use Rattle.xml_tree.proofs.ByteOrder.{order, order_same, order_equal}
-use Rattle.xml_tree.proofs.GatheringLemmas.{gathered-append}
-use Rattle.xml_tree.proofs.PrintLengths.{byte_len-append, byte_len-opening}
-use Rattle.xml_tree.proofs.ScopeLemmas.{drop_item, option_or-none}
+use Rattle.xml_names.proofs.BindingLaws.{Behind, AreInOrder-placed, AreInOrder-gathered}
+use Rattle.xml_names.proofs.BindingWords.{gathered_are}
+use Rattle.xml_names.proofs.ByteOrder.{order, order_same, order_equal}
+use Rattle.xml_names.proofs.GatheringLemmas.{gathered-append}
+use Rattle.xml_names.proofs.PrintLengths.{byte_len-append, byte_len-opening}
+use Rattle.xml_names.proofs.ScopeLemmas.{drop_item, option_or-none}
 use Rattle.usage_docs.specs.SchemaTable.{Scope}
 use Rattle.usage_docs.specs.Services.{listed_as}
 use Rattle.usage_docs.specs.readers.Listing.{elems_len, listed_nodes}

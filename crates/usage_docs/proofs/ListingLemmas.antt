@@ -2,8 +2,9 @@
 use Rattle.std.proofs.Common.{◌≡◌, ◌≤◌, ◌<◌, ◌+◌, ◌==◌, if◌then◌else◌, ℕ, min, Bool, true, false, cond, List, [], ◌∷◌, ◌++◌, length, take, drop, map, filter, flat_map, refl, ap, sym, ◌∙◌, arith, append-nil}
 use Rattle.xml_tree.specs.Tree.{Content, Tree, tree_of, child_elements, child_elements_of}
 use Rattle.xml_tree.specs.Nodes.{content_of, nodes_of, exchange_nodes}
-use Rattle.xml_tree.specs.Print.{print, print_content, opening, closing, byte_len}
-use Rattle.xml_tree.proofs.PrintLengths.{byte_len-append, ascii}
+use Rattle.xml_names.specs.Markup.{opening, closing, byte_len}
+use Rattle.xml_tree.specs.Print.{print, print_content}
+use Rattle.xml_names.proofs.PrintLengths.{byte_len-append, ascii}
 use Rattle.xml_tree.specs.declared.tree.Node.{Node}
 use Rattle.xml_tree.specs.declared.tree.Node.TheVariants.{Elem, Chars, Comment}
 use lib.Utf8.{encode}

@@ -7,7 +7,7 @@ use Rattle.xml_tree.specs.Edits.{put, put_in}
 use Rattle.doc_names.specs.declared.usages.Usage.{Usage}
 use Rattle.usage_docs.specs.declared.schema_table.ElementKind.{ElementKind}
 use Rattle.usage_docs.specs.SchemaTable.{Scope, Child, child_class_of, root_kind, items_in, content_model_of, MatchesModel as Matches}
-use Rattle.xml_tree.specs.Scopes.{inside}
+use Rattle.xml_tree.specs.TreeScopes.{inside}
 use Rattle.usage_docs.specs.Validity.{IsValidDocument, children_of}
 use Rattle.usage_docs.specs.Gaps.{last_of, child_before, child_behind, FitsGap, FitsBelow, GapThere}
 use Rattle.usage_docs.specs.readers.Gaps.{part_before, part_after, FollowsGap, FollowsBelow}

@@ -12,7 +12,7 @@ use Rattle.usage_docs.specs.Keys.{key_of}
 use Rattle.usage_docs.specs.SchemaTable.{Scope, kind_of}
 use Rattle.usage_docs.specs.readers.Repeats.{IsFirstRepeat}
 use Rattle.usage_docs.specs.readers.Siblings.{node_children, one_more}
-use Rattle.xml_tree.specs.Scopes.{inside}
+use Rattle.xml_tree.specs.TreeScopes.{inside}
 use Rattle.usage_docs.proofs.ClashLemmas.{Marked, kid_at, mark_parts, mark_within, no_key}
 
 -- the child at a place has the mark of the element there

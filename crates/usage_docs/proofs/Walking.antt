@@ -2,7 +2,7 @@
 -- left to right.
 use Rattle.std.proofs.Common.{◌↔◌, ℕ, List, [], ◌∷◌, ◌++◌, IsTrue}
 use Rattle.xml_tree.specs.Tree.{Content, last, more, comment_node}
-use Rattle.xml_tree.specs.declared.names.Attr.{Attr}
+use Rattle.xml_names.specs.declared.names.Attr.{Attr}
 use Rattle.usage_docs.specs.declared.schema_table.ElementKind.{ElementKind}
 use Rattle.usage_docs.specs.Keys.{attrs_pass}
 use Rattle.usage_docs.specs.SchemaTable.{Scope}

@@ -1,17 +1,19 @@
 -- The form of references. RFC 4826, sections 3.4.5 and 4.4.5 (additional constraints: ref,
 -- anchor, resource-list); RFC 3986, 4.2.
-use Rattle.std.specs.Prelude.{ℕ, Bool, true, false, List, [], ◌∷◌, ◌++◌, codes, if◌then◌else◌, ◌&&◌, ◌||◌, ◌==◌, not, IsTrue}
+use Rattle.std.specs.Prelude.{ℕ, Bool, true, false, List, [], ◌∷◌, ◌++◌, codes, if◌then◌else◌, ◌&&◌}
+use Rattle.std.specs.Prelude.{◌||◌, ◌==◌, not, IsTrue}
 use Rattle.std.specs.Str.{bytes_eq}
 use Rattle.std.specs.List.{list_all}
 use Rattle.std.specs.Option.{ForSome, option_map_or}
-use Rattle.xml_tree.specs.Characters.{is_space}
+use Rattle.xml_names.specs.Characters.{is_space}
 use Rattle.xml_tree.specs.Tree.{Content, last, more, comment_node, Tree}
-use Rattle.xml_tree.specs.declared.names.Attr.{Attr}
+use Rattle.xml_names.specs.declared.names.Attr.{Attr}
 use Rattle.xml_tree.specs.declared.tree.Node.{Node}
 use Rattle.xml_tree.specs.declared.tree.Node.TheVariants.{Elem, Chars, Comment}
 use Rattle.doc_names.specs.declared.usages.Usage.{Usage}
 use Rattle.usage_docs.specs.declared.schema_table.ElementKind.{ElementKind}
-use Rattle.usage_docs.specs.declared.schema_table.ElementKind.TheVariants.{EntryRef, External, ResourceList}
+use Rattle.usage_docs.specs.declared.schema_table.ElementKind.TheVariants.{EntryRef, External}
+use Rattle.usage_docs.specs.declared.schema_table.ElementKind.TheVariants.{ResourceList}
 use Rattle.usage_docs.specs.declared.schema_table.Key.TheVariants.{Ref, Anchor}
 use Rattle.usage_docs.specs.SchemaTable.{Scope, kind_of, root_kind}
 use Rattle.usage_docs.specs.Keys.{value_of}
@@ -25,7 +27,8 @@ first_segment (c ∷ cs) = if c == 47 then [] else (c ∷ first_segment cs)
 -- a relative reference that begins with a segment: it is not empty, doesn't begin with `/`, and
 -- has no `:` (58) before its first `/`
 unfoldable pub is_reference : List ℕ → Bool
-is_reference s = not (bytes_eq (first_segment s) []) && list_all (λ c. not (c == 58)) (first_segment s)
+is_reference s =
+    not (bytes_eq (first_segment s) []) && list_all (λ c. not (c == 58)) (first_segment s)
 
 -- a text begins with a word and is longer
 abbrev pub goes_on : List ℕ → List ℕ → Bool
@@ -46,7 +49,8 @@ trim_front white (c ∷ cs) = if white c then trim_front white cs else (c ∷ cs
 -- a text without trailing white space
 abbrev pub trim_back : (ℕ → Bool) → List ℕ → List ℕ
 trim_back white [] = []
-trim_back white (c ∷ cs) = if white c && bytes_eq (trim_back white cs) [] then [] else (c ∷ trim_back white cs)
+trim_back white (c ∷ cs) =
+    if white c && bytes_eq (trim_back white cs) [] then [] else (c ∷ trim_back white cs)
 
 -- a text without leading and trailing white space
 unfoldable pub trim_text : List ℕ → List ℕ
@@ -64,7 +68,8 @@ abbrev pub AllFormed : ElementKind → Scope → Content → Type 0
 AllFormed row c (last t) = Unit {0}
 AllFormed row c (comment_node t inside rest) = AllFormed row c rest
 AllFormed row c (more t n ds ats k rest) =
-    ForSome (kind_of row (c ++ ds ∷ []) n) (λ kind. IsTrue (is_formed kind ats k) × AllFormed kind (c ++ ds ∷ []) k)
+    ForSome (kind_of row (c ++ ds ∷ []) n) (λ kind.
+    IsTrue (is_formed kind ats k) × AllFormed kind (c ++ ds ∷ []) k)
     × AllFormed row c rest
 
 -- every `ref`, `anchor` and `resource-list` of a document has its form
@@ -74,6 +79,8 @@ MeetsConstraints u t = AllFormed (root_kind u) (t.decls ∷ []) t.content
 -- ---- forms, node by node
 
 abbrev pub IsNodeFormed : ElementKind → Scope → Node → Type 0
-IsNodeFormed row c (Elem e) = ForSome (kind_of row (c ++ e.decls ∷ []) e.name) (λ kind. IsTrue (is_formed kind e.attrs e.content) × AllFormed kind (c ++ e.decls ∷ []) e.content)
+IsNodeFormed row c (Elem e) =
+    ForSome (kind_of row (c ++ e.decls ∷ []) e.name) (λ kind.
+    IsTrue (is_formed kind e.attrs e.content) × AllFormed kind (c ++ e.decls ∷ []) e.content)
 IsNodeFormed row c (Chars t) = Unit {0}
 IsNodeFormed row c (Comment x) = Unit {0}

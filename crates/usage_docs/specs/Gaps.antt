@@ -1,12 +1,14 @@
 -- Where a new element may be inserted in a valid document: between two neighbours, whatever else
 -- the document has.
-use Rattle.std.specs.Prelude.{◌≡◌, ◌≤◌, ℕ, zero, suc, List, [], ◌∷◌, ◌++◌, length, Option, None, Some, slice_get}
+use Rattle.std.specs.Prelude.{◌≡◌, ◌≤◌, ℕ, zero, suc, List, [], ◌∷◌, ◌++◌, length, Option, None}
+use Rattle.std.specs.Prelude.{Some, slice_get}
 use Rattle.std.specs.Option.{ForSome}
 use Rattle.xml_tree.specs.Tree.{Content, Tree, child_elements_of}
 use Rattle.usage_docs.specs.declared.schema_table.ElementKind.{ElementKind}
-use Rattle.usage_docs.specs.SchemaTable.{Scope, Child, items_in, content_model_of, kind_of, child_class_of, MatchesModel}
+use Rattle.usage_docs.specs.SchemaTable.{Scope, Child, items_in, content_model_of, kind_of}
+use Rattle.usage_docs.specs.SchemaTable.{child_class_of, MatchesModel}
 use Rattle.usage_docs.specs.Validity.{ValidChild, children_of}
-use Rattle.xml_tree.specs.Scopes.{inside}
+use Rattle.xml_tree.specs.TreeScopes.{inside}
 
 -- the last of some children, if there are any
 abbrev pub last_of : List Child → Option Child
@@ -17,7 +19,8 @@ last_of (x ∷ y ∷ xs) = last_of (y ∷ xs)
 -- By the content model of an element kind a child may come between two others: some children that
 -- match the model have the three in sequence. Where none is given before it, it is the first
 -- child; where none is given after it, the last.
-pub record MayComeBetween (row : ElementKind) (before : Option Child) (x : Child) (behind : Option Child) : Type 0 where
+pub record MayComeBetween (row : ElementKind) (before : Option Child) (x : Child)
+    (behind : Option Child) : Type 0 where
   pub front : List Child
   pub back : List Child
   pub ends : last_of front ≡ before
@@ -36,16 +39,22 @@ child_behind j xs = slice_get xs j
 abbrev pub FitsGap : ElementKind → Scope → Content → Tree → ℕ → Type 0
 FitsGap row c content new j =
     ValidChild row c new
-    × MayComeBetween row (child_before j (children_of row c content)) (child_class_of row (inside c new) new.name) (child_behind j (children_of row c content))
+    × MayComeBetween row (child_before j (children_of row c content))
+    (child_class_of row (inside c new) new.name) (child_behind j (children_of row c content))
 
 -- the new element fits the gap in the element at a path below one of this kind; the content of
 -- foreign elements isn't checked
 abbrev pub FitsBelow : ElementKind → Scope → Tree → List ℕ → Tree → ℕ → Type 0
 FitsBelow row c e [] new j = FitsGap row c e.content new j
 FitsBelow row c e (n ∷ q) new j =
-    (child_element : Tree) × ((slice_get (child_elements_of e) n ≡ Some child_element) × ForSome (kind_of row (inside c child_element) child_element.name) (λ kind. FitsBelow kind (inside c child_element) child_element q new j))
+    (child_element : Tree)
+    × ((slice_get (child_elements_of e) n ≡ Some child_element)
+    × ForSome (kind_of row (inside c child_element) child_element.name) (λ kind.
+    FitsBelow kind (inside c child_element) child_element q new j))
 
 -- the element at the path exists, and has the gap
 abbrev pub GapThere : Tree → List ℕ → ℕ → Type 0
 GapThere e [] j = j ≤ length (child_elements_of e)
-GapThere e (n ∷ q) j = (child_element : Tree) × ((slice_get (child_elements_of e) n ≡ Some child_element) × GapThere child_element q j)
+GapThere e (n ∷ q) j =
+    (child_element : Tree)
+    × ((slice_get (child_elements_of e) n ≡ Some child_element) × GapThere child_element q j)

@@ -1,17 +1,21 @@
 -- The attributes without a namespace (RFC 4826, sections 3.2 and 4.2), which are also the keys of
 -- elements (sections 3.4.5 and 4.4.5).
-use Rattle.std.specs.Prelude.{ℕ, Bool, true, false, List, [], Option, None, Some, codes, if◌then◌else◌, ◌&&◌, not, find, is_some, option_map, option_and_then}
+use Rattle.std.specs.Prelude.{ℕ, Bool, true, false, List, [], Option, None, Some, codes}
+use Rattle.std.specs.Prelude.{if◌then◌else◌, ◌&&◌, not, find, is_some, option_map, option_and_then}
 use Rattle.std.specs.Str.{bytes_eq}
 use Rattle.std.specs.List.{list_all}
 use Rattle.std.specs.Option.{option_map_or}
-use Rattle.xml_tree.specs.declared.names.Attr.{Attr}
+use Rattle.xml_names.specs.declared.names.Attr.{Attr}
 use Rattle.usage_docs.specs.declared.schema_table.ElementKind.{ElementKind}
-use Rattle.usage_docs.specs.declared.schema_table.ElementKind.TheVariants.{EntryList, Entry, EntryRef, External, Service}
+use Rattle.usage_docs.specs.declared.schema_table.ElementKind.TheVariants.{EntryList, Entry}
+use Rattle.usage_docs.specs.declared.schema_table.ElementKind.TheVariants.{EntryRef, External}
+use Rattle.usage_docs.specs.declared.schema_table.ElementKind.TheVariants.{Service}
 use Rattle.usage_docs.specs.declared.schema_table.Attribute.{Attribute}
 use Rattle.usage_docs.specs.declared.schema_table.Attribute.TheVariants.{Nothing, May, Must}
 use Rattle.usage_docs.specs.declared.schema_table.Key.{Key}
 use Rattle.usage_docs.specs.declared.schema_table.Key.TheVariants.{Name, Uri, Ref, Anchor}
-use Rattle.usage_docs.specs.SchemaTable.{Scope, lists_namespace, services_namespace, element_namespace}
+use Rattle.usage_docs.specs.SchemaTable.{Scope, lists_namespace, services_namespace}
+use Rattle.usage_docs.specs.SchemaTable.{element_namespace}
 
 -- the local name of the attribute
 unfoldable pub word : Key → List ℕ
@@ -57,7 +61,8 @@ unfoldable pub attr_passes : ElementKind → Scope → Attr → Bool
 attr_passes row c a =
     if bytes_eq a.name.prefix []
     then option_map_or (λ key. bytes_eq a.name.local (word key)) (key_of row) false
-    else (not (bytes_eq (element_namespace c a.name) lists_namespace) && not (bytes_eq (element_namespace c a.name) services_namespace))
+    else (not (bytes_eq (element_namespace c a.name) lists_namespace)
+    && not (bytes_eq (element_namespace c a.name) services_namespace))
 
 -- a required attribute is present
 abbrev pub is_met : Attribute → List Attr → Bool

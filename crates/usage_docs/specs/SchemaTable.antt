@@ -6,18 +6,24 @@
 -- are the word before that: `one`, `opt` (0 or 1), `any` (0 or more). `foreign` is `xs:any` with
 -- `##other`: an element of any other namespace than the kind's, but not without one. `text_alone`
 -- is simple content.
-use Rattle.std.specs.Prelude.{ℕ, Bool, List, [], ◌∷◌, ◌⊎◌, ◌≡◌, Option, None, Some, codes, if◌then◌else◌, ◌&&◌, not, find, unwrap_or, filter_map, flat_map}
+use Rattle.std.specs.Prelude.{ℕ, Bool, List, [], ◌∷◌, ◌⊎◌, ◌≡◌, Option, None, Some, codes}
+use Rattle.std.specs.Prelude.{if◌then◌else◌, ◌&&◌, not, find, unwrap_or, filter_map, flat_map}
 use Rattle.std.specs.Str.{bytes_eq}
 use Rattle.std.specs.Option.{option_map_or}
-use Rattle.xml_tree.specs.Scopes.{bound}
-use Rattle.xml_tree.specs.declared.names.Name.{Name}
-use Rattle.xml_tree.specs.declared.names.Decl.{Decl}
+use Rattle.xml_names.specs.Scopes.{bound}
+use Rattle.xml_names.specs.declared.names.Name.{Name}
+use Rattle.xml_names.specs.declared.names.Decl.{Decl}
 use Rattle.doc_names.specs.Usages.{namespace_of}
 use Rattle.doc_names.specs.declared.doc_id.Auid.TheVariants as auids
 use Rattle.doc_names.specs.declared.usages.Usage.{Usage}
 use Rattle.doc_names.specs.declared.usages.Usage.TheVariants as usage
 use Rattle.usage_docs.specs.declared.schema_table.ElementKind.{ElementKind}
-use Rattle.usage_docs.specs.declared.schema_table.ElementKind.TheVariants.{ResourceLists, EntryList, Entry, EntryRef, External, DisplayName, RlsServices, Service, ResourceList, Packages, Package}
+use Rattle.usage_docs.specs.declared.schema_table.ElementKind.TheVariants.{ResourceLists, EntryList}
+use Rattle.usage_docs.specs.declared.schema_table.ElementKind.TheVariants.{Entry, EntryRef}
+use Rattle.usage_docs.specs.declared.schema_table.ElementKind.TheVariants.{External, DisplayName}
+use Rattle.usage_docs.specs.declared.schema_table.ElementKind.TheVariants.{RlsServices, Service}
+use Rattle.usage_docs.specs.declared.schema_table.ElementKind.TheVariants.{ResourceList, Packages}
+use Rattle.usage_docs.specs.declared.schema_table.ElementKind.TheVariants.{Package}
 
 -- the namespace of resource-lists (RFC 4826, 3.2)
 unfoldable pub lists_namespace : List ℕ
@@ -85,13 +91,18 @@ pub data Model : Type 0 where
 -- what an element of a kind may contain
 unfoldable pub content_model_of : ElementKind → Model
 content_model_of ResourceLists = sequence (any (known EntryList ∷ []) ∷ [])
-content_model_of EntryList = sequence (opt (known DisplayName ∷ []) ∷ any (known EntryList ∷ known External ∷ known Entry ∷ known EntryRef ∷ []) ∷ any (foreign ∷ []) ∷ [])
+content_model_of EntryList =
+    sequence (opt (known DisplayName ∷ [])
+    ∷ any (known EntryList ∷ known External ∷ known Entry ∷ known EntryRef ∷ [])
+    ∷ any (foreign ∷ []) ∷ [])
 content_model_of Entry = sequence (opt (known DisplayName ∷ []) ∷ any (foreign ∷ []) ∷ [])
 content_model_of EntryRef = sequence (opt (known DisplayName ∷ []) ∷ any (foreign ∷ []) ∷ [])
 content_model_of External = sequence (opt (known DisplayName ∷ []) ∷ any (foreign ∷ []) ∷ [])
 content_model_of DisplayName = text_alone
 content_model_of RlsServices = sequence (any (known Service ∷ []) ∷ [])
-content_model_of Service = sequence (one (known ResourceList ∷ known EntryList ∷ []) ∷ opt (known Packages ∷ []) ∷ any (foreign ∷ []) ∷ [])
+content_model_of Service =
+    sequence (one (known ResourceList ∷ known EntryList ∷ []) ∷ opt (known Packages ∷ [])
+    ∷ any (foreign ∷ []) ∷ [])
 content_model_of ResourceList = text_alone
 content_model_of Packages = sequence (any (known Package ∷ foreign ∷ []) ∷ [])
 content_model_of Package = text_alone
@@ -110,11 +121,16 @@ IsIn (y ∷ ys) x = (y ≡ x) ⊎ IsIn ys x
 -- one or none, each `any` any number, and no child is left.
 pub data MatchesModel : List ModelItem → List Child → Type 0 where
   ends : MatchesModel [] []
-  takes : {ys : List Child} {items : List ModelItem} {x : Child} {xs : List Child} → IsIn ys x → MatchesModel items xs → MatchesModel (one ys ∷ items) (x ∷ xs)
-  may_take : {ys : List Child} {items : List ModelItem} {x : Child} {xs : List Child} → IsIn ys x → MatchesModel items xs → MatchesModel (opt ys ∷ items) (x ∷ xs)
-  takes_none : {ys : List Child} {items : List ModelItem} {xs : List Child} → MatchesModel items xs → MatchesModel (opt ys ∷ items) xs
-  takes_more : {ys : List Child} {items : List ModelItem} {x : Child} {xs : List Child} → IsIn ys x → MatchesModel (any ys ∷ items) xs → MatchesModel (any ys ∷ items) (x ∷ xs)
-  takes_no_more : {ys : List Child} {items : List ModelItem} {xs : List Child} → MatchesModel items xs → MatchesModel (any ys ∷ items) xs
+  takes : {ys : List Child} {items : List ModelItem} {x : Child} {xs : List Child} → IsIn ys x
+      → MatchesModel items xs → MatchesModel (one ys ∷ items) (x ∷ xs)
+  may_take : {ys : List Child} {items : List ModelItem} {x : Child} {xs : List Child} → IsIn ys x
+      → MatchesModel items xs → MatchesModel (opt ys ∷ items) (x ∷ xs)
+  takes_none : {ys : List Child} {items : List ModelItem} {xs : List Child} → MatchesModel items xs
+      → MatchesModel (opt ys ∷ items) xs
+  takes_more : {ys : List Child} {items : List ModelItem} {x : Child} {xs : List Child} → IsIn ys x
+      → MatchesModel (any ys ∷ items) xs → MatchesModel (any ys ∷ items) (x ∷ xs)
+  takes_no_more : {ys : List Child} {items : List ModelItem} {xs : List Child}
+      → MatchesModel items xs → MatchesModel (any ys ∷ items) xs
 
 -- ---- elements by their expanded names
 
@@ -141,11 +157,14 @@ children_in (any ys) = ys
 
 -- the child kind that has this local name
 unfoldable pub child_named : ElementKind → List ℕ → Option ElementKind
-child_named row local = find (λ kind. bytes_eq local (local_name_of kind)) (filter_map kind_in (flat_map children_in (items_in (content_model_of row))))
+child_named row local =
+    find (λ kind. bytes_eq local (local_name_of kind))
+    (filter_map kind_in (flat_map children_in (items_in (content_model_of row))))
 
 -- the child kind by namespace and local name
 abbrev pub kind_by : ElementKind → List ℕ → List ℕ → Option ElementKind
-kind_by row space local = if bytes_eq space (namespace_of_children row) then child_named row local else None
+kind_by row space local =
+    if bytes_eq space (namespace_of_children row) then child_named row local else None
 
 -- the namespace is foreign: another one, and not none
 abbrev pub is_foreign : ElementKind → List ℕ → Bool
@@ -157,8 +176,12 @@ kind_of row c n = kind_by row (element_namespace c n) n.local
 
 -- what a child is in its parent
 unfoldable pub child_class_of : ElementKind → Scope → Name → Child
-child_class_of row c n = option_map_or known (kind_by row (element_namespace c n) n.local) (if is_foreign row (element_namespace c n) then foreign else stray)
+child_class_of row c n =
+    option_map_or known (kind_by row (element_namespace c n) n.local)
+    (if is_foreign row (element_namespace c n) then foreign else stray)
 
 -- the name of a document's root
 unfoldable pub is_root : Usage → Scope → Name → Bool
-is_root u c n = bytes_eq (element_namespace c n) (namespace_of_children (root_kind u)) && bytes_eq n.local (local_name_of (root_kind u))
+is_root u c n =
+    bytes_eq (element_namespace c n) (namespace_of_children (root_kind u))
+    && bytes_eq n.local (local_name_of (root_kind u))

@@ -1,14 +1,17 @@
 -- The addresses of a document's services, and the index of the services of many documents. RFC
 -- 4826, sections 4.4 and 4.4.7 to 4.4.8 (the global document rls-services/global/index).
-use Rattle.std.specs.Prelude.{◌≡◌, ℕ, ◌+◌, ◌<◌, min, Bool, List, [], ◌∷◌, ◌++◌, Option, codes, map, filter, filter_map, flat_map, is_some, option_and_then}
+use Rattle.std.specs.Prelude.{◌≡◌, ℕ, ◌+◌, ◌<◌, min, Bool, List, [], ◌∷◌, ◌++◌, Option, codes, map}
+use Rattle.std.specs.Prelude.{filter, filter_map, flat_map, is_some, option_and_then}
 use Rattle.xml_tree.specs.Tree.{Tree, tree_of, child_elements_of}
 use Rattle.xml_tree.specs.Nodes.{content_of}
-use Rattle.xml_tree.specs.Scopes.{bindings_in, inside}
-use Rattle.xml_tree.specs.Print.{print, byte_len}
-use Rattle.xml_tree.specs.declared.names.Name.{Name}
-use Rattle.xml_tree.specs.declared.names.Decl.{Decl}
+use Rattle.xml_names.specs.Scopes.{bindings_in}
+use Rattle.xml_tree.specs.TreeScopes.{inside}
+use Rattle.xml_names.specs.Markup.{byte_len}
+use Rattle.xml_tree.specs.Print.{print}
+use Rattle.xml_names.specs.declared.names.Name.{Name}
+use Rattle.xml_names.specs.declared.names.Decl.{Decl}
 use Rattle.xml_tree.specs.declared.tree.Node.TheVariants.{Elem}
-use Rattle.xml_tree.specs.Limits.{u64_max}
+use Rattle.xml_names.specs.Limits.{u64_max}
 use Rattle.usage_docs.specs.declared.schema_table.ElementKind.TheVariants.{RlsServices}
 use Rattle.usage_docs.specs.declared.schema_table.Key.TheVariants.{Uri}
 use Rattle.usage_docs.specs.declared.service_index.IndexFault.{IndexFault}
@@ -23,7 +26,8 @@ is_service c e = is_some (kind_of RlsServices (inside c e) e.name)
 
 -- the address of a child of a root, if it is a service and has one
 unfoldable pub service_uri : Scope → Tree → Option (List ℕ)
-service_uri c e = option_and_then (λ _. value_of Uri e.attrs) (kind_of RlsServices (inside c e) e.name)
+service_uri c e =
+    option_and_then (λ _. value_of Uri e.attrs) (kind_of RlsServices (inside c e) e.name)
 
 -- the addresses of a document's services, in order
 abbrev pub service_uris : Tree → List (List ℕ)
@@ -37,7 +41,8 @@ listed_as c e = tree_of e.name (bindings_in (inside c e)) e.attrs e.content
 
 -- the services of a document, as the index lists them
 abbrev pub service_elements : Tree → List Tree
-service_elements t = map (listed_as (t.decls ∷ [])) (filter (is_service (t.decls ∷ [])) (child_elements_of t))
+service_elements t =
+    map (listed_as (t.decls ∷ [])) (filter (is_service (t.decls ∷ [])) (child_elements_of t))
 
 -- the name and the one declaration of the index
 unfoldable pub index_name : Name
@@ -77,4 +82,5 @@ index_limit = INDEX_LIMIT
 
 -- no index with these services is allowed: it would have this length
 abbrev pub RefusesServices : List Tree → IndexFault → Type 0
-RefusesServices ss (TooLarge len) = (index_limit < index_len ss) × (len ≡ min (index_len ss) u64_max)
+RefusesServices ss (TooLarge len) =
+    (index_limit < index_len ss) × (len ≡ min (index_len ss) u64_max)

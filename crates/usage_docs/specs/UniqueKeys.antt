@@ -1,8 +1,9 @@
 -- Keys are unique among siblings of one kind. RFC 4826, sections 3.4.5 and 4.4.5 (additional
 -- constraints: what has to be unique is in the prose there; the schemas don't say it).
-use Rattle.std.specs.Prelude.{◌≡◌, ℕ, ◌<◌, ◌⊎◌, List, [], ◌∷◌, Option, None, Some, option_map, option_and_then, slice_get}
+use Rattle.std.specs.Prelude.{◌≡◌, ℕ, ◌<◌, ◌⊎◌, List, [], ◌∷◌, Option, None, Some, option_map}
+use Rattle.std.specs.Prelude.{option_and_then, slice_get}
 use Rattle.xml_tree.specs.Tree.{Tree, child_elements_of}
-use Rattle.xml_tree.specs.Scopes.{inside}
+use Rattle.xml_tree.specs.TreeScopes.{inside}
 use Rattle.doc_names.specs.declared.usages.Usage.{Usage}
 use Rattle.usage_docs.specs.declared.schema_table.ElementKind.{ElementKind}
 use Rattle.usage_docs.specs.declared.schema_table.Key.{Key}
@@ -20,14 +21,17 @@ mark kind value = record { kind = kind; value = value }
 
 -- the kind and key of an element; one without a kind or without its key has none
 unfoldable pub mark_of : ElementKind → Scope → Tree → Option Mark
-mark_of row c e = option_and_then (λ kind. option_map (mark kind) (key_value kind e.attrs)) (kind_of row (inside c e) e.name)
+mark_of row c e =
+    option_and_then (λ kind. option_map (mark kind) (key_value kind e.attrs))
+    (kind_of row (inside c e) e.name)
 
 -- the kind and key of the i-th sibling
 abbrev pub mark_at : ElementKind → Scope → List Tree → ℕ → Option Mark
 mark_at row c child_elements i = option_and_then (mark_of row c) (slice_get child_elements i)
 
 -- the i-th sibling has the kind and the key of an earlier one
-pub record Repeats (row : ElementKind) (c : Scope) (child_elements : List Tree) (i : ℕ) (key : Key) : Type 0 where
+pub record Repeats (row : ElementKind) (c : Scope) (child_elements : List Tree) (i : ℕ)
+    (key : Key) : Type 0 where
   pub shared : Mark
   pub earlier : ℕ
   pub comes_first : earlier < i
@@ -41,7 +45,11 @@ abbrev pub RepeatsAt : ElementKind → Scope → List Tree → List ℕ → Key 
 RepeatsAt row c child_elements [] key = ⊥
 RepeatsAt row c child_elements (i ∷ []) key = Repeats row c child_elements i key
 RepeatsAt row c child_elements (i ∷ n ∷ p) key =
-    (child_element : Tree) × ((kind : ElementKind) × ((slice_get child_elements i ≡ Some child_element) × (kind_of row (inside c child_element) child_element.name ≡ Some kind) × RepeatsAt kind (inside c child_element) (child_elements_of child_element) (n ∷ p) key))
+    (child_element : Tree)
+    × ((kind : ElementKind)
+    × ((slice_get child_elements i ≡ Some child_element)
+    × (kind_of row (inside c child_element) child_element.name ≡ Some kind)
+    × RepeatsAt kind (inside c child_element) (child_elements_of child_element) (n ∷ p) key))
 
 -- the element at a path of a document repeats a sibling's key
 abbrev pub Clashes : Usage → Tree → List ℕ → Key → Type 0
@@ -61,4 +69,6 @@ HasUniqueKeys u t = (p : List ℕ) (key : Key) → Clashes u t p key → ⊥
 -- the first element in document order that repeats a sibling's key, if there is one
 abbrev pub IsFirstClash : Usage → Tree → Option Clash → Type 0
 IsFirstClash u t None = HasUniqueKeys u t
-IsFirstClash u t (Some clash) = Clashes u t clash.path clash.key × ((p : List ℕ) (key : Key) → Clashes u t p key → NoLater clash.path p)
+IsFirstClash u t (Some clash) =
+    Clashes u t clash.path clash.key
+    × ((p : List ℕ) (key : Key) → Clashes u t p key → NoLater clash.path p)

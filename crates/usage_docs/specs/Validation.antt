@@ -16,5 +16,7 @@ use Rattle.usage_docs.specs.declared.validation.Fault.TheVariants.{Invalid, Unfo
 abbrev pub HasFirstFault : Usage → Tree → Option Fault → Type 0
 HasFirstFault usage t (Some Invalid) = IsValidDocument usage t → ⊥
 HasFirstFault usage t (Some Unformed) = IsValidDocument usage t × (MeetsConstraints usage t → ⊥)
-HasFirstFault usage t (Some (Repeated clash)) = IsValidDocument usage t × MeetsConstraints usage t × IsFirstClash usage t (Some clash)
-HasFirstFault usage t None = IsValidDocument usage t × MeetsConstraints usage t × HasUniqueKeys usage t
+HasFirstFault usage t (Some (Repeated clash)) =
+    IsValidDocument usage t × MeetsConstraints usage t × IsFirstClash usage t (Some clash)
+HasFirstFault usage t None =
+    IsValidDocument usage t × MeetsConstraints usage t × HasUniqueKeys usage t

@@ -4,12 +4,14 @@
 use Rattle.std.specs.Prelude.{ℕ, Bool, true, false, List, [], ◌∷◌, ◌++◌, map, ◌||◌, IsTrue}
 use Rattle.std.specs.List.{list_all}
 use Rattle.std.specs.Option.{ForSome}
-use Rattle.xml_tree.specs.Characters.{is_space}
+use Rattle.xml_names.specs.Characters.{is_space}
 use Rattle.xml_tree.specs.Tree.{Content, last, more, comment_node, Tree, child_elements}
-use Rattle.xml_tree.specs.declared.names.Attr.{Attr}
+use Rattle.xml_names.specs.declared.names.Attr.{Attr}
 use Rattle.doc_names.specs.declared.usages.Usage.{Usage}
 use Rattle.usage_docs.specs.declared.schema_table.ElementKind.{ElementKind}
-use Rattle.usage_docs.specs.SchemaTable.{Scope, Child, Model, text_alone, sequence, content_model_of, items_in, kind_of, child_class_of, root_kind, is_root, MatchesModel}
+use Rattle.usage_docs.specs.SchemaTable.{Scope, Child, Model, text_alone, sequence}
+use Rattle.usage_docs.specs.SchemaTable.{content_model_of, items_in, kind_of, child_class_of}
+use Rattle.usage_docs.specs.SchemaTable.{root_kind, is_root, MatchesModel}
 use Rattle.usage_docs.specs.Keys.{attrs_pass}
 use Rattle.usage_docs.specs.Texts.{text_of}
 
@@ -26,11 +28,13 @@ text_passes row t = is_text_model (content_model_of row) || list_all is_space t
 -- the children of an element of this kind, in order, as the content model sees them, in the scope
 -- inside it
 abbrev pub children_of : ElementKind → Scope → Content → List Child
-children_of row c content = map (λ e. child_class_of row (c ++ e.decls ∷ []) e.name) (child_elements content)
+children_of row c content =
+    map (λ e. child_class_of row (c ++ e.decls ∷ []) e.name) (child_elements content)
 
 -- an element of this kind has the attributes, the text and the children of the kind, in the scope
 -- that ends with its own declarations
-pub record KeepsRow (kind : ElementKind) (c : Scope) (ats : List Attr) (content : Content) : Type 0 where
+pub record KeepsRow (kind : ElementKind) (c : Scope) (ats : List Attr)
+    (content : Content) : Type 0 where
   pub attributes : IsTrue (attrs_pass kind c ats)
   pub text : IsTrue (text_passes kind (text_of content))
   pub children : MatchesModel (items_in (content_model_of kind)) (children_of kind c content)
@@ -41,7 +45,8 @@ abbrev pub AllKeep : ElementKind → Scope → Content → Type 0
 AllKeep row c (last t) = Unit {0}
 AllKeep row c (comment_node t inside rest) = AllKeep row c rest
 AllKeep row c (more t n ds ats k rest) =
-    ForSome (kind_of row (c ++ ds ∷ []) n) (λ kind. KeepsRow kind (c ++ ds ∷ []) ats k × AllKeep kind (c ++ ds ∷ []) k)
+    ForSome (kind_of row (c ++ ds ∷ []) n) (λ kind.
+    KeepsRow kind (c ++ ds ∷ []) ats k × AllKeep kind (c ++ ds ∷ []) k)
     × AllKeep row c rest
 
 -- an element of some kind is valid by itself, in the scope that ends with its own declarations
@@ -50,7 +55,8 @@ ValidInRow kind c e = KeepsRow kind c e.attrs e.content × AllKeep kind c e.cont
 
 -- a child is valid by itself: it has no kind, or is valid by its kind
 abbrev pub ValidChild : ElementKind → Scope → Tree → Type 0
-ValidChild row c e = ForSome (kind_of row (c ++ e.decls ∷ []) e.name) (λ kind. ValidInRow kind (c ++ e.decls ∷ []) e)
+ValidChild row c e =
+    ForSome (kind_of row (c ++ e.decls ∷ []) e.name) (λ kind. ValidInRow kind (c ++ e.decls ∷ []) e)
 
 -- a document of the usage
 pub record IsValidDocument (u : Usage) (t : Tree) : Type 0 where

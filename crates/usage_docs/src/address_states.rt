@@ -5,9 +5,11 @@ ghost use Rattle.usage_docs.specs.declared.address_states.AddressState.TheVarian
 ghost use Rattle.usage_docs.specs.declared.address_states.SegmentState.TheVariants.{Empty};
 ghost use Rattle.usage_docs.specs.Forms.{is_http, is_reference, trim_text};
 ghost use Rattle.usage_docs.specs.Texts.{text_of};
-ghost use Rattle.usage_docs.specs.readers.AddressStates.{white, address_after, is_address, segment_after, is_segment};
+ghost use Rattle.usage_docs.specs.readers.AddressStates.{white, address_after, is_address};
+ghost use Rattle.usage_docs.specs.readers.AddressStates.{segment_after, is_segment};
 
-use xml_tree::{Element, Node, is_space};
+use xml_names::is_space;
+use xml_tree::{Element, Node};
 
 /// How much of an address has been read.
 #[derive(Clone, Copy)]

@@ -1,16 +1,20 @@
 //! Attributes of the elements in the schema table, and keys among them (RFC 4826, sections 3.2,
 //! 3.4.5, 4.2 and 4.4.5).
-ghost use Rattle.std.specs.Prelude.{◌≡◌, ◌&&◌, false, not, Some, None, IsTrue, bytes_eq, chars, option_map, is_some};
-ghost use Rattle.usage_docs.specs.SchemaTable.{lists_namespace, services_namespace, element_namespace};
+ghost use Rattle.std.specs.Prelude.{◌≡◌, ◌&&◌, false, not, Some, None, IsTrue, bytes_eq, chars};
+ghost use Rattle.std.specs.Prelude.{option_map, is_some};
+ghost use Rattle.usage_docs.specs.SchemaTable.{lists_namespace, services_namespace};
+ghost use Rattle.usage_docs.specs.SchemaTable.{element_namespace};
 ghost use Rattle.std.specs.List.{list_all};
 ghost use Rattle.std.specs.Option.{option_map_or};
 ghost use Rattle.usage_docs.specs.Words.{is_ascii};
-ghost use Rattle.usage_docs.specs.Keys.{word, attribute_of, key_of, is_key, value_of, key_value, attr_passes, attrs_pass, is_met};
+ghost use Rattle.usage_docs.specs.Keys.{word, attribute_of, key_of, is_key, value_of, key_value};
+ghost use Rattle.usage_docs.specs.Keys.{attr_passes, attrs_pass, is_met};
 
 use crate::schema_table::{
     Attribute, ElementKind, Key, is_word, lists_namespace, services_namespace,
 };
-use xml_tree::{Attr, LinkedScope, Text};
+use xml_names::{Attr, Text};
+use xml_tree::LinkedScope;
 
 impl Key {
     /// The local name of the attribute. Does not allocate.

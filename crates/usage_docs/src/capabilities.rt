@@ -4,11 +4,13 @@ ghost use Rattle.xml_tree.specs.Edits.{with_elem};
 ghost use Rattle.xml_tree.specs.Tree.{last, of_children};
 ghost use Rattle.xml_tree.specs.Print.{print};
 ghost use Rattle.usage_docs.specs.Words.{is_ascii};
-ghost use Rattle.usage_docs.specs.Capabilities.{around, auids, namespaces, capabilities, capabilities_text};
+ghost use Rattle.usage_docs.specs.Capabilities.{around, auids, namespaces, capabilities};
+ghost use Rattle.usage_docs.specs.Capabilities.{capabilities_text};
 
 use crate::element_maker::{declaration, name};
 use std::alloc::Global;
-use xml_tree::{Element, NoMemory};
+use xml_names::NoMemory;
+use xml_tree::Element;
 
 // An element of this name without content.
 fn empty(alloc: Global, local: &str) -> Result<Element, NoMemory>
@@ -35,7 +37,9 @@ fn push_word(alloc: Global, made: &mut Element, local: &str, text: &str) -> Resu
     requires ascii_local { IsTrue (is_ascii local.now) }
     requires ascii_text { IsTrue (is_ascii text.now) }
     ensures ok { OnOk result
-        (made.new ≡ record made.old { content = with_elem (around local.now (last text.now)) made.old.content }) }
+        (made.new ≡ record made.old {
+          content = with_elem (around local.now (last text.now)) made.old.content;
+        }) }
 {
     let word = text_elem(alloc, local, text)?;
     made.push_elem(word)
@@ -85,7 +89,12 @@ fn namespaces(alloc: Global) -> Result<Element, NoMemory>
 // Appends the parts of the document.
 fn push_parts(alloc: Global, made: &mut Element) -> Result<(), NoMemory>
     ensures ok { OnOk result
-        (made.new ≡ record made.old { content = with_elem namespaces (with_elem (around (codes "extensions") (of_children [])) (with_elem auids made.old.content)) }) }
+        (made.new ≡ record made.old {
+          content =
+              with_elem namespaces
+              (with_elem (around (codes "extensions") (of_children []))
+              (with_elem auids made.old.content));
+        }) }
 {
     made.push_elem(auids(alloc)?)?;
     made.push_elem(empty(alloc, "extensions")?)?;

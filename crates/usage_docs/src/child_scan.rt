@@ -10,7 +10,8 @@ use crate::attributes::{key_of, key_text};
 use crate::keys::KeyRepeat;
 use crate::schema_table::{ElementKind, kind_of};
 use std::alloc::Global;
-use xml_tree::{Element, IndexedDecls, LinkedScope, Node, Text};
+use xml_names::{IndexedDecls, Text};
+use xml_tree::{Element, LinkedScope, Node};
 
 // The kind of a child, by the kind of its parent, and the value of its key, if it has both.
 fn mark_of<'a>(

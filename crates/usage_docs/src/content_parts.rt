@@ -1,10 +1,12 @@
 //! Children by numbers, checked from left to right (RFC 4826, sections 3.2 and 4.2).
 ghost use Rattle.std.specs.Prelude.{◌≡◌, chars, if◌then◌else◌};
 ghost use Rattle.usage_docs.specs.SchemaTable.{foreign, stray, is_foreign, kind_of};
-ghost use Rattle.usage_docs.specs.readers.Parts.{part_named, foreign_part, single_parts, needs_first, follows, part_in, part_of};
+ghost use Rattle.usage_docs.specs.readers.Parts.{part_named, foreign_part, single_parts};
+ghost use Rattle.usage_docs.specs.readers.Parts.{needs_first, follows, part_in, part_of};
 
 use crate::schema_table::{ElementKind, element_namespace, is_foreign, kind_by};
-use xml_tree::{LinkedScope, Name};
+use xml_names::Name;
+use xml_tree::LinkedScope;
 
 // The part of a child of some kind.
 #[tactic(auto, unfolding(crate::specs::readers::Parts::part_named))]

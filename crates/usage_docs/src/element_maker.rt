@@ -1,11 +1,11 @@
 //! Names, declarations and elements made of ASCII words.
 ghost use Rattle.std.specs.Prelude.{◌≡◌, ◌≤◌, IfOk, IsTrue};
-ghost use Rattle.xml_tree.specs.Scopes.{decl_of};
-ghost use Rattle.xml_tree.specs.Expanded.{name_of};
+ghost use Rattle.xml_names.specs.Scopes.{decl_of};
+ghost use Rattle.xml_names.specs.Expanded.{name_of};
 ghost use Rattle.usage_docs.specs.Words.{is_ascii};
 
 use std::alloc::Global;
-use xml_tree::{Decl, LocalName, Name, NoMemory, Prefix, SmallText, Text};
+use xml_names::{Decl, LocalName, Name, NoMemory, Prefix, SmallText, Text};
 
 // A text of these letters.
 #[tactic(auto, using(crate::proofs::Words::chars_ascii))]

@@ -3,11 +3,13 @@ ghost use Rattle.std.specs.Prelude.{◌≡◌, ◌↔◌, List, IsTrue, OnOk, le
 ghost use Rattle.xml_tree.specs.Tree.{Tree};
 ghost use Rattle.usage_docs.specs.declared.schema_table.ElementKind.{ElementKind};
 ghost use Rattle.usage_docs.specs.SchemaTable.{Scope};
-ghost use Rattle.usage_docs.specs.readers.Repeats.{Enters, Holds, IsFirstRepeat, IsLeastPair, IsPair, lesser, mark_by};
+ghost use Rattle.usage_docs.specs.readers.Repeats.{Enters, Holds, IsFirstRepeat, IsLeastPair};
+ghost use Rattle.usage_docs.specs.readers.Repeats.{IsPair, lesser, mark_by};
 
 use crate::attributes::{key_of, key_text};
 use crate::schema_table::{ElementKind, Key};
-use xml_tree::{Attr, NoMemory, Path, Text};
+use xml_names::{Attr, NoMemory, Text};
+use xml_tree::Path;
 
 /// An element whose key equals the key of an earlier sibling of its kind.
 #[derive(Debug, Drop)]

@@ -1,7 +1,8 @@
 //! The printed length of services as the index lists them, counted before they are made.
 ghost use Rattle.std.specs.Prelude.{◌≡◌, [], ◌∷◌, map, min, IfOk};
-ghost use Rattle.xml_tree.specs.Print.{print, byte_len};
-ghost use Rattle.xml_tree.specs.Scopes.{AreInOrder, bindings_in};
+ghost use Rattle.xml_names.specs.Markup.{byte_len};
+ghost use Rattle.xml_tree.specs.Print.{print};
+ghost use Rattle.xml_names.specs.Scopes.{AreInOrder, bindings_in};
 ghost use Rattle.xml_tree.specs.declared.tree.Node.TheVariants.{Elem};
 ghost use Rattle.usage_docs.specs.Services.{service_elements, listed_as};
 ghost use Rattle.usage_docs.specs.readers.Listing.{elems_len, listed_nodes};
@@ -10,10 +11,8 @@ ghost use Rattle.usage_docs.specs.readers.Lengths.{CountsFrom, binding_of, decls
 use crate::service_index::{is_service, listed_as};
 use std::alloc::Global;
 use std::collections::BTreeSet;
-use xml_tree::{
-    Decl, Element, IndexedDecls, LinkedScope, NoMemory, Node, Prefix, Scope, decl_len, decls_len,
-    printed_len,
-};
+use xml_names::{Decl, IndexedDecls, NoMemory, Prefix, decl_len, decls_len};
+use xml_tree::{Element, LinkedScope, Node, Scope, printed_len};
 
 /// The root of a document whose services are counted.
 #[derive(Drop)]
@@ -140,7 +139,8 @@ fn nodes_len(
     requires counts_from { CountsFrom outer.now }
     requires same_declarations { outer.now.decls.now ≡ root.now.decls }
     requires scope_is_outer { scope.now ≡ outer.now.decls.now ∷ [] }
-    ensures ok { IfOk result (λ len. len ≡ min (elems_len (map Elem (service_elements root.now))) usize.MAX) }
+    ensures ok { IfOk result (λ len.
+        len ≡ min (elems_len (map Elem (service_elements root.now))) usize.MAX) }
 {
     let mut total = 0usize;
     for node in root.nodes() {
@@ -155,7 +155,8 @@ fn nodes_len(
 /// # Errors
 /// `NoMemory` when out of memory.
 pub(crate) fn listed_len(alloc: Global, root: &Element) -> Result<usize, NoMemory>
-    ensures ok { IfOk result (λ len. len ≡ min (elems_len (map Elem (service_elements root.now))) usize.MAX) }
+    ensures ok { IfOk result (λ len.
+        len ≡ min (elems_len (map Elem (service_elements root.now))) usize.MAX) }
 {
     let declared = IndexedDecls::with_index(alloc, root.decls())?;
     let outer = Outer::new(alloc, root.decls())?;

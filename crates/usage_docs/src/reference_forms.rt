@@ -8,7 +8,8 @@ ghost use Rattle.usage_docs.specs.Forms.{is_http, is_reference, is_formed};
 use crate::address_states::{is_http, is_http_inside, is_reference};
 use crate::attributes::value_of;
 use crate::schema_table::{ElementKind, Key};
-use xml_tree::{Attr, Element};
+use xml_names::Attr;
+use xml_tree::Element;
 
 // Whether `ref` has its form, if it is there.
 fn is_ref_formed(attrs: &[Attr]) -> bool

@@ -3,10 +3,14 @@ ghost use Rattle.std.specs.Prelude.{◌≡◌, Some, None, IsTrue, chars, if◌t
 ghost use Rattle.usage_docs.specs.Words.{is_ascii};
 ghost use Rattle.std.specs.Str.{bytes_eq};
 ghost use Rattle.usage_docs.specs.declared.schema_table.ElementKind.TheVariants as ElementKind;
-ghost use Rattle.usage_docs.specs.SchemaTable.{lists_namespace, services_namespace, root_kind, local_name_of, namespace_of_children, child_named, element_namespace, kind_by, is_foreign, kind_of, is_root};
+ghost use Rattle.usage_docs.specs.SchemaTable.{lists_namespace, services_namespace, root_kind};
+ghost use Rattle.usage_docs.specs.SchemaTable.{local_name_of, namespace_of_children, child_named};
+ghost use Rattle.usage_docs.specs.SchemaTable.{element_namespace, kind_by, is_foreign, kind_of};
+ghost use Rattle.usage_docs.specs.SchemaTable.{is_root};
 
 use doc_names::Usage;
-use xml_tree::{LinkedScope, LocalName, Name};
+use xml_names::{LocalName, Name};
+use xml_tree::LinkedScope;
 
 /// An element kind: the declaration that an element goes by.
 #[derive(Clone, Copy, PartialEq, Eq, PartialOrd, Ord)]

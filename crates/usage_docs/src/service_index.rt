@@ -11,9 +11,8 @@ use crate::schema_table::{ElementKind, kind_of, services_namespace};
 use std::alloc::Global;
 use std::marker::Model;
 use thiserror::Error;
-use xml_tree::{
-    Decl, Element, IndexedDecls, LinkedScope, NoMemory, Node, ReadError, Scope, copy_tree,
-};
+use xml_names::{Decl, IndexedDecls, NoMemory, ReadError};
+use xml_tree::{Element, LinkedScope, Node, Scope, copy_tree};
 
 /// Why a document's services can't be added to an index.
 #[derive(Clone, Copy, Debug, Drop, PartialEq, Eq, Error)]
@@ -135,9 +134,10 @@ fn len_with(inner: usize) -> usize
 }
 
 impl IndexBuilder {
-    ghost use Rattle.xml_tree.specs.Memory.{OfFault};
+    ghost use Rattle.xml_names.specs.Memory.{OfFault};
     ghost use Rattle.xml_tree.specs.Print.{print};
-    ghost use Rattle.usage_docs.specs.Services.{service_elements, index_of, index_text, index_len, index_limit, RefusesServices};
+    ghost use Rattle.usage_docs.specs.Services.{service_elements, index_of, index_text, index_len};
+    ghost use Rattle.usage_docs.specs.Services.{index_limit, RefusesServices};
 
     /// An index without services.
     ///

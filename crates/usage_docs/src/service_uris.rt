@@ -8,7 +8,8 @@ use crate::attributes::value_of;
 use crate::schema_table::Key;
 use crate::service_index::is_service;
 use std::alloc::Global;
-use xml_tree::{Element, IndexedDecls, LinkedScope, Node, declared_in};
+use xml_names::{IndexedDecls, declared_in};
+use xml_tree::{Element, LinkedScope, Node};
 
 /// The addresses of the services that a document has, in order.
 #[derive(Drop)]

@@ -1,7 +1,7 @@
 //! Validation of a document and of parts of one, each by one walk (RFC 4826, sections 3.2, 3.4.5,
 //! 4.2 and 4.4.5).
 ghost use Rattle.std.specs.Prelude.{◌≡◌, ◌≤◌, ◌+◌, ◌∷◌, [], ◌↔◌, length, IsTrue};
-ghost use Rattle.xml_tree.specs.Limits.{max_levels};
+ghost use Rattle.xml_names.specs.Limits.{max_levels};
 ghost use Rattle.xml_tree.specs.Tree.{content_height, height, child_elements_of};
 ghost use Rattle.xml_tree.specs.declared.path.TheConstants.{PATH_LIMIT};
 ghost use Rattle.xml_tree.specs.declared.tree.Node.TheVariants.{Elem};
@@ -19,7 +19,8 @@ use crate::schema_table::{ElementKind, is_root, kind_of, root_kind};
 use crate::validation_result::{ValidationResult, walk_inside, walk_known};
 use doc_names::Usage;
 use std::alloc::Global;
-use xml_tree::{Element, LinkedScope, Path, declared_in};
+use xml_names::declared_in;
+use xml_tree::{Element, LinkedScope, Path};
 
 /// Why a tree isn't a document of its usage.
 #[derive(Debug, Drop)]

@@ -1,6 +1,7 @@
 //! One walk over a tree, which finds whether it is valid, whether its references have their form,
 //! and its first clash of keys (RFC 4826, sections 3.2, 3.4.5, 4.2 and 4.4.5).
-ghost use Rattle.std.specs.Prelude.{◌≡◌, ◌≤◌, ◌<◌, ◌+◌, ◌^◌, ◌↔◌, Option, None, true, suc, length, IsTrue, if◌then◌else◌};
+ghost use Rattle.std.specs.Prelude.{◌≡◌, ◌≤◌, ◌<◌, ◌+◌, ◌^◌, ◌↔◌, Option, None, true, suc, length};
+ghost use Rattle.std.specs.Prelude.{IsTrue, if◌then◌else◌};
 ghost use Rattle.std.specs.Option.{ForSome};
 ghost use Rattle.xml_tree.specs.Tree.{Tree, content_height, height, child_elements_of};
 ghost use Rattle.xml_tree.specs.Nodes.{node_height};
@@ -15,7 +16,8 @@ ghost use Rattle.usage_docs.specs.Validity.{ValidInRow};
 ghost use Rattle.usage_docs.specs.readers.Repeats.{Enters, Holds, IsFirstRepeat, mark_by};
 ghost use Rattle.usage_docs.specs.readers.Siblings.{one_more};
 ghost use Rattle.usage_docs.specs.readers.Walks.{HoldsRow, IsNodeValid, part_behind};
-ghost use Rattle.usage_docs.specs.readers.FirstFaults.{IsKnownFormed, IsFirstAfter, IsFirstSoFar, PassesClash, PassesKey, RepeatsKnown};
+ghost use Rattle.usage_docs.specs.readers.FirstFaults.{IsKnownFormed, IsFirstAfter, IsFirstSoFar};
+ghost use Rattle.usage_docs.specs.readers.FirstFaults.{PassesClash, PassesKey, RepeatsKnown};
 
 use crate::attributes::attrs_pass;
 use crate::child_scan::scanned_repeat;
@@ -26,7 +28,8 @@ use crate::reference_forms::is_formed;
 use crate::schema_table::ElementKind;
 use crate::validity::text_passes;
 use std::alloc::Global;
-use xml_tree::{Attr, Element, LinkedScope, Node, declared_in};
+use xml_names::{Attr, declared_in};
+use xml_tree::{Element, LinkedScope, Node};
 
 /// The result of a walk over a tree.
 #[derive(Drop)]

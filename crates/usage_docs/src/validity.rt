@@ -1,12 +1,12 @@
 //! Texts allowed in an element (RFC 4826, sections 3.2 and 4.2).
 ghost use Rattle.std.specs.Prelude.{◌≡◌, chars};
 ghost use Rattle.std.specs.List.{list_all};
-ghost use Rattle.xml_tree.specs.Characters.{is_space};
+ghost use Rattle.xml_names.specs.Characters.{is_space};
 ghost use Rattle.usage_docs.specs.SchemaTable.{content_model_of};
 ghost use Rattle.usage_docs.specs.Validity.{is_text_model, text_passes};
 
 use crate::schema_table::ElementKind;
-use xml_tree::is_space;
+use xml_names::is_space;
 
 // Whether the content model of this kind is text alone.
 #[tactic(auto, unfolding(crate::specs::SchemaTable::content_model_of))]

@@ -6,8 +6,8 @@ use Rattle.std.proofs.lemmas.Fmt.{IsAscii-decimal_wide}
 use Rattle.std.specs.Str.{IsAscii}
 use Rattle.std.specs.Cmp.Lexicographic.{bytes_decides}
 use Rattle.std.specs.Fmt.{decimal}
-use Rattle.xml_tree.specs.Print.{print_name}
-use Rattle.xml_tree.specs.declared.names.Name.{Name}
+use Rattle.xml_names.specs.Markup.{print_name}
+use Rattle.xml_names.specs.declared.names.Name.{Name}
 use Rattle.xml_tree.specs.PathTexts.{path_text, steps_text}
 use Rattle.watchers.specs.Lines.{place_bytes}
 

@@ -11,6 +11,10 @@ use Rattle.watchers.specs.declared.watcher.Told.TheVariants.{Kept, Failed, NoMem
 -- The sink took the change's line where the change was kept; a proper prefix of it where the sink
 -- failed, and its fault counter rose; and nothing when out of memory.
 abbrev pub Audits : StreamState → Edit → Told → StreamState → Type 0
-Audits old edit Kept new = Took old.taken new.taken (line_bytes edit) × Writes old new × (new.write_faults ≡ old.write_faults)
-Audits old edit Failed new = TookProperPrefix old.taken new.taken (line_bytes edit) × Writes old new × CountRises old.write_faults new.write_faults
+Audits old edit Kept new =
+    Took old.taken new.taken (line_bytes edit) × Writes old new
+    × (new.write_faults ≡ old.write_faults)
+Audits old edit Failed new =
+    TookProperPrefix old.taken new.taken (line_bytes edit) × Writes old new
+    × CountRises old.write_faults new.write_faults
 Audits old edit NoMemory new = new ≡ old

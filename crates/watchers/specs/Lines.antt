@@ -1,11 +1,13 @@
 -- The line that an audit writes about a change. Its form is the project's own.
 use Rattle.std.specs.Prelude.{ℕ, codes, decimal, encode_utf8_all, List, [], ◌∷◌, ◌++◌}
-use Rattle.xml_tree.specs.Print.{print_name}
-use Rattle.xml_tree.specs.declared.names.Name.{Name}
+use Rattle.xml_names.specs.Markup.{print_name}
+use Rattle.xml_names.specs.declared.names.Name.{Name}
 use Rattle.xml_tree.specs.PathTexts.{path_text}
 use Rattle.doc_names.specs.Ids.{id_text}
 use Rattle.edit_ops.specs.declared.change.Change.{Change}
-use Rattle.edit_ops.specs.declared.change.Change.TheVariants.{CreateDocument, Insert, Replace, Remove, SetAttr, DropAttr, RemoveDocument}
+use Rattle.edit_ops.specs.declared.change.Change.TheVariants.{CreateDocument, Insert, Replace}
+use Rattle.edit_ops.specs.declared.change.Change.TheVariants.{Remove, SetAttr, DropAttr}
+use Rattle.edit_ops.specs.declared.change.Change.TheVariants.{RemoveDocument}
 use Rattle.edit_ops.specs.declared.edit.Edit.{Edit}
 
 -- a word and a place as a positional selector
@@ -29,4 +31,8 @@ change_bytes RemoveDocument = codes "delete"
 
 -- the number, the document's printed id and the change, separated by spaces; and a line end
 abbrev pub line_bytes : Edit → List ℕ
-line_bytes edit = decimal edit.note.next ++ (codes " " ++ (encode_utf8_all (id_text edit.doc) ++ (codes " " ++ (change_bytes edit.note.change ++ codes "\n"))))
+line_bytes edit =
+    decimal edit.note.next
+    ++ (codes " "
+    ++ (encode_utf8_all (id_text edit.doc)
+    ++ (codes " " ++ (change_bytes edit.note.change ++ codes "\n"))))

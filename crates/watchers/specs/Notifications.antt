@@ -14,7 +14,9 @@ abbrev pub with_edit : Option (List Edit) → Edit → Option (List Edit)
 with_edit told edit = with_edits told (edit ∷ [])
 
 -- B is the type of a watcher, and these are its members.
-module _ {B : Type 0} (told_list : B → Option (List Edit)) (faults : B → ℕ) (never_refuses : B → Type 0) (answers : B → Edit → Told → Type 0) (written : B → Option (List ℕ)) where
+module _ {B : Type 0} (told_list : B → Option (List Edit)) (faults : B → ℕ)
+    (never_refuses : B → Type 0) (answers : B → Edit → Told → Type 0)
+    (written : B → Option (List ℕ)) where
   -- a watcher that was notified of a change and kept it
   pub record HasKept (edit : Edit) (old new : B) : Type 0 where
     pub answered : answers old edit Kept
@@ -36,7 +38,8 @@ module _ {B : Type 0} (told_list : B → Option (List Edit)) (faults : B → ℕ
   abbrev pub AreNotified : Edit → List B → List B → ℕ → Type 0
   AreNotified edit [] new left = (new ≡ []) × (left ≡ 0)
   AreNotified edit (b ∷ bs) new left =
-      ((b' : B) × (bs' : List B) × (new ≡ b' ∷ bs') × HasKept edit b b' × AreNotified edit bs bs' left)
+      ((b' : B) × (bs' : List B)
+      × (new ≡ b' ∷ bs') × HasKept edit b b' × AreNotified edit bs bs' left)
       ⊎ ((last : B) × (k : ℕ) × (left ≡ k + 1) × HasLeft edit b last × AreNotified edit bs new k)
 
   -- A watcher that was notified of these changes and kept each of them: it wrote their lines, in

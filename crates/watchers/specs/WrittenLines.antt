@@ -21,4 +21,5 @@ WroteLine old edit NoMemory new = new ≡ old
 -- likewise where contracts see what it has written; of another watcher they never do
 abbrev pub Wrote : Option (List ℕ) → Edit → Told → Option (List ℕ) → Type 0
 Wrote None edit answer written = written ≡ None
-Wrote (Some old) edit answer written = (new : List ℕ) × (written ≡ Some new) × WroteLine old edit answer new
+Wrote (Some old) edit answer written =
+    (new : List ℕ) × (written ≡ Some new) × WroteLine old edit answer new

@@ -1,13 +1,14 @@
 //! Whether a change fits a tree.
 ghost use Rattle.std.specs.Prelude.{◌≡◌, ◌↔◌, ◌≤◌, IsSome, IsSomeAnd, IsTrue, length};
-ghost use Rattle.xml_tree.specs.Attributes.{is_written_so};
+ghost use Rattle.xml_names.specs.Attributes.{is_written_so};
 ghost use Rattle.std.specs.List.{list_any};
 ghost use Rattle.xml_tree.specs.Edits.{attr_at};
 ghost use Rattle.xml_tree.specs.Tree.{at, child_elements_of};
 ghost use Rattle.edit_ops.specs.Changes.{Fits};
 
 use edit_ops::Change;
-use xml_tree::{Attr, Element, Name, Path, element_at};
+use xml_names::{Attr, Name};
+use xml_tree::{Element, Path, element_at};
 
 fn has_element(root: &Element, path: &Path) -> bool
     ensures exact { IsTrue result ↔ IsSome (at path.now root.now) }

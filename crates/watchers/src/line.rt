@@ -1,12 +1,14 @@
 //! The line about a change.
-ghost use Rattle.std.specs.Prelude.{◌≡◌, ◌++◌, ◌∷◌, [], IfOk, OnOk, codes, encode_utf8_all, string_bytes};
-ghost use Rattle.xml_tree.specs.Print.{print_name};
+ghost use Rattle.std.specs.Prelude.{◌≡◌, ◌++◌, ◌∷◌, [], IfOk, OnOk, codes, encode_utf8_all};
+ghost use Rattle.std.specs.Prelude.{string_bytes};
+ghost use Rattle.xml_names.specs.Markup.{print_name};
 ghost use Rattle.watchers.specs.Lines.{attr_bytes, change_bytes, line_bytes, place_bytes};
 
 use doc_names::{DocId, print_doc_id};
 use edit_ops::{Change, EditNote};
 use std::alloc::{AllocError, Global};
-use xml_tree::{Name, Path, print_path};
+use xml_names::Name;
+use xml_tree::{Path, print_path};
 
 // Appends a name as it is written.
 fn push_name(line: &mut String, name: &Name) -> Result<(), AllocError>

@@ -2,7 +2,8 @@
 ghost use Rattle.std.specs.Prelude.{◌≡◌, [], None, Some, IfOk, OnErr, OnOk, if◌then◌else◌};
 ghost use Rattle.std.specs.Option.{option_map};
 ghost use Rattle.watchers.specs.Answers.{NeverFails};
-ghost use Rattle.watchers.specs.Mirrors.{HoldsAfter, HoldsEdited, HoldsLow, HoldsSame, Mirrors, OthersStay, stored_in, stored_of};
+ghost use Rattle.watchers.specs.Mirrors.{HoldsAfter, HoldsEdited, HoldsLow, HoldsSame, Mirrors};
+ghost use Rattle.watchers.specs.Mirrors.{OthersStay, stored_in, stored_of};
 
 use crate::change_fits::fits;
 use crate::mirror_entry::MirrorEntry;
@@ -12,7 +13,8 @@ use edit_ops::{Change, EditNote, apply_change};
 use indexmap::IndexMap;
 use std::alloc::{AllocError, Global};
 use std::marker::Model;
-use xml_tree::{Element, MAX_LEVELS, copy_tree, depth};
+use xml_names::MAX_LEVELS;
+use xml_tree::{Element, copy_tree, depth};
 
 /// Every document of which it was notified, as it is now.
 #[derive(Drop)]

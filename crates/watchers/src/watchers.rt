@@ -20,15 +20,18 @@ pub trait Watchers<E> {
     ghost none: { (w : Self) → keeps [] w w };
 
     /// Changes, and then others, are all these changes.
-    ghost more: { (xs ys : List E) (a b c : Self) → keeps xs a b → keeps ys b c → keeps (xs ++ ys) a c };
+    ghost more: { (xs ys : List E) (a b c : Self) → keeps xs a b → keeps ys b c
+        → keeps (xs ++ ys) a c };
 }
 
 /// Those still in the list afterwards, in order, kept every change; each of the others left at one
 /// of them. Contracts see what the watchers that write lines wrote, and of those that left, what
 /// they wrote until then.
 impl Watchers<Edit> for Vec<Box<dyn Watcher>> {
-    ghost keeps = { λ edits old new. AreKept (λ b. (Watcher-box b).told_list b.value) (λ b. (Watcher-box b).faults b.value)
-        (λ b. (Watcher-box b).never_refuses b.value) (λ b. (Watcher-box b).answers b.value) (λ b. (Watcher-box b).written b.value)
+    ghost keeps = { λ edits old new.
+        AreKept (λ b. (Watcher-box b).told_list b.value) (λ b. (Watcher-box b).faults b.value)
+        (λ b. (Watcher-box b).never_refuses b.value) (λ b. (Watcher-box b).answers b.value)
+        (λ b. (Watcher-box b).written b.value)
         edits old.items new.items };
 
     ghost none = { λ w. no_round _ _ _ _ _ w.items };
@@ -55,12 +58,14 @@ fn is_kept<B: Watcher>(watcher: &mut B, edit: &Edit) -> bool
 /// A single watcher, or none after it returned something other than `Kept`. It is notified as
 /// several are, and does not allocate by itself.
 impl<B: Watcher> Watchers<Edit> for Option<B> {
-    ghost keeps = { λ edits old new. AreKept B.told_list B.faults B.never_refuses B.answers B.written
+    ghost keeps = { λ edits old new.
+        AreKept B.told_list B.faults B.never_refuses B.answers B.written
         edits (option_to_list old) (option_to_list new) };
 
     ghost none = { λ w. no_round _ _ _ _ _ (option_to_list w) };
 
-    ghost more = { λ xs ys a b c. more_rounds _ _ _ _ _ xs ys (option_to_list a) (option_to_list b) (option_to_list c) };
+    ghost more = { λ xs ys a b c.
+        more_rounds _ _ _ _ _ xs ys (option_to_list a) (option_to_list b) (option_to_list c) };
 
     fn notify(&mut self, edit: &Edit) {
         let Some(watcher) = self else {

@@ -1,33 +1,29 @@
 -- How a command ends, by what it did.
-use Rattle.std.proofs.Common.{◌≡◌, ℕ, List, [], Option, None, Some, Result, Ok, Err, encode_utf8_all, ◌⊎◌, inl, inr, refl, sym, subst, arith, ⊎_elim}
+use Rattle.std.proofs.Common.{◌≡◌, ℕ, List, [], Option, None, Some, Result, Ok, Err, ◌⊎◌, inl, inr, refl, sym, subst, arith, ⊎_elim}
 use Rattle.xcap_io.proofs.Passing.{gave_none}
 use Rattle.tree_text.specs.Faults.{TextAnswer}
-use Rattle.xml_tree.specs.Memory.{Answered}
-use Rattle.xml_tree.specs.declared.read_error.ReadError.{ReadError}
-use Rattle.xml_tree.specs.declared.read_error.ReadError.TheVariants as errors
+use Rattle.xml_names.specs.Memory.{Answered}
+use Rattle.xml_names.specs.declared.read_error.ReadError.{ReadError}
+use Rattle.xml_names.specs.declared.read_error.ReadError.TheVariants as errors
 use Rattle.tree_text.specs.declared.fault.TextFault.{TextFault}
 use Rattle.doc_names.specs.declared.usages.Usage.{Usage as TheUsage}
 use Rattle.edit_ops.specs.declared.edit.Edit.{Edit}
 use Rattle.xml_tree.specs.Tree.{Tree}
 use Rattle.xcap_io.specs.Causes.{StreamState, CountRises}
 use Rattle.xcap_io.specs.StreamTraffic.{Took}
-use Rattle.http_wire.specs.declared.request.Request.{Request}
-use Rattle.store_core.specs.State.{State}
 use Rattle.xcap_io.proofs.Lines.{reads_none}
-use Rattle.xcap_client.specs.Asks.{getting, removing}
-use Rattle.client_commands.specs.Endings.{MakesOneCall}
+use Rattle.client_commands.specs.Endings.{CallStreams, CommandCall, MakesOneCall, delete_call, fetch_call}
 use Rattle.client_commands.specs.Follows.{Follows}
-use Rattle.client_commands.specs.Lines.{line_of_status}
-use Rattle.client_commands.specs.Puts.{AsksNothing, Puts}
-use Rattle.client_commands.specs.declared.requester.Requester.{Requester}
+use Rattle.client_commands.specs.Puts.{AsksNothing, PutOptions, PutStreams, Puts, call_streams}
 use Rattle.client_commands.specs.declared.command_end.CommandEnd.{CommandEnd}
-use Rattle.xcap_app.specs.ClientCommands.{RunsAs, RunsFollow, ended_so, exit_of_client, follows, knows_nothing, lacks_memory, means_none}
+use Rattle.xcap_app.specs.ClientCommands.{FollowArguments, RunsAs, RunsCall, RunsFollow, RunsPut, ended_so, exit_of_client, follow_options, follows, knows_nothing, lacks_memory, means_none}
 use Rattle.xcap_app.specs.Checks.{Checks, Examines}
 use Rattle.xcap_app.specs.Replays.{ReplaysCommand}
-use Rattle.xcap_app.specs.Serves.{ServesCommand}
+use Rattle.xcap_app.specs.Serves.{ServesCommand, ServiceArguments}
 use Rattle.xcap_app.specs.Exits.{IsRefused}
-use Rattle.xcap_app.specs.KeepCommand.{KeepsCommand, KeepsOn, exit_of_restart, keeps_on, no_journal, no_server}
-use Rattle.xcap_app.specs.Runs.{Runs}
+use Rattle.xcap_app.specs.KeepCommand.{KeepsCommand, KeepsOn, OldJournal, exit_of_restart, keeps_on, no_journal, no_server}
+use Rattle.xcap_app.specs.Runs.{Runs, service}
+use Rattle.xcap_app.specs.RunStates.{IoStreams, KeepState, ReplayState, RunState, ServeState, ServiceState, call_part, io_part, keep_part, keeping, put_part, replay_part, serve_part}
 use Rattle.xcap_app.specs.Samples.{RunsSample}
 use Rattle.xcap_app.specs.Messages.{IsReportedAs}
 use Rattle.xcap_app.specs.Verdicts.{AnswerVerdict, TextVerdict, refusal_of_text}
@@ -64,20 +60,29 @@ words_lacking : (Did : CommandEnd → Type 0) (Nothing : Type 0) (exit : Exit) �
 words_lacking Did Nothing exit is (ended_so ended did told) = ended_so ended did (told_out (exit_of_client ended) exit is told)
 words_lacking Did Nothing exit is (lacks_memory nothing ends) = lacks_memory nothing refl
 
-follow_lacking : (requester : Requester) (document : List ℕ) (rounds : ℕ) (exit : Exit) (peer peer' output output' : StreamState) → IsRefused exit → RunsFollow requester document rounds exit peer peer' output output'
-    → RunsFollow requester document rounds OutOfMemory peer peer' output output'
-follow_lacking requester document rounds exit peer peer' output output' is (follows doc means runs) =
-    follows doc means (words_lacking (λ ended. Follows requester.root requester.user doc rounds ended peer peer' output output') (AsksNothing peer peer' output output') exit is runs)
-follow_lacking requester document rounds exit peer peer' output output' is (means_none none usage nothing) = absurd (subst IsRefused usage is)
-follow_lacking requester document rounds exit peer peer' output output' is (knows_nothing ends nothing) = knows_nothing refl nothing
+call_lacking : (call : CommandCall) (exit : Exit) (old new : CallStreams) → IsRefused exit → RunsCall call exit old new → RunsCall call OutOfMemory old new
+call_lacking call exit old new is runs = words_lacking (λ ended. MakesOneCall call ended old new) (AsksNothing old new) exit is runs
+
+put_lacking : (options : PutOptions) (exit : Exit) (old new : PutStreams) → IsRefused exit → RunsPut options exit old new → RunsPut options OutOfMemory old new
+put_lacking options exit old new is runs =
+    words_lacking (λ ended. Puts options ended old new) ((new.input ≡ old.input) × AsksNothing (call_streams old) (call_streams new)) exit is runs
+
+follow_lacking : (arguments : FollowArguments) (exit : Exit) (old new : CallStreams) → IsRefused exit → RunsFollow arguments exit old new → RunsFollow arguments OutOfMemory old new
+follow_lacking arguments exit old new is (follows doc means runs) =
+    follows doc means (words_lacking (λ ended. Follows (follow_options arguments doc) ended old new) (AsksNothing old new) exit is runs)
+follow_lacking arguments exit old new is (means_none none usage nothing) = absurd (subst IsRefused usage is)
+follow_lacking arguments exit old new is (knows_nothing ends nothing) = knows_nothing refl nothing
 
 module _ {W : Type 0} (Keeps : List Edit → W → W → Type 0) where
+  abbrev state_of : StreamState → StreamState → StreamState → StreamState → W → RunState W
+  state_of port peer input output w = record { port = port; peer = peer; input = input; output = output; watchers = w }
+
   -- memory ran out before anything was done
-  pub ran_out : (command : Option Command) (port peer input output : StreamState) (w : W) → Runs Keeps command OutOfMemory port port peer peer input input output output w w
-  ran_out None port peer input output w = (inr refl, refl, refl, refl, refl, refl)
-  ran_out (Some (Replay root)) port peer input output w = ((refl, refl, refl), refl, refl)
-  ran_out (Some (Serve address root count)) port peer input output w = ((refl, refl, refl), refl, refl)
-  ran_out (Some (Keep address root count)) port peer input output w = (no_server refl refl refl refl refl, refl)
+  pub ran_out : (command : Option Command) (port peer input output : StreamState) (w : W) → Runs Keeps command OutOfMemory (state_of port peer input output w) (state_of port peer input output w)
+  ran_out None port peer input output w = (inr refl, refl)
+  ran_out (Some (Replay root)) port peer input output w = (refl, refl, refl)
+  ran_out (Some (Serve address root count)) port peer input output w = (refl, refl, refl)
+  ran_out (Some (Keep address root count)) port peer input output w = (no_server refl refl, refl)
   ran_out (Some (Check usage)) port peer input output w =
       ((([], record { consumed = gave_none input.inward; counts = refl; reads = reads_none input }, omega arith), refl), refl, refl, refl)
   ran_out (Some (Sample requests)) port peer input output w = (refl, refl, refl, refl, refl)
@@ -93,34 +98,34 @@ module _ {W : Type 0} (Keeps : List Edit → W → W → Type 0) where
   refused_out usage (NotWellFormed place) input input' e = (e.0, e.1.gave, omega (arith, e.1.fits))
   refused_out usage (Faulty fault) input input' e = (e.0, e.1.gave, omega (arith, e.1.fits))
 
-  never_on : (address root : List ℕ) (count : ℕ) (exit : Exit) (requests : List Request) (state : State) (port port' output output' : StreamState) (w w' : W) {X : Type 0} → IsRefused exit
-      → KeepsOn Keeps (Took output.taken output'.taken) (CountRises output.write_faults output'.write_faults) address root count exit requests state port port' w w' → X
-  never_on address root count Done requests state port port' output output' w w' is k = absurd is
-  never_on address root count Usage requests state port port' output output' w w' is k = absurd is
-  never_on address root count InputFailed requests state port port' output output' w w' is k = absurd is
-  never_on address root count OutputFailed requests state port port' output output' w w' is k = absurd is
-  never_on address root count NetworkFailed requests state port port' output output' w w' is k = absurd is
-  never_on address root count (Refused refusal) requests state port port' output output' w w' is k = absurd k
-  never_on address root count (Client fault) requests state port port' output output' w w' is k = absurd k
-  never_on address root count (BadJournal refusal) requests state port port' output output' w w' is k = absurd k
-  never_on address root count OutOfMemory requests state port port' output output' w w' is k = absurd is
+  never_on : (IsWritten : List ℕ → Type 0) (HasFailed : Type 0) (arguments : ServiceArguments) (exit : Exit) (journal : OldJournal) (old new : ServiceState W) {X : Type 0} → IsRefused exit
+      → KeepsOn Keeps IsWritten HasFailed arguments exit journal old new → X
+  never_on IsWritten HasFailed arguments Done journal old new is k = absurd is
+  never_on IsWritten HasFailed arguments Usage journal old new is k = absurd is
+  never_on IsWritten HasFailed arguments InputFailed journal old new is k = absurd is
+  never_on IsWritten HasFailed arguments OutputFailed journal old new is k = absurd is
+  never_on IsWritten HasFailed arguments NetworkFailed journal old new is k = absurd is
+  never_on IsWritten HasFailed arguments (Refused refusal) journal old new is k = absurd k
+  never_on IsWritten HasFailed arguments (Client fault) journal old new is k = absurd k
+  never_on IsWritten HasFailed arguments (BadJournal refusal) journal old new is k = absurd k
+  never_on IsWritten HasFailed arguments OutOfMemory journal old new is k = absurd is
 
-  unkept : (address root : List ℕ) (count : ℕ) (exit : Exit) (port port' input input' output output' : StreamState) (w w' : W) → IsRefused exit
-      → KeepsCommand Keeps address root count exit port port' input input' output output' w w' → KeepsCommand Keeps address root count OutOfMemory port port' input input' output output' w w'
-  unkept address root count exit port port' input input' output output' w w' is (no_server out p i o same) = no_server refl p i o same
-  unkept address root count exit port port' input input' output output' w w' is (no_journal fault told breaks p same) = no_journal fault (told_out (exit_of_restart fault) exit is told) breaks p same
-  unkept address root count exit port port' input input' output output' w w' is (keeps_on requests state reads just k) = never_on address root count exit requests state port port' output output' w w' is k
+  unkept : (arguments : ServiceArguments) (exit : Exit) (old new : KeepState W) → IsRefused exit → KeepsCommand Keeps arguments exit old new → KeepsCommand Keeps arguments OutOfMemory old new
+  unkept arguments exit old new is (no_server out same) = no_server refl same
+  unkept arguments exit old new is (no_journal fault told breaks p same) = no_journal fault (told_out (exit_of_restart fault) exit is told) breaks p same
+  unkept arguments exit old new is (keeps_on journal reads just k) =
+      never_on (Took old.output.taken new.output.taken) (CountRises old.output.write_faults new.output.write_faults) arguments exit journal (keeping old) (keeping new) is k
 
-  check_refused : (usage : TheUsage) (exit : Exit) (input input' output output' : StreamState) → IsRefused exit → Checks usage exit input input' output output' → Checks usage OutOfMemory input input' output output'
-  check_refused usage Done input input' output output' is r = absurd is
-  check_refused usage Usage input input' output output' is r = absurd is
-  check_refused usage InputFailed input input' output output' is r = absurd is
-  check_refused usage OutputFailed input input' output output' is r = absurd is
-  check_refused usage NetworkFailed input input' output output' is r = absurd is
-  check_refused usage (Refused refusal) input input' output output' is r = (refused_out usage refusal input input' r.0, r.1)
-  check_refused usage (Client fault) input input' output output' is r = absurd r
-  check_refused usage (BadJournal refusal) input input' output output' is r = absurd r
-  check_refused usage OutOfMemory input input' output output' is r = r
+  check_refused : (usage : TheUsage) (exit : Exit) (old new : IoStreams) → IsRefused exit → Checks usage exit old new → Checks usage OutOfMemory old new
+  check_refused usage Done old new is r = absurd is
+  check_refused usage Usage old new is r = absurd is
+  check_refused usage InputFailed old new is r = absurd is
+  check_refused usage OutputFailed old new is r = absurd is
+  check_refused usage NetworkFailed old new is r = absurd is
+  check_refused usage (Refused refusal) old new is r = (refused_out usage refusal old.input new.input r.0, r.1)
+  check_refused usage (Client fault) old new is r = absurd r
+  check_refused usage (BadJournal refusal) old new is r = absurd r
+  check_refused usage OutOfMemory old new is r = r
 
   sample_refused : (requests : ℕ) (exit : Exit) (output output' : StreamState) → IsRefused exit → RunsSample requests exit output output' → ⊥
   sample_refused requests Done output output' is r = is
@@ -133,61 +138,60 @@ module _ {W : Type 0} (Keeps : List Edit → W → W → Type 0) where
   sample_refused requests (BadJournal refusal) output output' is r = r
   sample_refused requests OutOfMemory output output' is r = is
 
-  replay_refused : (root : List ℕ) (exit : Exit) (input input' output output' : StreamState) (w w' : W) → IsRefused exit → ReplaysCommand Keeps root exit input input' output output' w w' → ⊥
-  replay_refused root Done input input' output output' w w' is r = is
-  replay_refused root Usage input input' output output' w w' is r = is
-  replay_refused root InputFailed input input' output output' w w' is r = is
-  replay_refused root OutputFailed input input' output output' w w' is r = is
-  replay_refused root NetworkFailed input input' output output' w w' is r = is
-  replay_refused root (Refused refusal) input input' output output' w w' is r = r
-  replay_refused root (Client fault) input input' output output' w w' is r = r
-  replay_refused root (BadJournal refusal) input input' output output' w w' is r = r
-  replay_refused root OutOfMemory input input' output output' w w' is r = is
+  replay_refused : (root : List ℕ) (exit : Exit) (old new : ReplayState W) → IsRefused exit → ReplaysCommand Keeps root exit old new → ⊥
+  replay_refused root Done old new is r = is
+  replay_refused root Usage old new is r = is
+  replay_refused root InputFailed old new is r = is
+  replay_refused root OutputFailed old new is r = is
+  replay_refused root NetworkFailed old new is r = is
+  replay_refused root (Refused refusal) old new is r = r
+  replay_refused root (Client fault) old new is r = r
+  replay_refused root (BadJournal refusal) old new is r = r
+  replay_refused root OutOfMemory old new is r = is
 
-  serve_refused : (address root : List ℕ) (count : ℕ) (exit : Exit) (port port' output output' : StreamState) (w w' : W) → IsRefused exit → ServesCommand Keeps address root count exit port port' output output' w w' → ⊥
-  serve_refused address root count Done port port' output output' w w' is r = is
-  serve_refused address root count Usage port port' output output' w w' is r = is
-  serve_refused address root count InputFailed port port' output output' w w' is r = is
-  serve_refused address root count OutputFailed port port' output output' w w' is r = is
-  serve_refused address root count NetworkFailed port port' output output' w w' is r = is
-  serve_refused address root count (Refused refusal) port port' output output' w w' is r = r
-  serve_refused address root count (Client fault) port port' output output' w w' is r = r
-  serve_refused address root count (BadJournal refusal) port port' output output' w w' is r = r
-  serve_refused address root count OutOfMemory port port' output output' w w' is r = is
+  serve_refused : (arguments : ServiceArguments) (exit : Exit) (old new : ServeState W) → IsRefused exit → ServesCommand Keeps arguments exit old new → ⊥
+  serve_refused arguments Done old new is r = is
+  serve_refused arguments Usage old new is r = is
+  serve_refused arguments InputFailed old new is r = is
+  serve_refused arguments OutputFailed old new is r = is
+  serve_refused arguments NetworkFailed old new is r = is
+  serve_refused arguments (Refused refusal) old new is r = r
+  serve_refused arguments (Client fault) old new is r = r
+  serve_refused arguments (BadJournal refusal) old new is r = r
+  serve_refused arguments OutOfMemory old new is r = is
 
   unspelled_refused : (exit : Exit) → IsRefused exit → (exit ≡ Usage) ⊎ (exit ≡ OutOfMemory) → ⊥
   unspelled_refused exit is (inl usage) = subst IsRefused usage is
   unspelled_refused exit is (inr out) = subst IsRefused out is
 
-  ran_refused : (command : Option Command) (exit : Exit) (port port' peer peer' input input' output output' : StreamState) (w w' : W) → IsRefused exit
-      → Runs Keeps command exit port port' peer peer' input input' output output' w w' → Runs Keeps command OutOfMemory port port' peer peer' input input' output output' w w'
-  ran_refused None exit port port' peer peer' input input' output output' w w' is r = absurd (unspelled_refused exit is r.0)
-  ran_refused (Some (Replay root)) exit port port' peer peer' input input' output output' w w' is r = absurd (replay_refused root exit input input' output output' w w' is r.0)
-  ran_refused (Some (Serve address root count)) exit port port' peer peer' input input' output output' w w' is r =
-      absurd (serve_refused (encode_utf8_all address) root count exit port port' output output' w w' is r.0)
-  ran_refused (Some (Keep address root count)) exit port port' peer peer' input input' output output' w w' is r = (unkept (encode_utf8_all address) root count exit port port' input input' output output' w w' is r.0, r.1)
-  ran_refused (Some (Check usage)) exit port port' peer peer' input input' output output' w w' is r =
-      (check_refused usage exit input input' output output' is r.0, r.1, r.2, r.3)
-  ran_refused (Some (Sample requests)) exit port port' peer peer' input input' output output' w w' is r = absurd (sample_refused requests exit output output' is r.0)
-  ran_refused (Some (Fetch requester path)) exit port port' peer peer' input input' output output' w w' is r =
-      (words_lacking (λ ended. MakesOneCall requester.root (getting requester.user path) (λ response. response.body) ended peer peer' output output') (AsksNothing peer peer' output output') exit is r.0, r.1, r.2, r.3)
-  ran_refused (Some (Put requester path media)) exit port port' peer peer' input input' output output' w w' is r =
-      (words_lacking (λ ended. Puts requester.root requester.user path media ended peer peer' input input' output output') ((input' ≡ input) × AsksNothing peer peer' output output') exit is r.0, r.1, r.2)
-  ran_refused (Some (Delete requester path)) exit port port' peer peer' input input' output output' w w' is r =
-      (words_lacking (λ ended. MakesOneCall requester.root (removing requester.user path) (λ response. line_of_status response.status) ended peer peer' output output') (AsksNothing peer peer' output output') exit is r.0, r.1, r.2, r.3)
-  ran_refused (Some (Follow requester document rounds)) exit port port' peer peer' input input' output output' w w' is r =
-      (follow_lacking requester document rounds exit peer peer' output output' is r.0, r.1, r.2, r.3)
+  ran_refused : (command : Option Command) (exit : Exit) (old new : RunState W) → IsRefused exit → Runs Keeps command exit old new → Runs Keeps command OutOfMemory old new
+  ran_refused None exit old new is r = absurd (unspelled_refused exit is r.0)
+  ran_refused (Some (Replay root)) exit old new is r = absurd (replay_refused root exit (replay_part old) (replay_part new) is r.0)
+  ran_refused (Some (Serve address root count)) exit old new is r =
+      absurd (serve_refused (service address root count) exit (serve_part old) (serve_part new) is r.0)
+  ran_refused (Some (Keep address root count)) exit old new is r =
+      (unkept (service address root count) exit (keep_part old) (keep_part new) is r.0, r.1)
+  ran_refused (Some (Check usage)) exit old new is r = (check_refused usage exit (io_part old) (io_part new) is r.0, r.1, r.2, r.3)
+  ran_refused (Some (Sample requests)) exit old new is r = absurd (sample_refused requests exit old.output new.output is r.0)
+  ran_refused (Some (Fetch requester path)) exit old new is r = (call_lacking (fetch_call requester path) exit (call_part old) (call_part new) is r.0, r.1, r.2, r.3)
+  ran_refused (Some (Put requester path media)) exit old new is r =
+      (put_lacking (record { requester = requester; path = path; media = media }) exit (put_part old) (put_part new) is r.0, r.1, r.2)
+  ran_refused (Some (Delete requester path)) exit old new is r = (call_lacking (delete_call requester path) exit (call_part old) (call_part new) is r.0, r.1, r.2, r.3)
+  ran_refused (Some (Follow requester document rounds)) exit old new is r =
+      (follow_lacking (record { requester = requester; document = document; rounds = rounds }) exit (call_part old) (call_part new) is r.0, r.1, r.2, r.3)
+
+  told_of : (command : Option Command) (exit told : Exit) (old new : RunState W) → IsReportedAs exit told → Runs Keeps command exit old new → Runs Keeps command told old new
+  told_of command exit told old new is r = ⊎_elim
+      (λ (e : told ≡ exit). subst (λ x. Runs Keeps command x old new) (sym e) r)
+      (λ (k : IsRefused exit × (told ≡ OutOfMemory)). subst (λ x. Runs Keeps command x old new) (sym k.1) (ran_refused command exit old new k.0 r))
+      is
 
   pub ran_told : (command : Option Command) (exit told : Exit) (port port' peer peer' input input' output output' : StreamState) (w w' : W) → IsReportedAs exit told
-      → Runs Keeps command exit port port' peer peer' input input' output output' w w' → Runs Keeps command told port port' peer peer' input input' output output' w w'
-  ran_told command exit told port port' peer peer' input input' output output' w w' is r = ⊎_elim
-      (λ (e : told ≡ exit). subst (λ x. Runs Keeps command x port port' peer peer' input input' output output' w w') (sym e) r)
-      (λ (k : IsRefused exit × (told ≡ OutOfMemory)). subst (λ x. Runs Keeps command x port port' peer peer' input input' output output' w w') (sym k.1)
-      (ran_refused command exit port port' peer peer' input input' output output' w w' k.0 r))
-      is
+      → Runs Keeps command exit (state_of port peer input output w) (state_of port' peer' input' output' w') → Runs Keeps command told (state_of port peer input output w) (state_of port' peer' input' output' w')
+  ran_told command exit told port port' peer peer' input input' output output' w w' is r = told_of command exit told (state_of port peer input output w) (state_of port' peer' input' output' w') is r
 
   -- a command equal to this one
   pub ran_as : (command same : Command) (exit : Exit) (port port' peer peer' input input' output output' : StreamState) (w w' : W) → command ≡ same
-      → Runs Keeps (Some same) exit port port' peer peer' input input' output output' w w' → Runs Keeps (Some command) exit port port' peer peer' input input' output output' w w'
+      → Runs Keeps (Some same) exit (state_of port peer input output w) (state_of port' peer' input' output' w') → Runs Keeps (Some command) exit (state_of port peer input output w) (state_of port' peer' input' output' w')
   ran_as command same exit port port' peer peer' input input' output output' w w' is r =
-      subst (λ (k : Command). Runs Keeps (Some k) exit port port' peer peer' input input' output output' w w') (sym is) r
+      subst (λ (k : Command). Runs Keeps (Some k) exit (state_of port peer input output w) (state_of port' peer' input' output' w')) (sym is) r

@@ -29,9 +29,10 @@ use Rattle.xcap_machine.specs.Requests.{IsAnswer}
 use Rattle.xcap_machine.specs.SubscriberVersions.{FollowedStep}
 use Rattle.xcap_server.specs.LoggedServers.{ServesPortLogged}
 use Rattle.xcap_server.specs.ReplayedRequests.{Redoing, Refuses, ResultsFrom}
-use Rattle.xcap_server.specs.Servers.{ServerState}
-use Rattle.xcap_app.specs.KeepCommand.{DoesntReadJournal, KeepsOn, ReadsJournal, ReadsRecords, ServesKept, StopsReading}
-use Rattle.xcap_app.specs.Serves.{IsComplete}
+use Rattle.xcap_machine.specs.Servers.{ServerState}
+use Rattle.xcap_app.specs.KeepCommand.{DoesntReadJournal, KeepsOn, KeptSummary, OldJournal, ReadsJournal, ReadsRecords, ServesKept, StopsReading, none_failed}
+use Rattle.xcap_app.specs.RunStates.{ServiceState}
+use Rattle.xcap_app.specs.Serves.{IsComplete, ServiceArguments}
 use Rattle.xcap_app.specs.declared.exit.Exit.{Exit}
 use Rattle.xcap_app.specs.declared.exit.Exit.TheVariants.{Done, Usage, InputFailed, OutputFailed, NetworkFailed, Refused, Client, BadJournal, OutOfMemory}
 use Rattle.xcap_app.specs.inner.Streams.{Streams}
@@ -47,8 +48,11 @@ module _ (input input' : StreamState) (journal journal' : JournalState) (s s' : 
   abbrev Restarted : Result LogState RestartFault → Type 0
   Restarted result = Restarts ResultsFrom Refuses input input' journal journal' s s' result
 
+  abbrev old_journal : (result : Result LogState RestartFault) (r : Restarted result) → State → OldJournal
+  old_journal result r state = record { bytes = r.bytes; requests = r.requests; rest = r.rest; state = state }
+
   -- the records that were read
-  records_read : (result : Result LogState RestartFault) (r : Restarted result) → (stood : ResultsFrom s' r.requests) × ReadsRecords s.root input input' r.bytes r.requests r.rest stood.state
+  records_read : (result : Result LogState RestartFault) (r : Restarted result) → (stood : ResultsFrom s' r.requests) × ReadsRecords s.root (old_journal result r stood.state) input input'
   records_read result r =
       let stood : ResultsFrom s' r.requests = r.stood [] (stands_for_none s empty) in (
         stood,
@@ -63,13 +67,11 @@ module _ (input input' : StreamState) (journal journal' : JournalState) (s s' : 
       )
 
   -- all of them
-  pub journal_read : (log : LogState) (r : Restarted (Ok log)) → (stood : ResultsFrom s' r.requests) × ReadsJournal s.root input input' r.requests stood.state
+  pub journal_read : (log : LogState) (r : Restarted (Ok log)) → (stood : ResultsFrom s' r.requests) × ReadsJournal s.root (old_journal (Ok log) r stood.state) input input'
   journal_read log r =
       let records = records_read (Ok log) r in (
         records.0,
         record {
-          bytes = r.bytes;
-          rest = r.rest;
           records = records.1;
           ended = r.ending.0;
           short = r.ending.1;
@@ -84,7 +86,8 @@ module _ (input input' : StreamState) (journal journal' : JournalState) (s s' : 
     failed : CountRises journal.faults journal'.faults → CountRises output.write_faults output'.write_faults
     failed rose = streams.cause (omega (arith, rose, none))
 
-    stops_so : (fault : RestartFault) (r : Restarted (Err fault)) (stood : ResultsFrom s' r.requests) → StopsReading s.root fault input input' output output' r.bytes r.requests r.rest stood.state
+    stops_so : (fault : RestartFault) (r : Restarted (Err fault)) (stood : ResultsFrom s' r.requests)
+        → StopsReading s.root fault (old_journal (Err fault) r stood.state) (record { input = input; output = output }) (record { input = input'; output = output' })
     stops_so faults.ReadFailed r stood = (wrote output output' journal' (text r.requests) streams r.ending.0, r.ending.1, r.ending.2, r.faults.0)
     stops_so faults.AppendFailed r stood =
         let e = r.ending in
@@ -100,14 +103,11 @@ module _ (input input' : StreamState) (journal journal' : JournalState) (s s' : 
     stops_so faults.NoMemory r stood = let e = r.ending in (e.0, e.1, e.2, wrote output output' journal' (text e.0) streams e.3)
 
     -- the old journal wasn't read to its end
-    pub breaks_off : (fault : RestartFault) → Restarted (Err fault) → DoesntReadJournal s.root fault input input' output output'
+    pub breaks_off : (fault : RestartFault) → Restarted (Err fault) → DoesntReadJournal s.root fault (record { input = input; output = output }) (record { input = input'; output = output' })
     breaks_off fault r =
         let records = records_read (Err fault) r in
         record {
-          bytes = r.bytes;
-          requests = r.requests;
-          rest = r.rest;
-          state = records.0.state;
+          journal = old_journal (Err fault) r records.0.state;
           records = records.1;
           stops = stops_so fault r records.0;
           just_written = streams.just_written;
@@ -133,9 +133,12 @@ not_failed faults h = grind (arith, nat_tests)
 has_failed : (faults : ℕ) → nat_lt 0 faults ≡ true → 0 < faults
 has_failed faults h = grind (arith, nat_tests)
 
-module _ {W : Type 0} (Keeps : List Edit → W → W → Type 0) (address : List ℕ) (count : ℕ) (served : ServeSummary) (requests : List Request) (s s' : ServerState) (m : State) (log' : LogState) (journal journal' : JournalState) (port listening port' : StreamState) (watchers watchers' : W)
-    (none : journal.faults ≡ 0) (fits : Fits log' journal') (redone : Redoing s.root (first_state 1) requests m) (listens : listening ≡ listening_at port address)
-    (v : ServesPortLogged Keeps count served requests s s' m log' journal journal' listening port' watchers watchers') where
+module _ {W : Type 0} (Keeps : List Edit → W → W → Type 0) (address : List ℕ) (count : ℕ) (served : ServeSummary) (read : OldJournal) (s s' : ServerState) (log' : LogState) (journal journal' : JournalState) (old new : ServiceState W) (listening : StreamState)
+    (none : journal.faults ≡ 0) (fits : Fits log' journal') (redone : Redoing s.root (first_state 1) read.requests read.state) (listens : listening ≡ listening_at old.port address)
+    (v : ServesPortLogged Keeps count served read.requests s s' read.state log' journal journal' listening new.port old.watchers new.watchers) where
+  abbrev arguments : ServiceArguments
+  arguments = record { address = address; root = s.root; count = count }
+
   abbrev IsWritten : List ℕ → Type 0
   IsWritten bytes = journal'.held ≡ bytes
 
@@ -146,14 +149,14 @@ module _ {W : Type 0} (Keeps : List Edit → W → W → Type 0) (address : List
   booked machine requests failures = record { machine = machine; requests = requests; failures = failures }
 
   -- the records of all requests that were accepted were written, and a rest
-  served_kept : (rest : List ℕ) (failures : ℕ) → v.serves.failures ≡ failures → v.serves.holds.rest ≡ rest → ServesKept Keeps IsWritten HasFailed address s.root count served requests m port port' watchers watchers' rest failures
+  served_kept : (rest : List ℕ) (failures : ℕ) → v.serves.failures ≡ failures → v.serves.holds.rest ≡ rest → ServesKept Keeps IsWritten HasFailed arguments (record { served = served; rest = rest; failures = failures }) read old new
   served_kept rest failures so behind = record {
     accepted = v.serves.accepted;
     next = v.next;
-    kept = v.kept;
+    valid = v.kept;
     serves =
-        subst (λ (l : StreamState). ServesPort (InBytes (LoggedStep (FollowedStep s.root))) Keeps count served (booked m requests 0) (booked v.next v.serves.accepted failures) l port' watchers watchers') listens
-        (subst (λ (n : ℕ). ServesPort (InBytes (LoggedStep (FollowedStep s.root))) Keeps count served (booked m requests 0) (booked v.next v.serves.accepted n) listening port' watchers watchers') so v.serves.serves);
+        subst (λ (l : StreamState). ServesPort (InBytes (LoggedStep (FollowedStep s.root))) Keeps count served (booked read.state read.requests 0) (booked v.next v.serves.accepted failures) l new.port old.watchers new.watchers) listens
+        (subst (λ (n : ℕ). ServesPort (InBytes (LoggedStep (FollowedStep s.root))) Keeps count served (booked read.state read.requests 0) (booked v.next v.serves.accepted n) listening new.port old.watchers new.watchers) so v.serves.serves);
     redone = v.redone (first_state 1) redone;
     told = v.serves.holds.told;
     written = v.serves.holds.split ∙ ap (λ (l : List ℕ). text v.serves.accepted ++ l) behind;
@@ -163,47 +166,47 @@ module _ {W : Type 0} (Keeps : List Edit → W → W → Type 0) (address : List
   }
 
   -- writing failed
-  pub kept_failed : nat_lt 0 journal'.faults ≡ true → KeepsOn Keeps IsWritten HasFailed address s.root count OutputFailed requests m port port' watchers watchers'
-  kept_failed failed = (served, v.serves.holds.rest, v.serves.failures, served_kept v.serves.holds.rest v.serves.failures refl refl, has_failed journal'.faults failed)
+  pub kept_failed : nat_lt 0 journal'.faults ≡ true → KeepsOn Keeps IsWritten HasFailed arguments OutputFailed read old new
+  kept_failed failed =
+      (record { served = served; rest = v.serves.holds.rest; failures = v.serves.failures }, served_kept v.serves.holds.rest v.serves.failures refl refl, has_failed journal'.faults failed)
 
   -- writing didn't fail
-  kept_whole : nat_lt 0 journal'.faults ≡ false → ServesKept Keeps IsWritten HasFailed address s.root count served requests m port port' watchers watchers' [] 0
+  kept_whole : nat_lt 0 journal'.faults ≡ false → ServesKept Keeps IsWritten HasFailed arguments (none_failed served) read old new
   kept_whole well =
       let now : journal'.faults ≡ 0 = not_failed journal'.faults well in
       served_kept [] 0 (no_failures v.serves.failures journal'.faults now (subst (λ (n : ℕ). RoseBy v.serves.failures n journal'.faults) none v.serves.bound))
       (nothing_behind ((request : Request) × IsRecordable request × Accepts (FollowedStep s.root) v.next request × IsFirstOf v.serves.holds.rest (record_of request)) v.serves.holds.rest log'.len (length journal'.held) journal'.faults log'.is_torn now fits v.serves.holds.behind)
 
-  pub kept_done : nat_lt 0 journal'.faults ≡ false → IsComplete served.stop → KeepsOn Keeps IsWritten HasFailed address s.root count Done requests m port port' watchers watchers'
+  pub kept_done : nat_lt 0 journal'.faults ≡ false → IsComplete served.stop → KeepsOn Keeps IsWritten HasFailed arguments Done read old new
   kept_done well complete = (served, kept_whole well, complete)
 
-  pub kept_port_failed : nat_lt 0 journal'.faults ≡ false → served.stop ≡ PortFailed → KeepsOn Keeps IsWritten HasFailed address s.root count NetworkFailed requests m port port' watchers watchers'
+  pub kept_port_failed : nat_lt 0 journal'.faults ≡ false → served.stop ≡ PortFailed → KeepsOn Keeps IsWritten HasFailed arguments NetworkFailed read old new
   kept_port_failed well stopped = inr (served, kept_whole well, stopped)
 
 -- ---- old journal and service
 
 module _ {W : Type 0} (Keeps : List Edit → W → W → Type 0) (P Q : List ℕ → Type 0) (F G : Type 0) (so : (bytes : List ℕ) → P bytes → Q bytes) (cause : F → G)
-    (address root : List ℕ) (count : ℕ) (requests : List Request) (state : State) (port port' : StreamState) (watchers watchers' : W) where
-  kept_so : (served : ServeSummary) (rest : List ℕ) (failures : ℕ) → ServesKept Keeps P F address root count served requests state port port' watchers watchers' rest failures
-      → ServesKept Keeps Q G address root count served requests state port port' watchers watchers' rest failures
-  kept_so served rest failures k = record {
+    (arguments : ServiceArguments) (journal : OldJournal) (old new : ServiceState W) where
+  kept_so : (kept : KeptSummary) → ServesKept Keeps P F arguments kept journal old new → ServesKept Keeps Q G arguments kept journal old new
+  kept_so kept k = record {
     accepted = k.accepted;
     next = k.next;
-    kept = k.kept;
+    valid = k.valid;
     serves = k.serves;
     redone = k.redone;
     told = k.told;
-    written = so (text k.accepted ++ rest) k.written;
+    written = so (text k.accepted ++ kept.rest) k.written;
     behind = k.behind;
   }
 
   -- what was written to the journal went to the output
-  pub keeps_so : (exit : Exit) → KeepsOn Keeps P F address root count exit requests state port port' watchers watchers' → KeepsOn Keeps Q G address root count exit requests state port port' watchers watchers'
-  keeps_so Done k = (k.0, kept_so k.0 [] 0 k.1, k.2)
+  pub keeps_so : (exit : Exit) → KeepsOn Keeps P F arguments exit journal old new → KeepsOn Keeps Q G arguments exit journal old new
+  keeps_so Done k = (k.0, kept_so (none_failed k.0) k.1, k.2)
   keeps_so Usage k = k
   keeps_so InputFailed k = k
-  keeps_so OutputFailed k = (k.0, k.1, k.2, kept_so k.0 k.1 k.2 k.3, cause k.4)
-  keeps_so NetworkFailed (inl d) = inl (d.0, so (text requests) d.1, d.2)
-  keeps_so NetworkFailed (inr k) = inr (k.0, kept_so k.0 [] 0 k.1, k.2)
+  keeps_so OutputFailed k = (k.0, kept_so k.0 k.1, cause k.2)
+  keeps_so NetworkFailed (inl d) = inl (d.0, so (text journal.requests) d.1, d.2)
+  keeps_so NetworkFailed (inr k) = inr (k.0, kept_so (none_failed k.0) k.1, k.2)
   keeps_so (Refused refusal) k = k
   keeps_so (Client fault) k = k
   keeps_so (BadJournal refusal) k = k

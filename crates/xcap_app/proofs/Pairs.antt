@@ -38,7 +38,7 @@ module _ {W : Type 0} (Keeps : List Edit → W → W → Type 0) where
   pub by_pair : (root : List ℕ) (ended : CloseReason) (m m' : State) (input output input' output' made : StreamState) (a o a' o' : GName) (w w' : W)
       → made ≡ pair_state input output (a ∷ o ∷ []) → IsValidState m'
       → ServesStream (InBytes (FollowedStep root)) Keeps ended m m' made (pair_state input' output' (a' ∷ o' ∷ [])) w w'
-      → ServesInput Keeps root m ended input input' output output' w w'
+      → ServesInput Keeps root m ended (record { input = input; output = output; watchers = w }) (record { input = input'; output = output'; watchers = w' })
   by_pair root ended m m' input output input' output' made a o a' o' w w' was kept s =
       let on : ServesStream (InBytes (FollowedStep root)) Keeps ended m m' (pair_state input output (a ∷ o ∷ [])) (pair_state input' output' (a' ∷ o' ∷ [])) w w' =
       subst (λ (l : StreamState). ServesStream (InBytes (FollowedStep root)) Keeps ended m m' l (pair_state input' output' (a' ∷ o' ∷ [])) w w') was s in

@@ -1,6 +1,6 @@
 -- What a run that ended with 0 did, without any traffic before.
 use Rattle.std.proofs.Common.{◌≡◌, ℕ, List, [], ◌++◌, inl, inr, ⊎_elim, Option, None, Some, refl, sym, ap, subst, ◌∙◌, arith, append-nil}
-use Rattle.std.specs.Prelude.{codes, encode_utf8_all, length}
+use Rattle.std.specs.Prelude.{codes, length}
 use Rattle.edit_ops.specs.declared.edit.Edit.{Edit}
 use Rattle.store_core.specs.State.{first_state}
 use Rattle.http_wire.specs.Serving.{Serves as ServesOne, ServesAll}
@@ -15,19 +15,16 @@ use Rattle.xcap_io.specs.Causes.{Begun, StreamState, none_begun}
 use Rattle.xcap_io.specs.Connections.{carried, listening_at, traffic}
 use Rattle.xcap_io.specs.Histories.{Traffic, carried_by}
 use Rattle.xcap_io.specs.StreamTraffic.{Took}
-use Rattle.xcap_client.specs.Asks.{getting, removing}
 use Rattle.xcap_client.specs.declared.fault.ClientFault.TheVariants as clients
 use Rattle.client_follower.specs.declared.fault.FollowerFault.{FollowerFault}
 use Rattle.client_follower.specs.declared.fault.FollowerFault.TheVariants as faults
-use Rattle.client_commands.specs.Endings.{MakesOneCall}
+use Rattle.client_commands.specs.Endings.{CallStreams, CommandCall, MakesOneCall, delete_call, fetch_call}
 use Rattle.client_commands.specs.Follows.{Follows}
-use Rattle.client_commands.specs.Lines.{line_of_status}
-use Rattle.client_commands.specs.Puts.{AsksNothing, Puts}
+use Rattle.client_commands.specs.Puts.{AsksNothing, PutOptions, PutStreams, Puts, call_streams}
 use Rattle.client_commands.specs.Words.{status_of_fault}
-use Rattle.client_commands.specs.declared.requester.Requester.{Requester}
 use Rattle.client_commands.specs.declared.command_end.CommandEnd.{CommandEnd}
 use Rattle.client_commands.specs.declared.command_end.CommandEnd.TheVariants as ends
-use Rattle.xcap_app.specs.ClientCommands.{RunsAs, RunsFollow, ended_so, exit_of_client, follows, knows_nothing, lacks_memory, means_none}
+use Rattle.xcap_app.specs.ClientCommands.{FollowArguments, RunsAs, RunsCall, RunsFollow, RunsPut, ended_so, exit_of_client, follow_options, follows, knows_nothing, lacks_memory, means_none}
 use Rattle.xcap_app.specs.Exits.{status_of}
 use Rattle.xcap_app.specs.KeepCommand.{KeepsCommand, exit_of_restart, keeps_on, no_journal, no_server}
 use Rattle.xcap_app.specs.Replays.{ReplaysCommand}
@@ -36,11 +33,12 @@ use Rattle.edit_journal.specs.Texts.{Whole, text}
 use Rattle.edit_journal.specs.declared.journal_restart.RestartFault.{RestartFault}
 use Rattle.edit_journal.specs.declared.journal_restart.RestartFault.TheVariants as restart_faults
 use Rattle.edit_journal.specs.LoggedMachines.{LoggedStep}
-use Rattle.xcap_app.specs.Runs.{Runs}
-use Rattle.xcap_app.specs.Serves.{IsComplete, served_line, ServesCommand as Serves}
+use Rattle.xcap_app.specs.Runs.{Runs, service}
+use Rattle.xcap_app.specs.RunStates.{RunState, call_part, keep_part, put_part, replay_part, serve_part}
+use Rattle.xcap_app.specs.Serves.{IsComplete, ServiceArguments, served_line, ServesCommand as Serves}
 use Rattle.xcap_app.specs.System.{AnswersAll, AnswersInput, AnswersKept, FollowsNamed, IsDone}
 use Rattle.xcap_app.specs.Verdicts.{TextVerdict}
-use Rattle.sample_runs.specs.Samples.{summary_text}
+use Rattle.xcap_app.specs.Samples.{summary_text}
 use Rattle.xcap_app.specs.declared.command.Command.{Command}
 use Rattle.xcap_app.specs.declared.command.Command.TheVariants.{Replay, Serve, Keep, Check, Sample, Fetch, Put, Delete, Follow}
 use Rattle.xcap_app.specs.declared.exit.Exit.{Exit}
@@ -101,20 +99,29 @@ command_done Did Nothing exit done (lacks_memory nothing is) = absurd (never_out
 never_usage : Done ≡ Usage → ⊥
 never_usage is = cc
 
-follow_done : (requester : Requester) (document : List ℕ) (rounds : ℕ) (exit : Exit) (peer peer' output output' : StreamState) → exit ≡ Done → RunsFollow requester document rounds exit peer peer' output output'
-    → FollowsNamed requester document rounds peer peer' output output'
-follow_done requester document rounds exit peer peer' output output' done (follows doc means runs) = record {
+call_done : (call : CommandCall) (old new : CallStreams) → RunsCall call Done old new → MakesOneCall call ends.Done old new
+call_done call old new runs = command_done (λ ended. MakesOneCall call ended old new) (AsksNothing old new) Done refl runs
+
+put_done : (options : PutOptions) (old new : PutStreams) → RunsPut options Done old new → Puts options ends.Done old new
+put_done options old new runs = command_done (λ ended. Puts options ended old new) ((new.input ≡ old.input) × AsksNothing (call_streams old) (call_streams new)) Done refl runs
+
+follow_done : (arguments : FollowArguments) (exit : Exit) (old new : CallStreams) → exit ≡ Done → RunsFollow arguments exit old new → FollowsNamed arguments old new
+follow_done arguments exit old new done (follows doc means runs) = record {
   doc = doc;
   meant = means;
-  follows = command_done (λ ended. Follows requester.root requester.user doc rounds ended peer peer' output output') (AsksNothing peer peer' output output') exit done runs;
+  follows = command_done (λ ended. Follows (follow_options arguments doc) ended old new) (AsksNothing old new) exit done runs;
 }
-follow_done requester document rounds exit peer peer' output output' done (means_none none usage nothing) = absurd (never_usage (sym done ∙ usage))
-follow_done requester document rounds exit peer peer' output output' done (knows_nothing is nothing) = absurd (never_out (sym done ∙ is))
+follow_done arguments exit old new done (means_none none usage nothing) = absurd (never_usage (sym done ∙ usage))
+follow_done arguments exit old new done (knows_nothing is nothing) = absurd (never_out (sym done ∙ is))
 
 module _ {W : Type 0} (Keeps : List Edit → W → W → Type 0) where
-  input_done : (root : List ℕ) (input input' output output' : StreamState) (w w' : W) → input.inward.given ≡ [] → output.taken ≡ []
-      → ReplaysCommand Keeps root Done input input' output output' w w' → AnswersInput Keeps root input' output' w w'
-  input_done root input input' output output' w w' none_given none_taken r =
+  input_done : (root : List ℕ) (old new : RunState W) → old.input.inward.given ≡ [] → old.output.taken ≡ []
+      → ReplaysCommand Keeps root Done (replay_part old) (replay_part new) → AnswersInput Keeps root old new
+  input_done root old new none_given none_taken r =
+      let input = old.input in
+      let input' = new.input in
+      let output = old.output in
+      let output' = new.output in
       let given : r.passed.given ≡ input'.inward.given = sym (took_all input.inward.given input'.inward.given r.passed.given none_given r.gave.behind) in
       let taken : r.passed.taken ≡ output'.taken = sym (took_all output.taken output'.taken r.passed.taken none_taken r.took) in
       let is : r.passed ≡ record { given = input'.inward.given; ended = input'.inward.ended; taken = output'.taken } =
@@ -126,9 +133,16 @@ module _ {W : Type 0} (Keeps : List Edit → W → W → Type 0) where
         told = r.told;
       }
 
-  port_done : (address root : List ℕ) (count : ℕ) (port port' output output' : StreamState) (w w' : W) → port.port.begun ≡ none_begun → output.taken ≡ [] → port'.port.to_come ≡ None
-      → Serves Keeps address root count Done port port' output output' w w' → AnswersAll Keeps root port port' w w' × (length (carried port') ≡ count) × (output'.taken ≡ served_line count)
-  port_done address root count port port' output output' w w' none_yet none_taken untold (served, s, complete, takes) =
+  port_done : (arguments : ServiceArguments) (old new : RunState W) → old.port.port.begun ≡ none_begun → old.output.taken ≡ [] → new.port.port.to_come ≡ None
+      → Serves Keeps arguments Done (serve_part old) (serve_part new) → AnswersAll Keeps arguments.root old new × (length (carried new.port) ≡ arguments.count) × (new.output.taken ≡ served_line arguments.count)
+  port_done arguments old new none_yet none_taken untold (served, s, complete, takes) =
+      let address = arguments.address in
+      let root = arguments.root in
+      let count = arguments.count in
+      let port = old.port in
+      let port' = new.port in
+      let output = old.output in
+      let output' = new.output in
       let v = s.serves in
       let all : carried port' ≡ v.connections = v.all_carried ∙ ap (λ (b : Begun). carried_by b.earlier b.is_present (traffic port) ++ v.connections) none_yet in
       let counted = carried_all served.stop count served.connections (carried port') v.connections (listening_at port address) port' untold v.stop complete all v.count in (
@@ -157,25 +171,34 @@ module _ {W : Type 0} (Keeps : List Edit → W → W → Type 0) where
       not_done restart_faults.NoMemory is = let no : ⊥ = cc in absurd no
   never_done fault (inr out) = let no : ⊥ = cc (out.1) in absurd no
 
-  kept_done : (address root : List ℕ) (count : ℕ) (port port' input input' output output' : StreamState) (w w' : W) → port.port.begun ≡ none_begun → input.inward.given ≡ [] → output.taken ≡ [] → port'.port.to_come ≡ None
-      → KeepsCommand Keeps address root count Done port port' input input' output output' w w' → AnswersKept Keeps root count port port' input' output' w w'
-  kept_done address root count port port' input input' output output' w w' none_yet none_given none_taken untold (no_server out p i o same) = let no : ⊥ = cc in absurd no
-  kept_done address root count port port' input input' output output' w w' none_yet none_given none_taken untold (no_journal fault told breaks p same) = never_done fault told
-  kept_done address root count port port' input input' output output' w w' none_yet none_given none_taken untold (keeps_on requests state reads just (served, kept, complete)) =
+  kept_done : (arguments : ServiceArguments) (old new : RunState W) → old.port.port.begun ≡ none_begun → old.input.inward.given ≡ [] → old.output.taken ≡ [] → new.port.port.to_come ≡ None
+      → KeepsCommand Keeps arguments Done (keep_part old) (keep_part new) → AnswersKept Keeps arguments.root arguments.count old new
+  kept_done arguments old new none_yet none_given none_taken untold (no_server out same) = absurd (never_out out)
+  kept_done arguments old new none_yet none_given none_taken untold (no_journal fault told breaks p same) = never_done fault told
+  kept_done arguments old new none_yet none_given none_taken untold (keeps_on journal reads just (served, kept, complete)) =
+      let address = arguments.address in
+      let root = arguments.root in
+      let count = arguments.count in
+      let port = old.port in
+      let port' = new.port in
+      let input = old.input in
+      let input' = new.input in
+      let output = old.output in
+      let output' = new.output in
       let v = kept.serves in
       let all : carried port' ≡ v.connections = v.all_carried ∙ ap (λ (b : Begun). carried_by b.earlier b.is_present (traffic port) ++ v.connections) none_yet in
-      let given : input'.inward.given ≡ reads.bytes = took_all input.inward.given input'.inward.given reads.bytes none_given reads.records.given.behind in
+      let given : input'.inward.given ≡ journal.bytes = took_all input.inward.given input'.inward.given journal.bytes none_given reads.records.given.behind in
       record {
-        requests = requests;
-        rest = reads.rest;
-        state = state;
+        requests = journal.requests;
+        rest = journal.rest;
+        state = journal.state;
         accepted = kept.accepted;
         next = kept.next;
         edits = v.edits;
-        read = subst (λ (bytes : List ℕ). Whole bytes requests reads.rest) (sym given) reads.whole;
+        read = subst (λ (bytes : List ℕ). Whole bytes journal.requests journal.rest) (sym given) reads.whole;
         torn = reads.torn;
         redone = reads.records.redone;
-        serves = subst (λ (l : List Traffic). ServesAll (InBytes (LoggedStep (FollowedStep root))) fixed (record { machine = state; requests = requests; failures = 0 }) l (record { machine = kept.next; requests = kept.accepted; failures = 0 }) v.edits
+        serves = subst (λ (l : List Traffic). ServesAll (InBytes (LoggedStep (FollowedStep root))) fixed (record { machine = journal.state; requests = journal.requests; failures = 0 }) l (record { machine = kept.next; requests = kept.accepted; failures = 0 }) v.edits
             port.read_faults port'.read_faults port.write_faults port'.write_faults) (sym all) v.serves;
         counted = carried_all served.stop count served.connections (carried port') v.connections (listening_at port address) port' untold v.stop complete all v.count;
         all_redone = kept.redone;
@@ -183,33 +206,33 @@ module _ {W : Type 0} (Keeps : List Edit → W → W → Type 0) where
         told = v.kept;
       }
 
-  by_command : (command : Option Command) (port port' peer peer' input input' output output' : StreamState) (w w' : W) → port.port.begun ≡ none_begun → input.inward.given ≡ [] → output.taken ≡ [] → port'.port.to_come ≡ None
-      → Runs Keeps command Done port port' peer peer' input input' output output' w w' → IsDone Keeps command port port' peer peer' input input' output output' w w'
-  by_command None port port' peer peer' input input' output output' w w' none_yet none_given none_taken untold r = ⊎_elim never_usage never_out r.0
-  by_command (Some (Replay root)) port port' peer peer' input input' output output' w w' none_yet none_given none_taken untold r = input_done root input input' output output' w w' none_given none_taken r.0
-  by_command (Some (Serve address root count)) port port' peer peer' input input' output output' w w' none_yet none_given none_taken untold r =
-      port_done (encode_utf8_all address) root count port port' output output' w w' none_yet none_taken untold r.0
-  by_command (Some (Keep address root count)) port port' peer peer' input input' output output' w w' none_yet none_given none_taken untold r = kept_done (encode_utf8_all address) root count port port' input input' output output' w w' none_yet none_given none_taken untold r.0
-  by_command (Some (Check usage)) port port' peer peer' input input' output output' w w' none_yet none_given none_taken untold r =
+  by_command : (command : Option Command) (old new : RunState W) → old.port.port.begun ≡ none_begun → old.input.inward.given ≡ [] → old.output.taken ≡ [] → new.port.port.to_come ≡ None
+      → Runs Keeps command Done old new → IsDone Keeps command old new
+  by_command None old new none_yet none_given none_taken untold r = ⊎_elim never_usage never_out r.0
+  by_command (Some (Replay root)) old new none_yet none_given none_taken untold r = input_done root old new none_given none_taken r.0
+  by_command (Some (Serve address root count)) old new none_yet none_given none_taken untold r = port_done (service address root count) old new none_yet none_taken untold r.0
+  by_command (Some (Keep address root count)) old new none_yet none_given none_taken untold r = kept_done (service address root count) old new none_yet none_given none_taken untold r.0
+  by_command (Some (Check usage)) old new none_yet none_given none_taken untold r =
       let judged = r.0.0 in (
-        subst (λ (text : List ℕ). TextVerdict usage text Done) (sym (took_all input.inward.given input'.inward.given judged.0 none_given judged.1.gave.consumed.behind)) judged.2,
-        took_all output.taken output'.taken (codes "valid\n") none_taken r.0.1.taken,
+        subst (λ (text : List ℕ). TextVerdict usage text Done) (sym (took_all old.input.inward.given new.input.inward.given judged.0 none_given judged.1.gave.consumed.behind)) judged.2,
+        took_all old.output.taken new.output.taken (codes "valid\n") none_taken r.0.1.taken,
         r.3,
       )
-  by_command (Some (Sample requests)) port port' peer peer' input input' output output' w w' none_yet none_given none_taken untold r =
-      (r.0.0, r.0.1, took_all output.taken output'.taken (summary_text r.0.0) none_taken r.0.2.taken, r.4)
-  by_command (Some (Fetch requester path)) port port' peer peer' input input' output output' w w' none_yet none_given none_taken untold r =
-      (command_done (λ ended. MakesOneCall requester.root (getting requester.user path) (λ response. response.body) ended peer peer' output output') (AsksNothing peer peer' output output') Done refl r.0, r.3)
-  by_command (Some (Put requester path media)) port port' peer peer' input input' output output' w w' none_yet none_given none_taken untold r =
-      (command_done (λ ended. Puts requester.root requester.user path media ended peer peer' input input' output output') ((input' ≡ input) × AsksNothing peer peer' output output') Done refl r.0, r.2)
-  by_command (Some (Delete requester path)) port port' peer peer' input input' output output' w w' none_yet none_given none_taken untold r =
-      (command_done (λ ended. MakesOneCall requester.root (removing requester.user path) (λ response. line_of_status response.status) ended peer peer' output output') (AsksNothing peer peer' output output') Done refl r.0, r.3)
-  by_command (Some (Follow requester document rounds)) port port' peer peer' input input' output output' w w' none_yet none_given none_taken untold r =
-      (follow_done requester document rounds Done peer peer' output output' refl r.0, r.3)
+  by_command (Some (Sample requests)) old new none_yet none_given none_taken untold r =
+      (r.0.0, r.0.1, took_all old.output.taken new.output.taken (summary_text r.0.0) none_taken r.0.2.taken, r.4)
+  by_command (Some (Fetch requester path)) old new none_yet none_given none_taken untold r = (call_done (fetch_call requester path) (call_part old) (call_part new) r.0, r.3)
+  by_command (Some (Put requester path media)) old new none_yet none_given none_taken untold r =
+      (put_done (record { requester = requester; path = path; media = media }) (put_part old) (put_part new) r.0, r.2)
+  by_command (Some (Delete requester path)) old new none_yet none_given none_taken untold r = (call_done (delete_call requester path) (call_part old) (call_part new) r.0, r.3)
+  by_command (Some (Follow requester document rounds)) old new none_yet none_given none_taken untold r =
+      (follow_done (record { requester = requester; document = document; rounds = rounds }) Done (call_part old) (call_part new) refl r.0, r.3)
+
+  abbrev state_of : StreamState → StreamState → StreamState → StreamState → W → RunState W
+  state_of port peer input output w = record { port = port; peer = peer; input = input; output = output; watchers = w }
 
   -- a run that returned 0
   pub done_by : (command : Option Command) (exit : Exit) (port port' peer peer' input input' output output' : StreamState) (w w' : W) → port.port.begun ≡ none_begun → input.inward.given ≡ [] → output.taken ≡ [] → port'.port.to_come ≡ None
-      → status_of exit ≡ 0 → Runs Keeps command exit port port' peer peer' input input' output output' w w' → IsDone Keeps command port port' peer peer' input input' output output' w w'
+      → status_of exit ≡ 0 → Runs Keeps command exit (state_of port peer input output w) (state_of port' peer' input' output' w') → IsDone Keeps command (state_of port peer input output w) (state_of port' peer' input' output' w')
   done_by command exit port port' peer peer' input input' output output' w w' none_yet none_given none_taken untold zero r =
-      by_command command port port' peer peer' input input' output output' w w' none_yet none_given none_taken untold
-      (subst (λ (x : Exit). Runs Keeps command x port port' peer peer' input input' output output' w w') (is_done exit zero) r)
+      by_command command (state_of port peer input output w) (state_of port' peer' input' output' w') none_yet none_given none_taken untold
+      (subst (λ (x : Exit). Runs Keeps command x (state_of port peer input output w) (state_of port' peer' input' output' w')) (is_done exit zero) r)

@@ -16,7 +16,8 @@ use Rattle.http_serve.specs.declared.accept_loop.ServeSummary.{ServeSummary}
 use Rattle.http_serve.specs.declared.accept_loop.StopReason.TheVariants.{PortFailed}
 use Rattle.xcap_app.specs.Replays.{ReplaysCommand, ServesInput}
 use Rattle.xcap_app.specs.inner.Replays.{exit_of_connection}
-use Rattle.xcap_app.specs.Serves.{IsComplete, ServesAddress, served_line, ServesCommand as Serves}
+use Rattle.xcap_app.specs.RunStates.{ReplayState, ServeState, ServiceState, serving}
+use Rattle.xcap_app.specs.Serves.{IsComplete, ServesAddress, ServiceArguments, served_line, ServesCommand as Serves}
 use Rattle.xcap_app.specs.inner.Messages.{Prints}
 use Rattle.xcap_app.specs.declared.exit.Exit.{Exit}
 use Rattle.xcap_app.specs.declared.exit.Exit.TheVariants.{Done, Usage, InputFailed, OutputFailed, NetworkFailed, Refused, Client, BadJournal, OutOfMemory}
@@ -27,42 +28,46 @@ begun c e = subst (λ d. Represents d (first_state 1)) (sym e) refl
 
 module _ {W : Type 0} (Keeps : List Edit → W → W → Type 0) where
   -- what a new server did on a port that listens
-  pub served_address : (address root : List ℕ) (count : ℕ) (served : ServeSummary) (old content : Content) (port listening port' : StreamState) (watchers watchers' : W) → old ≡ record { documents = []; next = 1 } → listening ≡ listening_at port address
-      → ((m : State) → IsValidState m → Represents old m → (next : State) × IsValidState next × Represents content next × ServesPort (InBytes (FollowedStep root)) Keeps count served m next listening port' watchers watchers')
-      → ServesAddress Keeps address root count served port port' watchers watchers'
-  served_address address root count served old content port listening port' watchers watchers' new listens serves =
-      let s = serves (first_state 1) (kept-first 1 (omega arith)) (begun old new) in
-      record { state = s.0; kept = s.1; serves = subst (λ (l : StreamState). ServesPort (InBytes (FollowedStep root)) Keeps count served (first_state 1) s.0 l port' watchers watchers') listens s.3 }
+  pub served_address : (arguments : ServiceArguments) (served : ServeSummary) (before content : Content) (old new : ServiceState W) (listening : StreamState) → before ≡ record { documents = []; next = 1 } → listening ≡ listening_at old.port arguments.address
+      → ((m : State) → IsValidState m → Represents before m → (next : State) × IsValidState next × Represents content next × ServesPort (InBytes (FollowedStep arguments.root)) Keeps arguments.count served m next listening new.port old.watchers new.watchers)
+      → ServesAddress Keeps arguments served old new
+  served_address arguments served before content old new listening is_new listens serves =
+      let s = serves (first_state 1) (kept-first 1 (omega arith)) (begun before is_new) in
+      record {
+        state = s.0;
+        kept = s.1;
+        serves = subst (λ (l : StreamState). ServesPort (InBytes (FollowedStep arguments.root)) Keeps arguments.count served (first_state 1) s.0 l new.port old.watchers new.watchers) listens s.3;
+      }
 
   -- and where their number was printed
-  pub ended_so : (address root : List ℕ) (count : ℕ) (served : ServeSummary) (exit : Exit) (port port' output output' : StreamState) (watchers watchers' : W) → ServesAddress Keeps address root count served port port' watchers watchers' → IsComplete served.stop
-      → Prints (served_line served.connections) exit output output' → Serves Keeps address root count exit port port' output output' watchers watchers'
-  ended_so address root count served Done port port' output output' watchers watchers' s stop prints = (served, s, stop, prints)
-  ended_so address root count served Usage port port' output output' watchers watchers' s stop prints = prints
-  ended_so address root count served InputFailed port port' output output' watchers watchers' s stop prints = prints
-  ended_so address root count served OutputFailed port port' output output' watchers watchers' s stop prints = (served, s, stop, prints)
-  ended_so address root count served NetworkFailed port port' output output' watchers watchers' s stop prints = absurd prints
-  ended_so address root count served (Refused refusal) port port' output output' watchers watchers' s stop prints = prints
-  ended_so address root count served (Client fault) port port' output output' watchers watchers' s stop prints = absurd prints
-  ended_so address root count served (BadJournal refusal) port port' output output' watchers watchers' s stop prints = prints
-  ended_so address root count served OutOfMemory port port' output output' watchers watchers' s stop prints = absurd prints
+  pub ended_so : (arguments : ServiceArguments) (served : ServeSummary) (exit : Exit) (old new : ServeState W) → ServesAddress Keeps arguments served (serving old) (serving new) → IsComplete served.stop
+      → Prints (served_line served.connections) exit old.output new.output → Serves Keeps arguments exit old new
+  ended_so arguments served Done old new s stop prints = (served, s, stop, prints)
+  ended_so arguments served Usage old new s stop prints = prints
+  ended_so arguments served InputFailed old new s stop prints = prints
+  ended_so arguments served OutputFailed old new s stop prints = (served, s, stop, prints)
+  ended_so arguments served NetworkFailed old new s stop prints = absurd prints
+  ended_so arguments served (Refused refusal) old new s stop prints = prints
+  ended_so arguments served (Client fault) old new s stop prints = absurd prints
+  ended_so arguments served (BadJournal refusal) old new s stop prints = prints
+  ended_so arguments served OutOfMemory old new s stop prints = absurd prints
 
   -- and where the port failed to begin a connection
-  pub failed_so : (address root : List ℕ) (count : ℕ) (served : ServeSummary) (port port' output : StreamState) (watchers watchers' : W) → ServesAddress Keeps address root count served port port' watchers watchers' → served.stop ≡ PortFailed
-      → Serves Keeps address root count NetworkFailed port port' output output watchers watchers'
-  failed_so address root count served port port' output watchers watchers' s stop = (inr (served, s, stop), refl)
+  pub failed_so : (arguments : ServiceArguments) (served : ServeSummary) (old new : ServeState W) → ServesAddress Keeps arguments served (serving old) (serving new) → served.stop ≡ PortFailed → new.output ≡ old.output
+      → Serves Keeps arguments NetworkFailed old new
+  failed_so arguments served old new s stop same = (inr (served, s, stop), same)
 
   -- an input that was served from the first state on
-  by_ending : (root : List ℕ) (ended : CloseReason) (input input' output output' : StreamState) (watchers watchers' : W) → ServesInput Keeps root (first_state 1) ended input input' output output' watchers watchers'
-      → ReplaysCommand Keeps root (exit_of_connection ended) input input' output output' watchers watchers'
-  by_ending root Closed input input' output output' watchers watchers' s = s
-  by_ending root ReadFailed input input' output output' watchers watchers' s = s
-  by_ending root WriteFailed input input' output output' watchers watchers' s = s
+  by_ending : (root : List ℕ) (ended : CloseReason) (old new : ReplayState W) → ServesInput Keeps root (first_state 1) ended old new
+      → ReplaysCommand Keeps root (exit_of_connection ended) old new
+  by_ending root Closed old new s = s
+  by_ending root ReadFailed old new s = s
+  by_ending root WriteFailed old new s = s
 
   -- what a new server did with an input
-  pub replayed : (root : List ℕ) (ended : CloseReason) (exit : Exit) (old : Content) (input input' output output' : StreamState) (watchers watchers' : W) → old ≡ record { documents = []; next = 1 }
-      → ((m : State) → IsValidState m → Represents old m → ServesInput Keeps root m ended input input' output output' watchers watchers') → exit ≡ exit_of_connection ended
-      → ReplaysCommand Keeps root exit input input' output output' watchers watchers'
-  replayed root ended exit old input input' output output' watchers watchers' new serves ends =
-      subst (λ (x : Exit). ReplaysCommand Keeps root x input input' output output' watchers watchers') (sym ends)
-      (by_ending root ended input input' output output' watchers watchers' (serves (first_state 1) (kept-first 1 (omega arith)) (begun old new)))
+  pub replayed : (root : List ℕ) (ended : CloseReason) (exit : Exit) (before : Content) (old new : ReplayState W) → before ≡ record { documents = []; next = 1 }
+      → ((m : State) → IsValidState m → Represents before m → ServesInput Keeps root m ended old new) → exit ≡ exit_of_connection ended
+      → ReplaysCommand Keeps root exit old new
+  replayed root ended exit before old new is_new serves ends =
+      subst (λ (x : Exit). ReplaysCommand Keeps root x old new) (sym ends)
+      (by_ending root ended old new (serves (first_state 1) (kept-first 1 (omega arith)) (begun before is_new)))

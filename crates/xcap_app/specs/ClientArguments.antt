@@ -1,6 +1,8 @@
 -- Which words spell a command of the client. The commands are the project's own; a ROOT follows
 -- RFC 4825, section 6.1.
-use Rattle.std.specs.Prelude.{ℕ, Bool, ◌&&◌, ◌==◌, not, nat_le, List, chars, codes, encode_utf8_all, length, Option, None, Some, if◌then◌else◌, option_and_then, option_map}
+use Rattle.std.specs.Prelude.{ℕ, Bool, ◌&&◌, ◌==◌, not, nat_le, List, chars, codes, encode_utf8_all}
+use Rattle.std.specs.Prelude.{length, Option, None, Some, if◌then◌else◌, option_and_then}
+use Rattle.std.specs.Prelude.{option_map}
 use Rattle.std.specs.List.{list_all}
 use Rattle.std.specs.Str.{bytes_eq}
 use Rattle.xcap_uri.specs.Delimiters.{front_before}
@@ -38,15 +40,20 @@ http_root_of word = option_and_then (λ r. if has_scheme_http r then Some r else
 -- `USER ROOT`
 abbrev pub requester_of : List ℕ → List ℕ → Option Requester
 requester_of user root =
-    if is_word user then option_map (λ r. record { user = user_of user; root = r }) (http_root_of root) else None
+    if is_word user
+    then option_map (λ r. record { user = user_of user; root = r }) (http_root_of root)
+    else None
 
 -- a numeral of at most this number
 unfoldable pub numeral_up_to : ℕ → List ℕ → Option ℕ
-numeral_up_to most word = option_and_then (λ n. if nat_le n most then Some n else None) (numeral_of word)
+numeral_up_to most word =
+    option_and_then (λ n. if nat_le n most then Some n else None) (numeral_of word)
 
 -- `USER ROOT` and a word after them
 abbrev pub asked_of : List ℕ → List ℕ → List ℕ → Option (Requester × List ℕ)
-asked_of user root word = option_and_then (λ w. option_map (λ requester. (requester, w)) (requester_of user root)) (word_text word)
+asked_of user root word =
+    option_and_then (λ w. option_map (λ requester. (requester, w)) (requester_of user root))
+    (word_text word)
 
 -- `fetch USER ROOT PATH`
 abbrev pub fetch_of : List ℕ → List ℕ → List ℕ → Option Command
@@ -59,9 +66,12 @@ delete_of user root path = option_map (λ asked. Delete asked.0 asked.1) (asked_
 -- `put USER ROOT PATH TYPE`
 abbrev pub put_of : List ℕ → List ℕ → List ℕ → List ℕ → Option Command
 put_of user root path media =
-    option_and_then (λ m. option_map (λ asked. Put asked.0 asked.1 m) (asked_of user root path)) (word_text media)
+    option_and_then (λ m. option_map (λ asked. Put asked.0 asked.1 m) (asked_of user root path))
+    (word_text media)
 
 -- `follow USER ROOT DOCUMENT ROUNDS`, where ROUNDS is a numeral of at most `MAX_ROUNDS`
 abbrev pub follow_of : List ℕ → List ℕ → List ℕ → List ℕ → Option Command
 follow_of user root document rounds =
-    option_and_then (λ n. option_map (λ asked. Follow asked.0 asked.1 n) (asked_of user root document)) (numeral_up_to MAX_ROUNDS rounds)
+    option_and_then
+    (λ n. option_map (λ asked. Follow asked.0 asked.1 n) (asked_of user root document))
+    (numeral_up_to MAX_ROUNDS rounds)

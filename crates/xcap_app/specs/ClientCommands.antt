@@ -1,7 +1,7 @@
 -- What the commands of the client do, by how the run ends (RFC 4825, section 7). The commands are
 -- the project's own.
-use Rattle.std.specs.Prelude.{◌≡◌, ℕ, Bool, true, false, ◌&&◌, ◌∷◌, ◌++◌, List, Option, None, Some, is_some, Result, Ok, Err, encode_utf8_all, if◌then◌else◌}
-use Rattle.xcap_io.specs.Causes.{StreamState}
+use Rattle.std.specs.Prelude.{◌≡◌, ℕ, Bool, true, false, ◌&&◌, ◌∷◌, ◌++◌, List, Option, None, Some}
+use Rattle.std.specs.Prelude.{is_some, Result, Ok, Err, encode_utf8_all, if◌then◌else◌}
 use Rattle.doc_names.specs.Usages.{usage_of}
 use Rattle.doc_names.specs.declared.doc_id.DocId.{DocId}
 use Rattle.doc_names.specs.declared.doc_id.Home.{Home}
@@ -11,14 +11,16 @@ use Rattle.xcap_uri.specs.Targets.{TargetResult}
 use Rattle.xcap_uri.specs.declared.fault.UriFault.{UriFault}
 use Rattle.xcap_uri.specs.declared.target.Target.{Target}
 use Rattle.xcap_uri.specs.declared.target.Target.TheVariants.{Document}
-use Rattle.client_commands.specs.Follows.{Follows}
-use Rattle.client_commands.specs.Puts.{AsksNothing}
+use Rattle.client_commands.specs.Endings.{CallStreams, CommandCall, MakesOneCall}
+use Rattle.client_commands.specs.Follows.{FollowOptions, Follows}
+use Rattle.client_commands.specs.Puts.{AsksNothing, PutOptions, PutStreams, Puts, call_streams}
 use Rattle.client_commands.specs.declared.requester.Requester.{Requester}
 use Rattle.client_commands.specs.declared.command_end.CommandEnd.{CommandEnd}
 use Rattle.client_commands.specs.declared.command_end.CommandEnd.TheVariants as ends
 use Rattle.xcap_app.specs.Messages.{IsReportedAs}
 use Rattle.xcap_app.specs.declared.exit.Exit.{Exit}
-use Rattle.xcap_app.specs.declared.exit.Exit.TheVariants.{Done, Usage, InputFailed, OutputFailed, Refused, Client, OutOfMemory}
+use Rattle.xcap_app.specs.declared.exit.Exit.TheVariants.{Done, Usage, InputFailed, OutputFailed}
+use Rattle.xcap_app.specs.declared.exit.Exit.TheVariants.{Refused, Client, OutOfMemory}
 use Rattle.xcap_app.specs.declared.refusal.Refusal.TheVariants.{TooLarge}
 
 -- how a run ends with a command of the client
@@ -33,8 +35,20 @@ exit_of_client ends.OutOfMemory = OutOfMemory
 -- The command did what it does where it ends so, and the exit says so, or that memory ran out for
 -- the message; or memory ran out before, and nothing was done.
 pub data RunsAs (Did : CommandEnd → Type 0) (Nothing : Type 0) (exit : Exit) : Type 0 where
-  ended_so : (ended : CommandEnd) → Did ended → IsReportedAs (exit_of_client ended) exit → RunsAs Did Nothing exit
+  ended_so : (ended : CommandEnd) → Did ended → IsReportedAs (exit_of_client ended) exit
+      → RunsAs Did Nothing exit
   lacks_memory : Nothing → exit ≡ OutOfMemory → RunsAs Did Nothing exit
+
+-- `fetch` or `delete`, which makes this call
+abbrev pub RunsCall : CommandCall → Exit → CallStreams → CallStreams → Type 0
+RunsCall call exit old new =
+    RunsAs (λ ended. MakesOneCall call ended old new) (AsksNothing old new) exit
+
+-- `put`
+abbrev pub RunsPut : PutOptions → Exit → PutStreams → PutStreams → Type 0
+RunsPut options exit old new =
+    RunsAs (λ ended. Puts options ended old new)
+    ((new.input ≡ old.input) × AsksNothing (call_streams old) (call_streams new)) exit
 
 -- ---- the document of `follow`
 
@@ -45,7 +59,8 @@ is_users (User xui) = true
 -- the document of a target, where it can be followed: one under `users` of a usage whose documents
 -- are stored
 abbrev pub document_to_follow : Target → Option DocId
-document_to_follow (Document doc) = if is_some (usage_of doc.auid) && is_users doc.home then Some doc else None
+document_to_follow (Document doc) =
+    if is_some (usage_of doc.auid) && is_users doc.home then Some doc else None
 document_to_follow _ = None
 
 abbrev pub document_if_read : Result Target UriFault → Option DocId
@@ -58,12 +73,32 @@ pub record MeansDocument (root target : List ℕ) (doc : Option DocId) : Type 0 
   pub by_rules : TargetResult root (encode_utf8_all target) answer
   pub is : doc ≡ document_if_read answer
 
--- After the root and a slash the text is a target that means a document, which was followed; or it
--- means none, and the words spell no command; or memory ran out before that was known.
-pub data RunsFollow (requester : Requester) (document : List ℕ) (rounds : ℕ) (exit : Exit) (peer peer' output output' : StreamState) : Type 0 where
-  follows : (doc : DocId) → MeansDocument requester.root (requester.root ++ slash ∷ document) (Some doc)
-      → RunsAs (λ ended. Follows requester.root requester.user doc rounds ended peer peer' output output') (AsksNothing peer peer' output output') exit
-      → RunsFollow requester document rounds exit peer peer' output output'
-  means_none : MeansDocument requester.root (requester.root ++ slash ∷ document) None → exit ≡ Usage → AsksNothing peer peer' output output'
-      → RunsFollow requester document rounds exit peer peer' output output'
-  knows_nothing : exit ≡ OutOfMemory → AsksNothing peer peer' output output' → RunsFollow requester document rounds exit peer peer' output output'
+-- The arguments of `follow`: who asks, the document as the text after the root and a slash, and for
+-- how many rounds.
+pub record FollowArguments : Type 0 where
+  pub requester : Requester
+  pub document : List ℕ
+  pub rounds : ℕ
+
+-- the text means this document, or none that can be followed
+abbrev pub Names : FollowArguments → Option DocId → Type 0
+Names arguments doc =
+    MeansDocument arguments.requester.root
+    (arguments.requester.root ++ slash ∷ arguments.document) doc
+
+-- the options to follow a document with
+abbrev pub follow_options : FollowArguments → DocId → FollowOptions
+follow_options arguments doc =
+    record { requester = arguments.requester; doc = doc; rounds = arguments.rounds }
+
+-- The text means a document, which was followed; or it means none, and the words spell no command;
+-- or memory ran out before that was known.
+pub data RunsFollow (arguments : FollowArguments) (exit : Exit)
+    (old new : CallStreams) : Type 0 where
+  follows : (doc : DocId) → Names arguments (Some doc)
+      → RunsAs (λ ended. Follows (follow_options arguments doc) ended old new)
+      (AsksNothing old new) exit
+      → RunsFollow arguments exit old new
+  means_none : Names arguments None → exit ≡ Usage → AsksNothing old new
+      → RunsFollow arguments exit old new
+  knows_nothing : exit ≡ OutOfMemory → AsksNothing old new → RunsFollow arguments exit old new

@@ -1,6 +1,7 @@
 -- Which words spell which command. The commands are the project's own; a ROOT follows RFC 4825,
 -- section 6.1.
-use Rattle.std.specs.Prelude.{ℕ, List, [], ◌∷◌, chars, codes, Option, None, Some, if◌then◌else◌, option_and_then, option_map}
+use Rattle.std.specs.Prelude.{ℕ, List, [], ◌∷◌, chars, codes, Option, None, Some, if◌then◌else◌}
+use Rattle.std.specs.Prelude.{option_and_then, option_map}
 use Rattle.std.specs.Str.{bytes_eq}
 use Rattle.doc_names.specs.Usages.{auid_text}
 use Rattle.doc_names.specs.declared.doc_id.Auid.TheVariants as auids
@@ -25,22 +26,28 @@ usage_named word =
 abbrev pub service_spelled : List ℕ → List ℕ → List ℕ → Option ServiceOptions
 service_spelled [] root count = None
 service_spelled (c ∷ cs) root count =
-    option_and_then (λ r. option_map (λ n. record { address = chars (c ∷ cs); root = r; count = n }) (numeral_up_to MAX_COUNT count)) (root_of root)
+    option_and_then (λ r.
+    option_map (λ n. record { address = chars (c ∷ cs); root = r; count = n })
+    (numeral_up_to MAX_COUNT count))
+    (root_of root)
 
 -- `replay ROOT`, `check AUID`, or `sample N`, where N is a numeral of at most `MAX_SAMPLE`
 unfoldable pub of_two : List ℕ → List ℕ → Option Command
 of_two name word =
     if bytes_eq name (codes "replay") then option_map (λ r. Replay r) (root_of word)
     else if bytes_eq name (codes "check") then option_map (λ usage. Check usage) (usage_named word)
-    else if bytes_eq name (codes "sample") then option_map (λ n. Sample n) (numeral_up_to MAX_SAMPLE word)
+    else if bytes_eq name (codes "sample")
+    then option_map (λ n. Sample n) (numeral_up_to MAX_SAMPLE word)
     else None
 
 -- `serve ADDR ROOT COUNT`, `keep ADDR ROOT COUNT`, `fetch USER ROOT PATH` or `delete USER ROOT
 -- PATH`
 unfoldable pub of_four : List ℕ → List ℕ → List ℕ → List ℕ → Option Command
 of_four name first root last =
-    if bytes_eq name (codes "serve") then option_map (λ s. Serve s.address s.root s.count) (service_spelled first root last)
-    else if bytes_eq name (codes "keep") then option_map (λ s. Keep s.address s.root s.count) (service_spelled first root last)
+    if bytes_eq name (codes "serve")
+    then option_map (λ s. Serve s.address s.root s.count) (service_spelled first root last)
+    else if bytes_eq name (codes "keep")
+    then option_map (λ s. Keep s.address s.root s.count) (service_spelled first root last)
     else if bytes_eq name (codes "fetch") then fetch_of first root last
     else if bytes_eq name (codes "delete") then delete_of first root last
     else None

@@ -5,15 +5,21 @@ use Rattle.usage_docs.specs.Keys.{word}
 use Rattle.usage_docs.specs.declared.validation.Fault.TheVariants.{Invalid, Unformed, Repeated}
 use Rattle.client_commands.specs.Words.{fault_words, status_of_fault}
 use Rattle.xcap_app.specs.declared.exit.Exit.{Exit}
-use Rattle.xcap_app.specs.declared.exit.Exit.TheVariants.{Done, Usage, InputFailed, OutputFailed, NetworkFailed, Refused, Client, BadJournal, OutOfMemory}
+use Rattle.xcap_app.specs.declared.exit.Exit.TheVariants.{Done, Usage, InputFailed, OutputFailed}
+use Rattle.xcap_app.specs.declared.exit.Exit.TheVariants.{NetworkFailed, Refused, Client}
+use Rattle.xcap_app.specs.declared.exit.Exit.TheVariants.{BadJournal, OutOfMemory}
 use Rattle.xcap_app.specs.declared.journal_refusal.JournalRefusal.{JournalRefusal}
-use Rattle.xcap_app.specs.declared.journal_refusal.JournalRefusal.TheVariants.{Damaged, Refused as RefusedAt, TooLong}
+use Rattle.xcap_app.specs.declared.journal_refusal.JournalRefusal.TheVariants.{Damaged}
+use Rattle.xcap_app.specs.declared.journal_refusal.JournalRefusal.TheVariants.{Refused as RefusedAt}
+use Rattle.xcap_app.specs.declared.journal_refusal.JournalRefusal.TheVariants.{TooLong}
 use Rattle.xcap_app.specs.declared.refusal.Refusal.{Refusal}
-use Rattle.xcap_app.specs.declared.refusal.Refusal.TheVariants.{TooLarge, NotUtf8, NotWellFormed, Faulty}
+use Rattle.xcap_app.specs.declared.refusal.Refusal.TheVariants.{TooLarge, NotUtf8, NotWellFormed}
+use Rattle.xcap_app.specs.declared.refusal.Refusal.TheVariants.{Faulty}
 
 -- the commands, on one line
 unfoldable pub usage_line : List ℕ
-usage_line = codes "usage: xcapd replay ROOT | serve ADDR ROOT COUNT | keep ADDR ROOT COUNT | check AUID | sample N | fetch USER ROOT PATH | put USER ROOT PATH TYPE | delete USER ROOT PATH | follow USER ROOT DOCUMENT ROUNDS\n"
+usage_line =
+    codes "usage: xcapd replay ROOT | serve ADDR ROOT COUNT | keep ADDR ROOT COUNT | check AUID | sample N | fetch USER ROOT PATH | put USER ROOT PATH TYPE | delete USER ROOT PATH | follow USER ROOT DOCUMENT ROUNDS\n"
 
 -- the status that the program exits with
 abbrev pub status_of : Exit → ℕ
@@ -35,7 +41,9 @@ refusal_words NotUtf8 = codes "not-utf-8\n"
 refusal_words (NotWellFormed place) = codes "not-well-formed " ++ (decimal place ++ codes "\n")
 refusal_words (Faulty Invalid) = codes "schema-validation-error\n"
 refusal_words (Faulty Unformed) = codes "constraint-failure\n"
-refusal_words (Faulty (Repeated clash)) = codes "uniqueness-failure " ++ (encode_utf8_all (path_text clash.path) ++ (codes "/@" ++ (word clash.key ++ codes "\n")))
+refusal_words (Faulty (Repeated clash)) =
+    codes "uniqueness-failure "
+    ++ (encode_utf8_all (path_text clash.path) ++ (codes "/@" ++ (word clash.key ++ codes "\n")))
 
 -- why the input is no journal, on one line
 abbrev pub journal_words : JournalRefusal → List ℕ

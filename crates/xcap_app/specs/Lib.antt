@@ -7,9 +7,12 @@ pub mod Frames
 pub mod KeepCommand
 pub mod Messages
 pub mod Replays
+pub mod RunStates
 pub mod Runs
+pub mod SampleRequests
 pub mod Samples
 pub mod Serves
+pub mod StatusRecorders
 pub mod System
 pub mod Verdicts
 pub mod inner

@@ -5,7 +5,6 @@ use Rattle.store_core.specs.ValidStates.{IsValidState}
 use Rattle.store_core.specs.State.{State, first_state}
 use Rattle.xcap_machine.specs.SubscriberVersions.{FollowedStep}
 use Rattle.edit_ops.specs.declared.edit.Edit.{Edit}
-use Rattle.xcap_io.specs.Causes.{StreamState}
 use Rattle.xcap_io.specs.Histories.{Traffic}
 use Rattle.xcap_io.specs.StreamTraffic.{Gave, Took}
 use Rattle.http_wire.specs.Serving.{Serves}
@@ -13,10 +12,13 @@ use Rattle.http_serve.specs.Endings.{FaultsBy}
 use Rattle.http_serve.specs.Fixed.{fixed}
 use Rattle.http_serve.specs.ReplyBytes.{InBytes}
 use Rattle.http_wire.specs.declared.close_reason.CloseReason.{CloseReason}
-use Rattle.http_wire.specs.declared.close_reason.CloseReason.TheVariants.{Closed, ReadFailed, WriteFailed}
+use Rattle.http_wire.specs.declared.close_reason.CloseReason.TheVariants.{Closed, ReadFailed}
+use Rattle.http_wire.specs.declared.close_reason.CloseReason.TheVariants.{WriteFailed}
 use Rattle.xcap_app.specs.Frames.{JustRead, JustWritten}
+use Rattle.xcap_app.specs.RunStates.{ReplayState}
 use Rattle.xcap_app.specs.declared.exit.Exit.{Exit}
-use Rattle.xcap_app.specs.declared.exit.Exit.TheVariants.{Done, InputFailed, OutputFailed, OutOfMemory}
+use Rattle.xcap_app.specs.declared.exit.Exit.TheVariants.{Done, InputFailed, OutputFailed}
+use Rattle.xcap_app.specs.declared.exit.Exit.TheVariants.{OutOfMemory}
 
 -- W is the type of the watchers, and `Keeps` relates them before and after such changes.
 module _ {W : Type 0} (Keeps : List Edit → W → W → Type 0) where
@@ -25,25 +27,27 @@ module _ {W : Type 0} (Keeps : List Edit → W → W → Type 0) where
   -- bytes that the input gave, whether its last read found the end, and the bytes that the output
   -- took, which are the replies. The connection ended so, the watchers were notified of the
   -- changes, in order, and nothing else was done with the input and the output.
-  pub record ServesInput (root : List ℕ) (before : State) (ended : CloseReason) (input input' output output' : StreamState) (watchers watchers' : W) : Type 0 where
+  pub record ServesInput (root : List ℕ) (before : State) (ended : CloseReason)
+      (old new : ReplayState W) : Type 0 where
     pub state : State
     pub kept : IsValidState state
     pub passed : Traffic
     pub edits : List Edit
-    pub gave : Gave input.inward input'.inward passed.given
-    pub found_end : passed.ended ≡ input'.inward.ended
-    pub took : Took output.taken output'.taken passed.taken
+    pub gave : Gave old.input.inward new.input.inward passed.given
+    pub found_end : passed.ended ≡ new.input.inward.ended
+    pub took : Took old.output.taken new.output.taken passed.taken
     pub serves : Serves (InBytes (FollowedStep root)) fixed ended before passed state edits
-    pub told : Keeps edits watchers watchers'
-    pub faults : FaultsBy ended input.read_faults input'.read_faults output.write_faults output'.write_faults
-    pub just_read : JustRead input input'
-    pub just_written : JustWritten output output'
+    pub told : Keeps edits old.watchers new.watchers
+    pub faults : FaultsBy ended old.input.read_faults new.input.read_faults
+        old.output.write_faults new.output.write_faults
+    pub just_read : JustRead old.input new.input
+    pub just_written : JustWritten old.output new.output
 
   -- The connection was served, from the state without documents whose next number is 1, and the
   -- command ends as the connection did; or memory ran out, and nothing was done.
-  abbrev pub ReplaysCommand : List ℕ → Exit → StreamState → StreamState → StreamState → StreamState → W → W → Type 0
-  ReplaysCommand root Done input input' output output' watchers watchers' = ServesInput root (first_state 1) Closed input input' output output' watchers watchers'
-  ReplaysCommand root InputFailed input input' output output' watchers watchers' = ServesInput root (first_state 1) ReadFailed input input' output output' watchers watchers'
-  ReplaysCommand root OutputFailed input input' output output' watchers watchers' = ServesInput root (first_state 1) WriteFailed input input' output output' watchers watchers'
-  ReplaysCommand root OutOfMemory input input' output output' watchers watchers' = (input' ≡ input) × (output' ≡ output) × (watchers' ≡ watchers)
-  ReplaysCommand root _ input input' output output' watchers watchers' = ⊥
+  abbrev pub ReplaysCommand : List ℕ → Exit → ReplayState W → ReplayState W → Type 0
+  ReplaysCommand root Done old new = ServesInput root (first_state 1) Closed old new
+  ReplaysCommand root InputFailed old new = ServesInput root (first_state 1) ReadFailed old new
+  ReplaysCommand root OutputFailed old new = ServesInput root (first_state 1) WriteFailed old new
+  ReplaysCommand root OutOfMemory old new = new ≡ old
+  ReplaysCommand root _ old new = ⊥

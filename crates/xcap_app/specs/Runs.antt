@@ -1,45 +1,60 @@
 -- What a run of the program did, by the command that its words spell and by how it ended. The
 -- project's own.
-use Rattle.std.specs.Prelude.{◌≡◌, List, encode_utf8_all, Option, None, Some, ◌⊎◌}
+use Rattle.std.specs.Prelude.{◌≡◌, ℕ, List, encode_utf8_all, Option, None, Some, ◌⊎◌}
 use Rattle.edit_ops.specs.declared.edit.Edit.{Edit}
-use Rattle.xcap_io.specs.Causes.{StreamState}
-use Rattle.xcap_client.specs.Asks.{getting, removing}
-use Rattle.client_commands.specs.Endings.{MakesOneCall}
-use Rattle.client_commands.specs.Lines.{line_of_status}
-use Rattle.client_commands.specs.Puts.{AsksNothing, Puts}
-use Rattle.xcap_app.specs.ClientCommands.{RunsAs, RunsFollow}
+use Rattle.client_commands.specs.Endings.{delete_call, fetch_call}
+use Rattle.xcap_app.specs.ClientCommands.{RunsCall, RunsFollow, RunsPut}
 use Rattle.xcap_app.specs.Checks.{Checks}
 use Rattle.xcap_app.specs.KeepCommand.{KeepsCommand}
 use Rattle.xcap_app.specs.Replays.{ReplaysCommand}
+use Rattle.xcap_app.specs.RunStates.{RunState, call_part, io_part, keep_part, put_part, replay_part}
+use Rattle.xcap_app.specs.RunStates.{serve_part}
 use Rattle.xcap_app.specs.Samples.{RunsSample}
 use Rattle.xcap_app.specs.declared.command.Command.{Command}
-use Rattle.xcap_app.specs.declared.command.Command.TheVariants.{Replay, Serve, Keep, Check, Sample, Fetch, Put, Delete, Follow}
+use Rattle.xcap_app.specs.declared.command.Command.TheVariants.{Replay, Serve, Keep, Check, Sample}
+use Rattle.xcap_app.specs.declared.command.Command.TheVariants.{Fetch, Put, Delete, Follow}
 use Rattle.xcap_app.specs.declared.exit.Exit.{Exit}
 use Rattle.xcap_app.specs.declared.exit.Exit.TheVariants.{Usage, OutOfMemory}
-use Rattle.xcap_app.specs.Serves.{ServesCommand}
+use Rattle.xcap_app.specs.Serves.{ServesCommand, ServiceArguments}
+
+-- the arguments of a service, whose address is spelled by these characters
+abbrev pub service : List ℕ → List ℕ → ℕ → ServiceArguments
+service address root count =
+    record { address = encode_utf8_all address; root = root; count = count }
 
 -- W is the type of the watchers, and `Keeps` relates them before and after such changes.
 module _ {W : Type 0} (Keeps : List Edit → W → W → Type 0) where
   -- What was done, and that all else is unchanged. Where the words spell no command, memory may
   -- run out before that is known.
-  abbrev pub Runs : Option Command → Exit → StreamState → StreamState → StreamState → StreamState → StreamState → StreamState → StreamState → StreamState → W → W → Type 0
-  Runs None exit port port' peer peer' input input' output output' watchers watchers' =
-      ((exit ≡ Usage) ⊎ (exit ≡ OutOfMemory)) × (port' ≡ port) × (peer' ≡ peer) × (input' ≡ input) × (output' ≡ output) × (watchers' ≡ watchers)
-  Runs (Some (Replay root)) exit port port' peer peer' input input' output output' watchers watchers' =
-      ReplaysCommand Keeps root exit input input' output output' watchers watchers' × (port' ≡ port) × (peer' ≡ peer)
-  Runs (Some (Serve address root count)) exit port port' peer peer' input input' output output' watchers watchers' =
-      ServesCommand Keeps (encode_utf8_all address) root count exit port port' output output' watchers watchers' × (input' ≡ input) × (peer' ≡ peer)
-  Runs (Some (Keep address root count)) exit port port' peer peer' input input' output output' watchers watchers' =
-      KeepsCommand Keeps (encode_utf8_all address) root count exit port port' input input' output output' watchers watchers' × (peer' ≡ peer)
-  Runs (Some (Check usage)) exit port port' peer peer' input input' output output' watchers watchers' =
-      Checks usage exit input input' output output' × (port' ≡ port) × (peer' ≡ peer) × (watchers' ≡ watchers)
-  Runs (Some (Sample requests)) exit port port' peer peer' input input' output output' watchers watchers' =
-      RunsSample requests exit output output' × (port' ≡ port) × (peer' ≡ peer) × (input' ≡ input) × (watchers' ≡ watchers)
-  Runs (Some (Fetch requester path)) exit port port' peer peer' input input' output output' watchers watchers' =
-      RunsAs (λ ended. MakesOneCall requester.root (getting requester.user path) (λ response. response.body) ended peer peer' output output') (AsksNothing peer peer' output output') exit × (port' ≡ port) × (input' ≡ input) × (watchers' ≡ watchers)
-  Runs (Some (Put requester path media)) exit port port' peer peer' input input' output output' watchers watchers' =
-      RunsAs (λ ended. Puts requester.root requester.user path media ended peer peer' input input' output output') ((input' ≡ input) × AsksNothing peer peer' output output') exit × (port' ≡ port) × (watchers' ≡ watchers)
-  Runs (Some (Delete requester path)) exit port port' peer peer' input input' output output' watchers watchers' =
-      RunsAs (λ ended. MakesOneCall requester.root (removing requester.user path) (λ response. line_of_status response.status) ended peer peer' output output') (AsksNothing peer peer' output output') exit × (port' ≡ port) × (input' ≡ input) × (watchers' ≡ watchers)
-  Runs (Some (Follow requester document rounds)) exit port port' peer peer' input input' output output' watchers watchers' =
-      RunsFollow requester document rounds exit peer peer' output output' × (port' ≡ port) × (input' ≡ input) × (watchers' ≡ watchers)
+  abbrev pub Runs : Option Command → Exit → RunState W → RunState W → Type 0
+  Runs None exit old new = ((exit ≡ Usage) ⊎ (exit ≡ OutOfMemory)) × (new ≡ old)
+  Runs (Some (Replay root)) exit old new =
+      ReplaysCommand Keeps root exit (replay_part old) (replay_part new)
+      × (new.port ≡ old.port) × (new.peer ≡ old.peer)
+  Runs (Some (Serve address root count)) exit old new =
+      ServesCommand Keeps (service address root count) exit (serve_part old) (serve_part new)
+      × (new.input ≡ old.input) × (new.peer ≡ old.peer)
+  Runs (Some (Keep address root count)) exit old new =
+      KeepsCommand Keeps (service address root count) exit (keep_part old) (keep_part new)
+      × (new.peer ≡ old.peer)
+  Runs (Some (Check usage)) exit old new =
+      Checks usage exit (io_part old) (io_part new)
+      × (new.port ≡ old.port) × (new.peer ≡ old.peer) × (new.watchers ≡ old.watchers)
+  Runs (Some (Sample requests)) exit old new =
+      RunsSample requests exit old.output new.output
+      × (new.port ≡ old.port) × (new.peer ≡ old.peer) × (new.input ≡ old.input)
+      × (new.watchers ≡ old.watchers)
+  Runs (Some (Fetch requester path)) exit old new =
+      RunsCall (fetch_call requester path) exit (call_part old) (call_part new)
+      × (new.port ≡ old.port) × (new.input ≡ old.input) × (new.watchers ≡ old.watchers)
+  Runs (Some (Put requester path media)) exit old new =
+      RunsPut (record { requester = requester; path = path; media = media }) exit
+      (put_part old) (put_part new)
+      × (new.port ≡ old.port) × (new.watchers ≡ old.watchers)
+  Runs (Some (Delete requester path)) exit old new =
+      RunsCall (delete_call requester path) exit (call_part old) (call_part new)
+      × (new.port ≡ old.port) × (new.input ≡ old.input) × (new.watchers ≡ old.watchers)
+  Runs (Some (Follow requester document rounds)) exit old new =
+      RunsFollow (record { requester = requester; document = document; rounds = rounds }) exit
+      (call_part old) (call_part new)
+      × (new.port ≡ old.port) × (new.input ≡ old.input) × (new.watchers ≡ old.watchers)

@@ -1,16 +1,83 @@
--- What `sample` writes, by how it ends. The project's own.
-use Rattle.std.specs.Prelude.{◌≡◌, ℕ}
+-- The result of a sample: the replies to its requests, and the contents of the store afterwards;
+-- and what `sample` writes, by how it ends. The project's own.
+use Rattle.std.specs.Prelude.{◌≡◌, ℕ, ◌-◌, ◌==◌, true, List, ◌++◌, codes, decimal, length, map}
+use Rattle.std.specs.Prelude.{count_by, sum_by}
+use Rattle.xcap_io.specs.Histories.{Traffic}
+use Rattle.http_wire.specs.Serving.{ServesAll}
+use Rattle.http_serve.specs.Fixed.{fixed}
+use Rattle.http_serve.specs.ReplyBytes.{InBytes}
+use Rattle.edit_ops.specs.declared.edit.Edit.{Edit}
+use Rattle.store_core.specs.Contents.{StoreContents, stock_of}
+use Rattle.store_core.specs.ValidStates.{IsValidState}
+use Rattle.usage_docs.specs.Services.{document_len}
+use Rattle.xcap_app.specs.StatusRecorders.{Noted, NotedStep, none_noted}
+use Rattle.xcap_app.specs.SampleRequests.{all_connections, root_text}
+use Rattle.xcap_app.specs.declared.sample_summary.Summary.{Summary}
 use Rattle.xcap_io.specs.Causes.{StreamState}
 use Rattle.client_commands.specs.Outputs.{TakesAll, TakesSome}
-use Rattle.sample_runs.specs.Samples.{Samples, summary_text}
-use Rattle.sample_runs.specs.declared.summary.Summary.{Summary}
 use Rattle.xcap_app.specs.declared.exit.Exit.{Exit}
 use Rattle.xcap_app.specs.declared.exit.Exit.TheVariants.{Done, OutputFailed, OutOfMemory}
+
+-- the number of replies with the status
+abbrev pub count_of : ℕ → List ℕ → ℕ
+count_of status statuses = count_by (λ s. s == status) statuses
+
+-- The number of requests, of those that created what they put, of those that replaced or deleted
+-- something, and of all others, which were refused; the documents stored afterwards, and the last
+-- number that was given.
+abbrev pub summary_of : ℕ → List ℕ → StoreContents → Summary
+summary_of requests statuses held = record {
+  requests = requests;
+  created = count_of 201 statuses;
+  changed = count_of 200 statuses;
+  refused = requests - count_of 201 statuses - count_of 200 statuses;
+  documents = length held.documents;
+  bytes = sum_by (λ d. document_len d.tree) held.documents;
+  last = held.next - 1;
+}
+
+-- The connections of this many requests were served to their end by the machine of the root, from
+-- the state without documents on, one after the other, with no fault, and this is the summary of
+-- its replies and of the state that they lead to.
+pub record Samples (requests : ℕ) (summary : Summary) : Type 0 where
+  pub connections : List Traffic
+  pub all_bytes : map (λ c. c.given) connections ≡ all_connections requests
+  pub all_ends : map (λ c. c.ended) connections ≡ map (λ c. true) connections
+  pub next : Noted
+  pub edits : List Edit
+  pub kept : IsValidState next.state
+  pub serves : ServesAll (InBytes (NotedStep root_text)) fixed none_noted connections next edits 0 0
+      0 0
+  pub sums : summary ≡ summary_of requests next.statuses (stock_of next.state)
+
+-- the lines about the replies, four
+unfoldable pub answered_text : Summary → List ℕ
+answered_text s =
+    codes "requests " ++ (decimal s.requests
+    ++ (codes "\ncreated " ++ (decimal s.created
+    ++ (codes "\nchanged " ++ (decimal s.changed
+    ++ (codes "\nrefused " ++ (decimal s.refused
+    ++ codes "\n")))))))
+
+-- the lines about the stored documents, three
+unfoldable pub held_text : Summary → List ℕ
+held_text s =
+    codes "documents " ++ (decimal s.documents
+    ++ (codes "\nbytes " ++ (decimal s.bytes
+    ++ (codes "\nlast " ++ (decimal s.last
+    ++ codes "\n")))))
+
+abbrev pub summary_text : Summary → List ℕ
+summary_text s = answered_text s ++ held_text s
+
+-- ---- what the command writes
 
 -- The summary of the sample of this many requests was written, or a part of it where the output
 -- failed; or memory ran out, and nothing was written.
 abbrev pub RunsSample : ℕ → Exit → StreamState → StreamState → Type 0
-RunsSample requests Done output output' = (summary : Summary) × Samples requests summary × TakesAll (summary_text summary) output output'
-RunsSample requests OutputFailed output output' = (summary : Summary) × Samples requests summary × TakesSome (summary_text summary) output output'
+RunsSample requests Done output output' =
+    (summary : Summary) × Samples requests summary × TakesAll (summary_text summary) output output'
+RunsSample requests OutputFailed output output' =
+    (summary : Summary) × Samples requests summary × TakesSome (summary_text summary) output output'
 RunsSample requests OutOfMemory output output' = output' ≡ output
 RunsSample requests _ output output' = ⊥

@@ -1,6 +1,6 @@
 -- What a run of the program that ends with 0 did, over sockets and streams without any traffic
 -- before. The machine follows RFC 4825; the program is the project's own.
-use Rattle.std.specs.Prelude.{◌≡◌, ℕ, List, ◌∷◌, ◌++◌, codes, length, Option, None, Some}
+use Rattle.std.specs.Prelude.{◌≡◌, ℕ, List, codes, length, Option, None, Some}
 use Rattle.edit_ops.specs.declared.edit.Edit.{Edit}
 use Rattle.store_core.specs.State.{State, first_state}
 use Rattle.http_wire.specs.declared.request.Request.{Request}
@@ -12,32 +12,28 @@ use Rattle.http_wire.specs.declared.close_reason.CloseReason.TheVariants.{Closed
 use Rattle.http_serve.specs.Fixed.{fixed}
 use Rattle.xcap_machine.specs.SubscriberVersions.{FollowedStep}
 use Rattle.http_serve.specs.ReplyBytes.{InBytes}
-use Rattle.xcap_io.specs.Causes.{StreamState}
 use Rattle.xcap_io.specs.Connections.{carried}
 use Rattle.doc_names.specs.declared.doc_id.DocId.{DocId}
-use Rattle.xcap_uri.specs.Roots.{slash}
-use Rattle.xcap_client.specs.Asks.{getting, removing}
-use Rattle.client_commands.specs.Endings.{MakesOneCall}
+use Rattle.client_commands.specs.Endings.{CallStreams, MakesOneCall, delete_call, fetch_call}
 use Rattle.client_commands.specs.Follows.{Follows}
-use Rattle.client_commands.specs.Lines.{line_of_status}
 use Rattle.client_commands.specs.Puts.{Puts}
-use Rattle.client_commands.specs.declared.requester.Requester.{Requester}
 use Rattle.client_commands.specs.declared.command_end.CommandEnd.TheVariants as ends
-use Rattle.xcap_app.specs.ClientCommands.{MeansDocument}
+use Rattle.xcap_app.specs.ClientCommands.{FollowArguments, Names, follow_options}
+use Rattle.xcap_app.specs.RunStates.{RunState, call_part, put_part}
 use Rattle.xcap_app.specs.Serves.{served_line}
 use Rattle.xcap_app.specs.Verdicts.{TextVerdict}
-use Rattle.sample_runs.specs.Samples.{Samples, summary_text}
-use Rattle.sample_runs.specs.declared.summary.Summary.{Summary}
+use Rattle.xcap_app.specs.Samples.{Samples, summary_text}
+use Rattle.xcap_app.specs.declared.sample_summary.Summary.{Summary}
 use Rattle.xcap_app.specs.declared.command.Command.{Command}
-use Rattle.xcap_app.specs.declared.command.Command.TheVariants.{Replay, Serve, Keep, Check, Sample, Fetch, Put, Delete, Follow}
+use Rattle.xcap_app.specs.declared.command.Command.TheVariants.{Replay, Serve, Keep, Check, Sample}
+use Rattle.xcap_app.specs.declared.command.Command.TheVariants.{Fetch, Put, Delete, Follow}
 use Rattle.xcap_app.specs.declared.exit.Exit.TheVariants.{Done}
 
--- after the root and a slash the text is a target that means a document, which was followed to the
--- end
-pub record FollowsNamed (requester : Requester) (document : List ℕ) (rounds : ℕ) (peer peer' output output' : StreamState) : Type 0 where
+-- the text means a document, which was followed to the end
+pub record FollowsNamed (arguments : FollowArguments) (old new : CallStreams) : Type 0 where
   pub doc : DocId
-  pub meant : MeansDocument requester.root (requester.root ++ slash ∷ document) (Some doc)
-  pub follows : Follows requester.root requester.user doc rounds ends.Done peer peer' output output'
+  pub meant : Names arguments (Some doc)
+  pub follows : Follows (follow_options arguments doc) ends.Done old new
 
 -- W is the type of the watchers, and `Keeps` relates them before and after such changes.
 module _ {W : Type 0} (Keeps : List Edit → W → W → Type 0) where
@@ -45,57 +41,76 @@ module _ {W : Type 0} (Keeps : List Edit → W → W → Type 0) where
   -- documents whose next number is 1 on, through valid states, and kept subscribers up to date:
   -- the bytes taken on each connection are its replies to the items of the bytes given on it. The
   -- watchers were notified of exactly the changes that it made, in order.
-  pub record AnswersAll (root : List ℕ) (port port' : StreamState) (watchers watchers' : W) : Type 0 where
+  pub record AnswersAll (root : List ℕ) (old new : RunState W) : Type 0 where
     pub state : State
     pub edits : List Edit
-    pub serves : ServesAll (InBytes (FollowedStep root)) fixed (first_state 1) (carried port') state edits port.read_faults port'.read_faults port.write_faults port'.write_faults
-    pub told : Keeps edits watchers watchers'
+    pub serves : ServesAll (InBytes (FollowedStep root)) fixed (first_state 1)
+        (carried new.port) state edits
+        old.port.read_faults new.port.read_faults old.port.write_faults new.port.write_faults
+    pub told : Keeps edits old.watchers new.watchers
 
   -- The machine answered likewise on the one connection of the input and the output, which was
   -- closed.
-  pub record AnswersInput (root : List ℕ) (input' output' : StreamState) (watchers watchers' : W) : Type 0 where
+  pub record AnswersInput (root : List ℕ) (old new : RunState W) : Type 0 where
     pub state : State
     pub edits : List Edit
-    pub serves : Serves (InBytes (FollowedStep root)) fixed Closed (first_state 1) (record { given = input'.inward.given; ended = input'.inward.ended; taken = output'.taken }) state edits
-    pub told : Keeps edits watchers watchers'
+    pub serves : Serves (InBytes (FollowedStep root)) fixed Closed (first_state 1)
+        (record {
+          given = new.input.inward.given;
+          ended = new.input.inward.ended;
+          taken = new.output.taken;
+        })
+        state edits
+    pub told : Keeps edits old.watchers new.watchers
 
   -- The bytes that came in over the input are the records of some requests, and a torn rest, in
   -- which no record is whole; from the state that the requests lead to, the machine answered on
   -- all `count` connections of the port, and accepted further requests. The output took the
   -- records of all.
-  pub record AnswersKept (root : List ℕ) (count : ℕ) (port port' input' output' : StreamState) (watchers watchers' : W) : Type 0 where
+  pub record AnswersKept (root : List ℕ) (count : ℕ) (old new : RunState W) : Type 0 where
     pub requests : List Request
     pub rest : List ℕ
     pub state : State
     pub accepted : List Request
     pub next : State
     pub edits : List Edit
-    pub read : Whole input'.inward.given requests rest
+    pub read : Whole new.input.inward.given requests rest
     pub torn : IsTorn rest
     pub redone : Redoing root (first_state 1) requests state
-    pub serves : ServesAll (InBytes (LoggedStep (FollowedStep root))) fixed (record { machine = state; requests = requests; failures = 0 }) (carried port') (record { machine = next; requests = accepted; failures = 0 }) edits
-        port.read_faults port'.read_faults port.write_faults port'.write_faults
-    pub counted : length (carried port') ≡ count
+    pub serves : ServesAll (InBytes (LoggedStep (FollowedStep root))) fixed
+        (record { machine = state; requests = requests; failures = 0 }) (carried new.port)
+        (record { machine = next; requests = accepted; failures = 0 }) edits
+        old.port.read_faults new.port.read_faults old.port.write_faults new.port.write_faults
+    pub counted : length (carried new.port) ≡ count
     pub all_redone : Redoing root (first_state 1) accepted next
-    pub took : output'.taken ≡ text accepted
-    pub told : Keeps edits watchers watchers'
+    pub took : new.output.taken ≡ text accepted
+    pub told : Keeps edits old.watchers new.watchers
 
   -- what was done, by the command that the words spell
-  abbrev pub IsDone : Option Command → StreamState → StreamState → StreamState → StreamState → StreamState → StreamState → StreamState → StreamState → W → W → Type 0
-  IsDone None port port' peer peer' input input' output output' watchers watchers' = ⊥
-  IsDone (Some (Replay root)) port port' peer peer' input input' output output' watchers watchers' = AnswersInput root input' output' watchers watchers'
-  IsDone (Some (Serve address root count)) port port' peer peer' input input' output output' watchers watchers' =
-      AnswersAll root port port' watchers watchers' × (length (carried port') ≡ count) × (output'.taken ≡ served_line count)
-  IsDone (Some (Keep address root count)) port port' peer peer' input input' output output' watchers watchers' = AnswersKept root count port port' input' output' watchers watchers'
-  IsDone (Some (Check usage)) port port' peer peer' input input' output output' watchers watchers' =
-      TextVerdict usage input'.inward.given Done × (output'.taken ≡ codes "valid\n") × (watchers' ≡ watchers)
-  IsDone (Some (Sample requests)) port port' peer peer' input input' output output' watchers watchers' =
-      (summary : Summary) × Samples requests summary × (output'.taken ≡ summary_text summary) × (watchers' ≡ watchers)
-  IsDone (Some (Fetch requester path)) port port' peer peer' input input' output output' watchers watchers' =
-      MakesOneCall requester.root (getting requester.user path) (λ response. response.body) ends.Done peer peer' output output' × (watchers' ≡ watchers)
-  IsDone (Some (Put requester path media)) port port' peer peer' input input' output output' watchers watchers' =
-      Puts requester.root requester.user path media ends.Done peer peer' input input' output output' × (watchers' ≡ watchers)
-  IsDone (Some (Delete requester path)) port port' peer peer' input input' output output' watchers watchers' =
-      MakesOneCall requester.root (removing requester.user path) (λ response. line_of_status response.status) ends.Done peer peer' output output' × (watchers' ≡ watchers)
-  IsDone (Some (Follow requester document rounds)) port port' peer peer' input input' output output' watchers watchers' =
-      FollowsNamed requester document rounds peer peer' output output' × (watchers' ≡ watchers)
+  abbrev pub IsDone : Option Command → RunState W → RunState W → Type 0
+  IsDone None old new = ⊥
+  IsDone (Some (Replay root)) old new = AnswersInput root old new
+  IsDone (Some (Serve address root count)) old new =
+      AnswersAll root old new × (length (carried new.port) ≡ count)
+      × (new.output.taken ≡ served_line count)
+  IsDone (Some (Keep address root count)) old new = AnswersKept root count old new
+  IsDone (Some (Check usage)) old new =
+      TextVerdict usage new.input.inward.given Done × (new.output.taken ≡ codes "valid\n")
+      × (new.watchers ≡ old.watchers)
+  IsDone (Some (Sample requests)) old new =
+      (summary : Summary) × Samples requests summary × (new.output.taken ≡ summary_text summary)
+      × (new.watchers ≡ old.watchers)
+  IsDone (Some (Fetch requester path)) old new =
+      MakesOneCall (fetch_call requester path) ends.Done (call_part old) (call_part new)
+      × (new.watchers ≡ old.watchers)
+  IsDone (Some (Put requester path media)) old new =
+      Puts (record { requester = requester; path = path; media = media }) ends.Done
+      (put_part old) (put_part new)
+      × (new.watchers ≡ old.watchers)
+  IsDone (Some (Delete requester path)) old new =
+      MakesOneCall (delete_call requester path) ends.Done (call_part old) (call_part new)
+      × (new.watchers ≡ old.watchers)
+  IsDone (Some (Follow requester document rounds)) old new =
+      FollowsNamed (record { requester = requester; document = document; rounds = rounds })
+      (call_part old) (call_part new)
+      × (new.watchers ≡ old.watchers)

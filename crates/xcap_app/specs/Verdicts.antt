@@ -9,7 +9,7 @@ use Rattle.usage_docs.specs.Validation.{HasFirstFault}
 use Rattle.usage_docs.specs.declared.validation.Fault.{Fault}
 use Rattle.doc_names.specs.declared.usages.Usage.{Usage}
 use Rattle.xml_tree.specs.Tree.{Tree}
-use Rattle.xml_tree.specs.Limits.{max_levels}
+use Rattle.xml_names.specs.Limits.{max_levels}
 use Rattle.xcap_app.specs.declared.exit.Exit.{Exit}
 use Rattle.xcap_app.specs.declared.exit.Exit.TheVariants as exits
 use Rattle.xcap_app.specs.declared.refusal.Refusal.{Refusal}
@@ -31,7 +31,8 @@ refusal_of_text (faults.Doctype place) = refusals.NotWellFormed place
 
 -- the verdict on a tree, and on a text that can't be parsed
 abbrev pub AnswerVerdict : Usage → Result Tree TextFault → Exit → Type 0
-AnswerVerdict usage (Ok t) exit = (fault : Option Fault) × HasFirstFault usage t fault × (exit ≡ exit_of_judgement fault)
+AnswerVerdict usage (Ok t) exit =
+    (fault : Option Fault) × HasFirstFault usage t fault × (exit ≡ exit_of_judgement fault)
 AnswerVerdict usage (Err fault) exit = exit ≡ exits.Refused (refusal_of_text fault)
 
 -- The verdict on a text, by the one answer of the grammar: the tree of at most `max_levels` levels

@@ -2,14 +2,15 @@
 ghost use Rattle.std.specs.Prelude.{◌≡◌, IfOk, map, option_map, string_bytes};
 ghost use Rattle.xcap_uri.specs.Roots.{root_of};
 ghost use Rattle.xcap_app.specs.ClientArguments.{numeral_up_to};
-ghost use Rattle.xcap_app.specs.Commands.{command_of, of_five, of_four, of_two, service_spelled, usage_named};
+ghost use Rattle.xcap_app.specs.Commands.{command_of, of_five, of_four, of_two, service_spelled};
+ghost use Rattle.xcap_app.specs.Commands.{usage_named};
 
 use crate::client_arguments::{delete_of, fetch_of, follow_of, put_of};
 use crate::command::Command;
 use doc_names::Usage;
 use std::alloc::{AllocError, Global};
 use xcap_uri::{Root, numeral, read_root};
-use xml_tree::Text;
+use xml_names::Text;
 
 const MAX_COUNT: u64 = 1_000_000;
 

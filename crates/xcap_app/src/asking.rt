@@ -2,11 +2,9 @@
 ghost use Rattle.std.specs.Prelude.{◌≡◌, ◌∷◌, ◌++◌, ◌&&◌, IfOk, is_some, option_map};
 ghost use Rattle.doc_names.specs.Usages.{usage_of};
 ghost use Rattle.xcap_uri.specs.Roots.{slash};
-ghost use Rattle.xcap_client.specs.Asks.{getting, removing};
-ghost use Rattle.client_commands.specs.Endings.{MakesOneCall};
-ghost use Rattle.client_commands.specs.Lines.{line_of_status};
-ghost use Rattle.client_commands.specs.Puts.{AsksNothing, Puts};
-ghost use Rattle.xcap_app.specs.ClientCommands.{MeansDocument, RunsAs, RunsFollow, document_to_follow, exit_of_client, is_users};
+ghost use Rattle.client_commands.specs.Endings.{delete_call, fetch_call};
+ghost use Rattle.xcap_app.specs.ClientCommands.{MeansDocument, RunsCall, RunsFollow, RunsPut};
+ghost use Rattle.xcap_app.specs.ClientCommands.{document_to_follow, exit_of_client, is_users};
 
 use crate::exit::Exit;
 use crate::refusal::Refusal;
@@ -15,7 +13,7 @@ use doc_names::{DocId, Home};
 use std::alloc::{AllocError, Global};
 use xcap_io::{Line, Peer, Sink, Source};
 use xcap_uri::{Root, Target, read_target};
-use xml_tree::{ReadError, Text};
+use xml_names::{ReadError, Text};
 
 // How the run ends when a client command ends so.
 fn exit_of(ended: CommandEnd) -> Exit
@@ -39,12 +37,9 @@ pub(crate) fn run_fetch<C: Peer, O: Sink>(
     peer: &mut C,
     output: &mut O,
 ) -> Exit
-    ensures runs_command { RunsAs
-        (λ ended. MakesOneCall requester.now.root (getting requester.now.user path.now)
-        (λ response. response.body) ended
-        (C.state peer.old) (C.state peer.new) (O.state output.old) (O.state output.new))
-        (AsksNothing (C.state peer.old) (C.state peer.new) (O.state output.old)
-        (O.state output.new)) result }
+    ensures runs_command { RunsCall (fetch_call requester.now path.now) result
+        (record { peer = C.state peer.old; output = O.state output.old })
+        (record { peer = C.state peer.new; output = O.state output.new }) }
 {
     exit_of(fetch_from(alloc, requester, path, peer, output))
 }
@@ -57,12 +52,9 @@ pub(crate) fn run_delete<C: Peer, O: Sink>(
     peer: &mut C,
     output: &mut O,
 ) -> Exit
-    ensures runs_command { RunsAs
-        (λ ended. MakesOneCall requester.now.root (removing requester.now.user path.now)
-        (λ response. line_of_status response.status) ended
-        (C.state peer.old) (C.state peer.new) (O.state output.old) (O.state output.new))
-        (AsksNothing (C.state peer.old) (C.state peer.new) (O.state output.old)
-        (O.state output.new)) result }
+    ensures runs_command { RunsCall (delete_call requester.now path.now) result
+        (record { peer = C.state peer.old; output = O.state output.old })
+        (record { peer = C.state peer.new; output = O.state output.new }) }
 {
     exit_of(delete_at(alloc, requester, path, peer, output))
 }
@@ -77,13 +69,18 @@ pub(crate) fn run_put<C: Peer, I: Source, O: Sink>(
     input: &mut I,
     output: &mut O,
 ) -> Exit
-    ensures runs_command { RunsAs
-        (λ ended. Puts requester.now.root requester.now.user path.now media.now ended
-        (C.state peer.old) (C.state peer.new)
-        (I.state input.old) (I.state input.new) (O.state output.old) (O.state output.new))
-        ((I.state input.new ≡ I.state input.old)
-        × AsksNothing (C.state peer.old) (C.state peer.new) (O.state output.old)
-        (O.state output.new)) result }
+    ensures runs_command { RunsPut
+        (record { requester = requester.now; path = path.now; media = media.now }) result
+        (record {
+          peer = C.state peer.old;
+          input = I.state input.old;
+          output = O.state output.old;
+        })
+        (record {
+          peer = C.state peer.new;
+          input = I.state input.new;
+          output = O.state output.new;
+        }) }
 {
     exit_of(put_at(alloc, requester, path, media, peer, input, output))
 }
@@ -169,8 +166,10 @@ pub(crate) fn run_follow<C: Peer, O: Sink>(
     peer: &mut C,
     output: &mut O,
 ) -> Exit
-    ensures runs_command { RunsFollow requester.now document.now rounds result (C.state peer.old)
-        (C.state peer.new) (O.state output.old) (O.state output.new) }
+    ensures runs_command { RunsFollow
+        (record { requester = requester.now; document = document.now; rounds = rounds }) result
+        (record { peer = C.state peer.old; output = O.state output.old })
+        (record { peer = C.state peer.new; output = O.state output.new }) }
 {
     match document_of(alloc, &requester.root, document) {
         Ok(Some(doc)) => exit_of(follow(alloc, requester, &doc, rounds, peer, output)),

@@ -31,8 +31,9 @@ pub(crate) fn check<I: Source, O: Sink>(
     input: &mut I,
     output: &mut O,
 ) -> Exit
-    ensures checks_input { Checks usage result (I.state input.old) (I.state input.new)
-        (O.state output.old) (O.state output.new) }
+    ensures checks_input { Checks usage result
+        (record { input = I.state input.old; output = O.state output.old })
+        (record { input = I.state input.new; output = O.state output.new }) }
 {
     match examine(alloc, usage, input) {
         Exit::Done => print(output, b"valid\n"),

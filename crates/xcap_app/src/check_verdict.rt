@@ -1,8 +1,9 @@
 // Whether a text is a document of a usage, and why it isn't.
 ghost use Rattle.std.specs.Prelude.{◌≡◌, ◌≤◌, ◌⊎◌, Ok};
-ghost use Rattle.xml_tree.specs.Limits.{max_levels};
+ghost use Rattle.xml_names.specs.Limits.{max_levels};
 ghost use Rattle.xml_tree.specs.Tree.{height};
-ghost use Rattle.xcap_app.specs.Verdicts.{AnswerVerdict, TextVerdict, exit_of_judgement, refusal_of_text};
+ghost use Rattle.xcap_app.specs.Verdicts.{AnswerVerdict, TextVerdict, exit_of_judgement};
+ghost use Rattle.xcap_app.specs.Verdicts.{refusal_of_text};
 
 use crate::exit::Exit;
 use crate::refusal::Refusal;
@@ -10,7 +11,8 @@ use doc_names::Usage;
 use std::alloc::Global;
 use tree_text::{TextFault, read_document};
 use usage_docs::Fault;
-use xml_tree::{Element, MAX_LEVELS, ReadError};
+use xml_names::{MAX_LEVELS, ReadError};
+use xml_tree::Element;
 
 // How the command ends with the first fault of a tree, or none.
 fn exit_of(judged: Option<Fault>) -> Exit

@@ -3,13 +3,16 @@ ghost use Rattle.std.specs.Prelude.{◌≡◌, IfOk, codes};
 ghost use Rattle.std.specs.List.{list_all};
 ghost use Rattle.std.specs.Str.{bytes_eq};
 ghost use Rattle.xcap_uri.specs.Delimiters.{front_before};
-ghost use Rattle.xcap_app.specs.ClientArguments.{asked_of, requester_of, delete_of, fetch_of, follow_of, has_scheme_http, http_root_of, is_word_octet, is_word, numeral_up_to, put_of, word_text, user_of};
+ghost use Rattle.xcap_app.specs.ClientArguments.{asked_of, requester_of, delete_of, fetch_of};
+ghost use Rattle.xcap_app.specs.ClientArguments.{follow_of, has_scheme_http, http_root_of};
+ghost use Rattle.xcap_app.specs.ClientArguments.{is_word_octet, is_word, numeral_up_to, put_of};
+ghost use Rattle.xcap_app.specs.ClientArguments.{word_text, user_of};
 
 use crate::command::Command;
 use client_commands::Requester;
 use std::alloc::{AllocError, Global};
 use xcap_uri::{Root, cut, numeral, read_root};
-use xml_tree::Text;
+use xml_names::Text;
 
 const MAX_ROUNDS: u64 = 1_000;
 

@@ -2,7 +2,7 @@
 use client_commands::Requester;
 use doc_names::Usage;
 use xcap_uri::Root;
-use xml_tree::Text;
+use xml_names::Text;
 
 /// A command, with its arguments.
 #[derive(Drop)]

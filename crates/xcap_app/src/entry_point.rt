@@ -30,10 +30,21 @@ fn execute<P: Port, C: Peer, I: Source, O: Sink, W: Watchers<Edit>>(
     output: &mut O,
     watchers: &mut W,
 ) -> Exit
-    ensures runs_command { Runs W.keeps (Some command.now) result (P.state port.old)
-        (P.state port.new)
-        (C.state peer.old) (C.state peer.new) (I.state input.old) (I.state input.new)
-        (O.state output.old) (O.state output.new) watchers.old watchers.new }
+    ensures runs_command { Runs W.keeps (Some command.now) result
+        (record {
+          port = P.state port.old;
+          peer = C.state peer.old;
+          input = I.state input.old;
+          output = O.state output.old;
+          watchers = watchers.old;
+        })
+        (record {
+          port = P.state port.new;
+          peer = C.state peer.new;
+          input = I.state input.new;
+          output = O.state output.new;
+          watchers = watchers.new;
+        }) }
 {
     match command {
         Command::Replay { root } => replay(alloc, root, input, output, watchers),
@@ -92,9 +103,20 @@ fn execute_words<P: Port, C: Peer, I: Source, O: Sink, W: Watchers<Edit>>(
     watchers: &mut W,
 ) -> Exit
     ensures runs_command { Runs W.keeps (command_of (map string_bytes words.now)) result
-        (P.state port.old) (P.state port.new)
-        (C.state peer.old) (C.state peer.new) (I.state input.old) (I.state input.new)
-        (O.state output.old) (O.state output.new) watchers.old watchers.new }
+        (record {
+          port = P.state port.old;
+          peer = C.state peer.old;
+          input = I.state input.old;
+          output = O.state output.old;
+          watchers = watchers.old;
+        })
+        (record {
+          port = P.state port.new;
+          peer = C.state peer.new;
+          input = I.state input.new;
+          output = O.state output.new;
+          watchers = watchers.new;
+        }) }
 {
     match command_of(alloc, words) {
         Ok(Some(command)) => {
@@ -124,10 +146,21 @@ pub fn run<P: Port, C: Peer, I: Source, O: Sink, E: Sink, W: Watchers<Edit>>(
     watchers: &mut W,
 ) -> u8
     ensures exit_status { (exit : Exit) × (result ≡ status_of exit)
-        × Runs W.keeps (command_of (map string_bytes words.now)) exit (P.state port.old)
-        (P.state port.new)
-        (C.state peer.old) (C.state peer.new) (I.state input.old) (I.state input.new)
-        (O.state output.old) (O.state output.new) watchers.old watchers.new
+        × Runs W.keeps (command_of (map string_bytes words.now)) exit
+        (record {
+          port = P.state port.old;
+          peer = C.state peer.old;
+          input = I.state input.old;
+          output = O.state output.old;
+          watchers = watchers.old;
+        })
+        (record {
+          port = P.state port.new;
+          peer = C.state peer.new;
+          input = I.state input.new;
+          output = O.state output.new;
+          watchers = watchers.new;
+        })
         × Tells (words_of exit) (E.state errors.old) (E.state errors.new) }
 {
     let exit = execute_words(alloc, words, port, peer, input, output, watchers);

@@ -1,16 +1,15 @@
 // The command `keep`: an old journal is read, a new one written, and the connections that come at
 // an address are served by a server that adds accepted requests to the new journal.
-ghost use Rattle.std.specs.Prelude.{◌≡◌, ◌<◌, ◌≤◌, List, [], length, false, All};
-ghost use Rattle.http_wire.specs.declared.request.Request.{Request as TheRequest};
+ghost use Rattle.std.specs.Prelude.{◌≡◌, ◌<◌, ◌≤◌, [], length, false, All};
 ghost use Rattle.edit_journal.specs.Journals.{IsJournalProgress};
 ghost use Rattle.edit_journal.specs.Limits.{max_journal_bytes};
 ghost use Rattle.edit_journal.specs.Texts.{IsRecordedRequest, text};
 ghost use Rattle.store_core.specs.Contents.{Represents};
 ghost use Rattle.store_core.specs.ValidStates.{IsValidState};
-ghost use Rattle.store_core.specs.State.{State, first_state};
+ghost use Rattle.store_core.specs.State.{first_state};
 ghost use Rattle.xcap_server.specs.ReplayedRequests.{Redoing};
 ghost use Rattle.xcap_io.specs.Causes.{StreamState};
-ghost use Rattle.xcap_app.specs.KeepCommand.{KeepsCommand, KeepsOn, exit_of_restart};
+ghost use Rattle.xcap_app.specs.KeepCommand.{KeepsCommand, KeepsOn, OldJournal, exit_of_restart};
 ghost use Rattle.xcap_app.specs.inner.Streams.{Streams};
 
 use crate::exit::Exit;
@@ -54,15 +53,17 @@ fn serve_logged<'a, O: Sink, P: Port, W: Watchers<Edit>>(
         ≡ log.old.len }
     requires length_bounded { log.old.len ≤ max_journal_bytes }
     requires no_fault { (⟦<StreamJournal<'a, O> as Journal>⟧.state journal.old).faults ≡ 0 }
-    ensures keeps_on { (requests : List TheRequest) (m : State) → IsValidState m
-        → Represents server.old.content m
-        → Redoing server.old.root (first_state 1) requests m → All IsRecordedRequest requests
-        → (⟦<StreamJournal<'a, O> as Journal>⟧.state journal.old).held ≡ text requests
+    ensures keeps_on { (read : OldJournal) → IsValidState read.state
+        → Represents server.old.content read.state
+        → Redoing server.old.root (first_state 1) read.requests read.state
+        → All IsRecordedRequest read.requests
+        → (⟦<StreamJournal<'a, O> as Journal>⟧.state journal.old).held ≡ text read.requests
         → KeepsOn W.keeps (λ bytes. (⟦<StreamJournal<'a, O> as Journal>⟧.state journal.new).held
         ≡ bytes)
         (0 < (⟦<StreamJournal<'a, O> as Journal>⟧.state journal.new).faults)
-        address.now server.old.root count result requests m (P.state port.old)
-        (P.state port.new) watchers.old watchers.new }
+        (record { address = address.now; root = server.old.root; count = count }) result read
+        (record { port = P.state port.old; watchers = watchers.old })
+        (record { port = P.state port.new; watchers = watchers.new }) }
     ensures goes_on { IsJournalProgress (⟦<StreamJournal<'a, O> as Journal>⟧.state journal.old)
         (⟦<StreamJournal<'a, O> as Journal>⟧.state journal.new) }
 {
@@ -96,9 +97,20 @@ fn keep_over<'a, P: Port, I: Source, O: Sink, W: Watchers<Edit>>(
     requires no_fault { (⟦<StreamJournal<'a, O> as Journal>⟧.state journal.old).faults ≡ 0 }
     ensures keeps_command { (output output' : StreamState)
         → Streams output output' (⟦<StreamJournal<'a, O> as Journal>⟧.state journal.new)
-        → KeepsCommand W.keeps address.now server.old.root count result (P.state port.old)
-        (P.state port.new)
-        (I.state input.old) (I.state input.new) output output' watchers.old watchers.new }
+        → KeepsCommand W.keeps
+        (record { address = address.now; root = server.old.root; count = count }) result
+        (record {
+          port = P.state port.old;
+          input = I.state input.old;
+          output = output;
+          watchers = watchers.old;
+        })
+        (record {
+          port = P.state port.new;
+          input = I.state input.new;
+          output = output';
+          watchers = watchers.new;
+        }) }
     ensures goes_on { IsJournalProgress (⟦<StreamJournal<'a, O> as Journal>⟧.state journal.old)
         (⟦<StreamJournal<'a, O> as Journal>⟧.state journal.new) }
 {
@@ -121,10 +133,20 @@ fn keep_by<P: Port, I: Source, O: Sink, W: Watchers<Edit>>(
     watchers: &mut W,
 ) -> Exit
     requires empty { server.old.content ≡ record { documents = []; next = 1 } }
-    ensures keeps_command { KeepsCommand W.keeps address.now server.old.root count result
-        (P.state port.old) (P.state port.new)
-        (I.state input.old) (I.state input.new) (O.state output.old)
-        (O.state output.new) watchers.old watchers.new }
+    ensures keeps_command { KeepsCommand W.keeps
+        (record { address = address.now; root = server.old.root; count = count }) result
+        (record {
+          port = P.state port.old;
+          input = I.state input.old;
+          output = O.state output.old;
+          watchers = watchers.old;
+        })
+        (record {
+          port = P.state port.new;
+          input = I.state input.new;
+          output = O.state output.new;
+          watchers = watchers.new;
+        }) }
 {
     let mut journal = StreamJournal::new(output);
     keep_over(
@@ -153,10 +175,20 @@ pub(crate) fn keep<P: Port, I: Source, O: Sink, W: Watchers<Edit>>(
     output: &mut O,
     watchers: &mut W,
 ) -> Exit
-    ensures keeps_journal { KeepsCommand W.keeps address.now root.now count result
-        (P.state port.old) (P.state port.new)
-        (I.state input.old) (I.state input.new) (O.state output.old)
-        (O.state output.new) watchers.old watchers.new }
+    ensures keeps_journal { KeepsCommand W.keeps
+        (record { address = address.now; root = root.now; count = count }) result
+        (record {
+          port = P.state port.old;
+          input = I.state input.old;
+          output = O.state output.old;
+          watchers = watchers.old;
+        })
+        (record {
+          port = P.state port.new;
+          input = I.state input.new;
+          output = O.state output.new;
+          watchers = watchers.new;
+        }) }
 {
     let Ok(mut server) = Server::new(alloc, root, 1) else {
         return Exit::OutOfMemory;

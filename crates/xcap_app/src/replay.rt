@@ -35,8 +35,16 @@ fn serve_pair<I: Source, O: Sink, W: Watchers<Edit>>(
 ) -> CloseReason
     ensures serves_input { (m : State) → IsValidState m → Represents server.old.content m
         → ServesInput W.keeps server.old.root m result
-        (I.state input.old) (I.state input.new) (O.state output.old)
-        (O.state output.new) watchers.old watchers.new }
+        (record {
+          input = I.state input.old;
+          output = O.state output.old;
+          watchers = watchers.old;
+        })
+        (record {
+          input = I.state input.new;
+          output = O.state output.new;
+          watchers = watchers.new;
+        }) }
 {
     let mut pair = IoPair::new(input, output);
     serve_connection(server, &mut pair, watchers)
@@ -51,8 +59,16 @@ fn replay_by<I: Source, O: Sink, W: Watchers<Edit>>(
 ) -> Exit
     requires { server.old.content ≡ record { documents = []; next = 1 } }
     ensures replays_command { ReplaysCommand W.keeps server.old.root result
-        (I.state input.old) (I.state input.new) (O.state output.old)
-        (O.state output.new) watchers.old watchers.new }
+        (record {
+          input = I.state input.old;
+          output = O.state output.old;
+          watchers = watchers.old;
+        })
+        (record {
+          input = I.state input.new;
+          output = O.state output.new;
+          watchers = watchers.new;
+        }) }
 {
     exit_of(serve_pair(server, input, output, watchers))
 }
@@ -67,8 +83,16 @@ pub(crate) fn replay<I: Source, O: Sink, W: Watchers<Edit>>(
     watchers: &mut W,
 ) -> Exit
     ensures replays_input { ReplaysCommand W.keeps root.now result
-        (I.state input.old) (I.state input.new) (O.state output.old)
-        (O.state output.new) watchers.old watchers.new }
+        (record {
+          input = I.state input.old;
+          output = O.state output.old;
+          watchers = watchers.old;
+        })
+        (record {
+          input = I.state input.new;
+          output = O.state output.new;
+          watchers = watchers.new;
+        }) }
 {
     let Ok(mut server) = Server::new(alloc, root, 1) else {
         return Exit::OutOfMemory;

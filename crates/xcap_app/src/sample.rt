@@ -1,12 +1,11 @@
 // The command `sample`: requests made on a server in memory, and their summary.
 ghost use Rattle.std.specs.Prelude.{◌≡◌, IfOk, string_bytes};
-ghost use Rattle.sample_runs.specs.Samples.{Samples, summary_text};
-ghost use Rattle.sample_runs.specs.declared.summary.Summary.{Summary};
-ghost use Rattle.xcap_app.specs.Samples.{RunsSample};
+ghost use Rattle.xcap_app.specs.Samples.{RunsSample, Samples, summary_text};
+ghost use Rattle.xcap_app.specs.declared.sample_summary.Summary.{Summary};
 
 use crate::exit::Exit;
 use crate::report::print;
-use sample_runs::run_sample;
+use crate::sample_run::run_sample;
 use std::alloc::{AllocError, Global};
 use xcap_io::{Line, Sink};
 

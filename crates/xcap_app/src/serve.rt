@@ -55,9 +55,18 @@ fn serve_at<P: Port, O: Sink, W: Watchers<Edit>>(
     watchers: &mut W,
 ) -> Exit
     requires { server.old.content ≡ record { documents = []; next = 1 } }
-    ensures serves_command { ServesCommand W.keeps address.now server.old.root count result
-        (P.state port.old) (P.state port.new) (O.state output.old)
-        (O.state output.new) watchers.old watchers.new }
+    ensures serves_command { ServesCommand W.keeps
+        (record { address = address.now; root = server.old.root; count = count }) result
+        (record {
+          port = P.state port.old;
+          output = O.state output.old;
+          watchers = watchers.old;
+        })
+        (record {
+          port = P.state port.new;
+          output = O.state output.new;
+          watchers = watchers.new;
+        }) }
 {
     if let Err(Failed) = port.listen(address) {
         return Exit::NetworkFailed;
@@ -81,9 +90,18 @@ pub(crate) fn serve<P: Port, O: Sink, W: Watchers<Edit>>(
     output: &mut O,
     watchers: &mut W,
 ) -> Exit
-    ensures serves_command { ServesCommand W.keeps address.now root.now count result
-        (P.state port.old) (P.state port.new) (O.state output.old)
-        (O.state output.new) watchers.old watchers.new }
+    ensures serves_command { ServesCommand W.keeps
+        (record { address = address.now; root = root.now; count = count }) result
+        (record {
+          port = P.state port.old;
+          output = O.state output.old;
+          watchers = watchers.old;
+        })
+        (record {
+          port = P.state port.new;
+          output = O.state output.new;
+          watchers = watchers.new;
+        }) }
 {
     let Ok(mut server) = Server::new(alloc, root, 1) else {
         return Exit::OutOfMemory;

@@ -42,18 +42,36 @@ pub fn run_on_system<N: Net + Clock + Drop, I: Read, O: Write, E: Write, W: Watc
     requires none_given { (⟦<StdSource<I> as Line>⟧.state input.old).inward.given ≡ [] }
     requires none_taken { (⟦<StdSink<O> as Line>⟧.state output.old).taken ≡ [] }
     ensures status_0_done { result ≡ 0 → IsDone W.keeps (command_of (map string_bytes words.now))
-        (⟦<TcpPort<N> as Line>⟧.state port.old) (⟦<TcpPort<N> as Line>⟧.state port.new)
-        (⟦<TcpPeer<N> as Line>⟧.state peer.old) (⟦<TcpPeer<N> as Line>⟧.state peer.new)
-        (⟦<StdSource<I> as Line>⟧.state input.old) (⟦<StdSource<I> as Line>⟧.state input.new)
-        (⟦<StdSink<O> as Line>⟧.state output.old) (⟦<StdSink<O> as Line>⟧.state output.new)
-        watchers.old watchers.new }
+        (record {
+          port = ⟦<TcpPort<N> as Line>⟧.state port.old;
+          peer = ⟦<TcpPeer<N> as Line>⟧.state peer.old;
+          input = ⟦<StdSource<I> as Line>⟧.state input.old;
+          output = ⟦<StdSink<O> as Line>⟧.state output.old;
+          watchers = watchers.old;
+        })
+        (record {
+          port = ⟦<TcpPort<N> as Line>⟧.state port.new;
+          peer = ⟦<TcpPeer<N> as Line>⟧.state peer.new;
+          input = ⟦<StdSource<I> as Line>⟧.state input.new;
+          output = ⟦<StdSink<O> as Line>⟧.state output.new;
+          watchers = watchers.new;
+        }) }
     ensures exit_status { (exit : Exit) × (result ≡ status_of exit)
         × Runs W.keeps (command_of (map string_bytes words.now)) exit
-        (⟦<TcpPort<N> as Line>⟧.state port.old) (⟦<TcpPort<N> as Line>⟧.state port.new)
-        (⟦<TcpPeer<N> as Line>⟧.state peer.old) (⟦<TcpPeer<N> as Line>⟧.state peer.new)
-        (⟦<StdSource<I> as Line>⟧.state input.old) (⟦<StdSource<I> as Line>⟧.state input.new)
-        (⟦<StdSink<O> as Line>⟧.state output.old)
-        (⟦<StdSink<O> as Line>⟧.state output.new) watchers.old watchers.new
+        (record {
+          port = ⟦<TcpPort<N> as Line>⟧.state port.old;
+          peer = ⟦<TcpPeer<N> as Line>⟧.state peer.old;
+          input = ⟦<StdSource<I> as Line>⟧.state input.old;
+          output = ⟦<StdSink<O> as Line>⟧.state output.old;
+          watchers = watchers.old;
+        })
+        (record {
+          port = ⟦<TcpPort<N> as Line>⟧.state port.new;
+          peer = ⟦<TcpPeer<N> as Line>⟧.state peer.new;
+          input = ⟦<StdSource<I> as Line>⟧.state input.new;
+          output = ⟦<StdSink<O> as Line>⟧.state output.new;
+          watchers = watchers.new;
+        })
         × Tells (words_of exit) (⟦<StdSink<E> as Line>⟧.state errors.old)
         (⟦<StdSink<E> as Line>⟧.state errors.new) }
 {
@@ -79,19 +97,37 @@ pub fn start<N: Net + Clock + Drop, I: Read, O: Write, E: Write + Drop>(
     ensures status_0_done { result ≡ 0
         → IsDone ⟦<Option<Audit<StdSink<E>>> as Watchers<Edit>>⟧.keeps
         (option_and_then (λ words. command_of (map string_bytes words.items)) words)
-        (⟦<TcpPort<N> as Line>⟧.state port.old) (⟦<TcpPort<N> as Line>⟧.state port.new)
-        (⟦<TcpPeer<N> as Line>⟧.state peer.old) (⟦<TcpPeer<N> as Line>⟧.state peer.new)
-        (⟦<StdSource<I> as Line>⟧.state input.old) (⟦<StdSource<I> as Line>⟧.state input.new)
-        (⟦<StdSink<O> as Line>⟧.state output.old) (⟦<StdSink<O> as Line>⟧.state output.new)
-        audit.old audit.new }
+        (record {
+          port = ⟦<TcpPort<N> as Line>⟧.state port.old;
+          peer = ⟦<TcpPeer<N> as Line>⟧.state peer.old;
+          input = ⟦<StdSource<I> as Line>⟧.state input.old;
+          output = ⟦<StdSink<O> as Line>⟧.state output.old;
+          watchers = audit.old;
+        })
+        (record {
+          port = ⟦<TcpPort<N> as Line>⟧.state port.new;
+          peer = ⟦<TcpPeer<N> as Line>⟧.state peer.new;
+          input = ⟦<StdSource<I> as Line>⟧.state input.new;
+          output = ⟦<StdSink<O> as Line>⟧.state output.new;
+          watchers = audit.new;
+        }) }
     ensures exit_status { (exit : Exit) × (result ≡ status_of exit)
         × Runs ⟦<Option<Audit<StdSink<E>>> as Watchers<Edit>>⟧.keeps
         (option_and_then (λ words. command_of (map string_bytes words.items)) words) exit
-        (⟦<TcpPort<N> as Line>⟧.state port.old) (⟦<TcpPort<N> as Line>⟧.state port.new)
-        (⟦<TcpPeer<N> as Line>⟧.state peer.old) (⟦<TcpPeer<N> as Line>⟧.state peer.new)
-        (⟦<StdSource<I> as Line>⟧.state input.old) (⟦<StdSource<I> as Line>⟧.state input.new)
-        (⟦<StdSink<O> as Line>⟧.state output.old)
-        (⟦<StdSink<O> as Line>⟧.state output.new) audit.old audit.new
+        (record {
+          port = ⟦<TcpPort<N> as Line>⟧.state port.old;
+          peer = ⟦<TcpPeer<N> as Line>⟧.state peer.old;
+          input = ⟦<StdSource<I> as Line>⟧.state input.old;
+          output = ⟦<StdSink<O> as Line>⟧.state output.old;
+          watchers = audit.old;
+        })
+        (record {
+          port = ⟦<TcpPort<N> as Line>⟧.state port.new;
+          peer = ⟦<TcpPeer<N> as Line>⟧.state peer.new;
+          input = ⟦<StdSource<I> as Line>⟧.state input.new;
+          output = ⟦<StdSink<O> as Line>⟧.state output.new;
+          watchers = audit.new;
+        })
         × Tells (words_of exit) (⟦<StdSink<E> as Line>⟧.state errors.old)
         (⟦<StdSink<E> as Line>⟧.state errors.new) }
     ensures no_words_status { words ≡ None → result ≡ status_of Exit.OutOfMemory }

@@ -1,10 +1,10 @@
 -- The error that the body of a response names, by how the body was parsed.
 use Rattle.std.proofs.Common.{◌≡◌, ℕ, List, [], Option, None, Result, Ok, Err, IfOk, refl, subst}
-use Rattle.xml_tree.specs.Limits.{max_levels}
-use Rattle.xml_tree.specs.Memory.{Answered}
+use Rattle.xml_names.specs.Limits.{max_levels}
+use Rattle.xml_names.specs.Memory.{Answered}
 use Rattle.xml_tree.specs.Tree.{Tree}
-use Rattle.xml_tree.specs.declared.read_error.ReadError.{ReadError}
-use Rattle.xml_tree.specs.declared.read_error.ReadError.TheVariants.{Fault}
+use Rattle.xml_names.specs.declared.read_error.ReadError.{ReadError}
+use Rattle.xml_names.specs.declared.read_error.ReadError.TheVariants.{Fault}
 use Rattle.tree_text.specs.Faults.{TextAnswer}
 use Rattle.tree_text.specs.declared.fault.TextFault.{TextFault}
 use Rattle.xcap_client.specs.Conflicts.{NamesError, error_document_of}

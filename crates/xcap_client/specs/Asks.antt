@@ -4,7 +4,8 @@ use Rattle.xcap_client.specs.declared.request.Ask.{Ask}
 
 -- a request without a body
 abbrev pub bare : List ℕ → Option (List ℕ) → List ℕ → Ask
-bare method user path = record { method = method; path = path; user = user; media = None; body = [] }
+bare method user path =
+    record { method = method; path = path; user = user; media = None; body = [] }
 
 -- GET
 abbrev pub getting : Option (List ℕ) → List ℕ → Ask

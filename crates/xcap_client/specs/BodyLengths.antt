@@ -1,11 +1,13 @@
 -- The length of a response's body (RFC 9112, section 6.3), by its status and its fields, and the
 -- body in the bytes after the head.
-use Rattle.std.specs.Prelude.{ℕ, ◌+◌, ◌<◌, ◌≤◌, ◌==◌, nat_lt, min, Bool, not, ◌||◌, if◌then◌else◌, List, [], ◌∷◌, length, take, codes, Result, Ok, Err}
+use Rattle.std.specs.Prelude.{ℕ, ◌+◌, ◌<◌, ◌≤◌, ◌==◌, nat_lt, min, Bool, not, ◌||◌, if◌then◌else◌}
+use Rattle.std.specs.Prelude.{List, [], ◌∷◌, length, take, codes, Result, Ok, Err}
 use Rattle.std.specs.Str.Parse.{digits_value}
-use Rattle.xml_tree.specs.Limits.{u64_max}
+use Rattle.xml_names.specs.Limits.{u64_max}
 use Rattle.http_wire.specs.Fields.{values_of, is_number}
 use Rattle.xcap_client.specs.declared.response_fault.ResponseFault.{ResponseFault}
-use Rattle.xcap_client.specs.declared.response_fault.ResponseFault.TheVariants.{Coding, Length, TooLong, Short}
+use Rattle.xcap_client.specs.declared.response_fault.ResponseFault.TheVariants.{Coding, Length}
+use Rattle.xcap_client.specs.declared.response_fault.ResponseFault.TheVariants.{TooLong, Short}
 use Rattle.xcap_client.specs.declared.body_length.BodyLength.{BodyLength}
 use Rattle.xcap_client.specs.declared.body_length.BodyLength.TheVariants.{Empty, Exactly, ToEnd}
 use Rattle.xcap_client.specs.Limits.{max_response_body_bytes}
@@ -32,13 +34,17 @@ extent_by_length bodiless (value ∷ other ∷ more) = Err Length
 unfoldable pub extent_by : ℕ → List (List ℕ × List ℕ) → Result BodyLength ResponseFault
 extent_by status fields =
     if nat_lt 0 (length (values_of (codes "transfer-encoding") fields)) then Err Coding
-    else extent_by_length ((status == 204) || (status == 304)) (values_of (codes "content-length") fields)
+    else extent_by_length ((status == 204) || (status == 304))
+    (values_of (codes "content-length") fields)
 
 -- the body, where these are all bytes after the head
 abbrev pub body_by : BodyLength → List ℕ → Result (List ℕ) ResponseFault
 body_by Empty rest = Ok []
-body_by (Exactly n) rest = if nat_lt (length rest) n then Err (Short (length rest) n) else Ok (take n rest)
-body_by ToEnd rest = if nat_lt max_response_body_bytes (length rest) then Err (TooLong (max_response_body_bytes + 1)) else Ok rest
+body_by (Exactly n) rest =
+    if nat_lt (length rest) n then Err (Short (length rest) n) else Ok (take n rest)
+body_by ToEnd rest =
+    if nat_lt max_response_body_bytes (length rest) then Err (TooLong (max_response_body_bytes + 1))
+    else Ok rest
 
 -- the body, where the head may have a fault
 abbrev pub body_to : Result BodyLength ResponseFault → List ℕ → Result (List ℕ) ResponseFault

@@ -1,6 +1,7 @@
 -- The results of the client's calls: the result of their exchange, judged by its status (RFC 9110,
 -- section 15).
-use Rattle.std.specs.Prelude.{◌≡◌, ℕ, Bool, true, false, ◌&&◌, nat_le, List, Option, Result, Ok, Err}
+use Rattle.std.specs.Prelude.{◌≡◌, ℕ, Bool, true, false, ◌&&◌, nat_le, List, Option, Result, Ok}
+use Rattle.std.specs.Prelude.{Err}
 use Rattle.xcap_io.specs.Causes.{StreamState}
 use Rattle.xcap_client.specs.declared.request.Ask.{Ask}
 use Rattle.xcap_client.specs.declared.response.Response.{Response}
@@ -17,7 +18,8 @@ is_success status = nat_le 200 status && nat_le status 299
 -- error that its body names; but memory may run out while the body is parsed.
 pub data Judges (response : Response) (result : Result Response ClientFault) : Type 0 where
   succeeds : is_success response.status ≡ true → result ≡ Ok response → Judges response result
-  refuses : (name : Option (List ℕ)) → is_success response.status ≡ false → NamesError response.body name
+  refuses : (name : Option (List ℕ)) → is_success response.status ≡ false
+      → NamesError response.body name
       → result ≡ Err (Refused response.status name) → Judges response result
   lacks_memory : is_success response.status ≡ false → result ≡ Err NoMemory → Judges response result
 
@@ -27,7 +29,8 @@ JudgesAll (Ok response) result = Judges response result
 JudgesAll (Err fault) result = result ≡ Err fault
 
 -- A call: one exchange, whose result is judged.
-pub record Calls (root : List ℕ) (ask : Ask) (old new : StreamState) (result : Result Response ClientFault) : Type 0 where
+pub record Calls (root : List ℕ) (ask : Ask) (old new : StreamState)
+    (result : Result Response ClientFault) : Type 0 where
   pub given : Result Response ClientFault
   pub exchanges : Exchanges root ask old new given
   pub judged : JudgesAll given result

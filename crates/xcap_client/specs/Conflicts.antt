@@ -1,9 +1,10 @@
 -- The error that the body of a response names (RFC 4825, section 11: the child of an `xcap-error`
 -- is named by the error).
-use Rattle.std.specs.Prelude.{◌≡◌, ℕ, Bool, List, [], ◌∷◌, Option, None, Some, Result, Ok, Err, codes, option_map, slice_get, if◌then◌else◌}
-use Rattle.xml_tree.specs.Limits.{max_levels}
+use Rattle.std.specs.Prelude.{◌≡◌, ℕ, Bool, List, [], ◌∷◌, Option, None, Some, Result, Ok, Err}
+use Rattle.std.specs.Prelude.{codes, option_map, slice_get, if◌then◌else◌}
+use Rattle.xml_names.specs.Limits.{max_levels}
 use Rattle.xml_tree.specs.Tree.{Tree, child_elements_of}
-use Rattle.xml_tree.specs.Expanded.{element_name, same_expanded}
+use Rattle.xml_names.specs.Expanded.{element_name, same_expanded}
 use Rattle.tree_text.specs.declared.fault.TextFault.{TextFault}
 use Rattle.tree_text.specs.Faults.{TextAnswer}
 
@@ -14,12 +15,17 @@ error_uri = codes "urn:ietf:params:xml:ns:xcap-error"
 -- the root is an `xcap-error` in that namespace
 abbrev pub is_conflict : Tree → Bool
 is_conflict root =
-    same_expanded (element_name (root.decls ∷ []) root.name) (record { uri = Some error_uri; local = codes "xcap-error" })
+    same_expanded (element_name (root.decls ∷ []) root.name)
+    (record { uri = Some error_uri; local = codes "xcap-error" })
 
 -- the error named by bytes that are parsed so: the local name of the first element in an error
 -- document; bytes that are no document name none
 abbrev pub error_document_of : Result Tree TextFault → Option (List ℕ)
-error_document_of (Ok root) = if is_conflict root then option_map (λ child_element. child_element.name.local) (slice_get (child_elements_of root) 0) else None
+error_document_of (Ok root) =
+    if is_conflict root
+    then option_map (λ child_element. child_element.name.local)
+    (slice_get (child_elements_of root) 0)
+    else None
 error_document_of (Err fault) = None
 
 -- parsed as a document of at most `max_levels` levels, the body names this error, or none

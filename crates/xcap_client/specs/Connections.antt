@@ -29,16 +29,22 @@ pub record OneBegan (root : List ℕ) (old new : StreamState) (passed : Traffic)
 -- A call began no connection, and has no response; or it began one, and the request was written in
 -- part; or it was written in whole, and the result is the meaning of the bytes given on that
 -- connection.
-pub data ConnectsOnce (root : List ℕ) (ask : Ask) (old new : StreamState) (result : Result Response ClientFault) : Type 0 where
-  none_began : NoneBegan old new → (result ≡ Err NoMemory) ⊎ (result ≡ Err PeerFault) → ConnectsOnce root ask old new result
-  broke_off : (passed : Traffic) → OneBegan root old new passed → TookProperPrefix [] passed.taken (request_bytes root ask)
+pub data ConnectsOnce (root : List ℕ) (ask : Ask) (old new : StreamState)
+    (result : Result Response ClientFault) : Type 0 where
+  none_began : NoneBegan old new → (result ≡ Err NoMemory) ⊎ (result ≡ Err PeerFault)
+      → ConnectsOnce root ask old new result
+  broke_off : (passed : Traffic) → OneBegan root old new passed
+      → TookProperPrefix [] passed.taken (request_bytes root ask)
       → result ≡ Err PeerFault → ConnectsOnce root ask old new result
-  responded : (passed : Traffic) (answer : Result Response ResponseFault) → OneBegan root old new passed
+  responded : (passed : Traffic) (answer : Result Response ResponseFault)
+      → OneBegan root old new passed
       → passed.taken ≡ request_bytes root ask
-      → ByCause answer (DecidesNothing passed.given) (IsDecided passed.given passed.ended) → JudgesAll (answer_to answer) result
+      → ByCause answer (DecidesNothing passed.given) (IsDecided passed.given passed.ended)
+      → JudgesAll (answer_to answer) result
       → ConnectsOnce root ask old new result
 
 -- a count of the peer rose: of failed connections, of failed writes or of failed reads
 abbrev pub PeerFailed : StreamState → StreamState → Type 0
 PeerFailed old new =
-    CountRises old.peer.faults new.peer.faults ⊎ (CountRises old.write_faults new.write_faults ⊎ CountRises old.read_faults new.read_faults)
+    CountRises old.peer.faults new.peer.faults
+    ⊎ (CountRises old.write_faults new.write_faults ⊎ CountRises old.read_faults new.read_faults)

@@ -31,14 +31,20 @@ answer_to (Err fault) = Err (exchange_fault fault)
 -- One exchange: memory ran out before it; or no connection began; or one at the root's address
 -- began, and a write failed, so that a proper prefix of the request was written; or the whole
 -- request was, and then the response was read.
-pub data Exchanges (root : List ℕ) (ask : Ask) (old new : StreamState) (result : Result Response ClientFault) : Type 0 where
+pub data Exchanges (root : List ℕ) (ask : Ask) (old new : StreamState)
+    (result : Result Response ClientFault) : Type 0 where
   not_begun : new ≡ old → result ≡ Err faults.NoMemory → Exchanges root ask old new result
-  not_connected : ConnectFailed old new → result ≡ Err faults.PeerFault → Exchanges root ask old new result
-  not_sent : (begun : StreamState) → Connects old begun (encode_utf8_all (address_of root)) → Writes begun new
-      → CountRises begun.write_faults new.write_faults → TookProperPrefix begun.taken new.taken (request_bytes root ask)
+  not_connected : ConnectFailed old new → result ≡ Err faults.PeerFault
+      → Exchanges root ask old new result
+  not_sent : (begun : StreamState) → Connects old begun (encode_utf8_all (address_of root))
+      → Writes begun new
+      → CountRises begun.write_faults new.write_faults
+      → TookProperPrefix begun.taken new.taken (request_bytes root ask)
       → result ≡ Err faults.PeerFault → Exchanges root ask old new result
   answered : (begun sent : StreamState) (answer : Result Response ResponseFault)
-      → Connects old begun (encode_utf8_all (address_of root)) → Writes begun sent → sent.write_faults ≡ begun.write_faults
-      → Took begun.taken sent.taken (request_bytes root ask) → Reads sent new → AnswersRead sent.inward new.inward answer
+      → Connects old begun (encode_utf8_all (address_of root)) → Writes begun sent
+      → sent.write_faults ≡ begun.write_faults
+      → Took begun.taken sent.taken (request_bytes root ask) → Reads sent new
+      → AnswersRead sent.inward new.inward answer
       → CountsFault sent.read_faults new.read_faults answer → result ≡ answer_to answer
       → Exchanges root ask old new result

@@ -1,6 +1,7 @@
 -- Which requests a server parses as they were meant, and as what request. A server is one that
 -- parses a connection's bytes as `http_wire` specifies (RFC 9112).
-use Rattle.std.specs.Prelude.{◌≡◌, ℕ, ◌≤◌, ◌⊎◌, Bool, true, ◌||◌, ◌==◌, List, [], ◌∷◌, IfSome, map, length, codes}
+use Rattle.std.specs.Prelude.{◌≡◌, ℕ, ◌≤◌, ◌⊎◌, Bool, true, ◌||◌, ◌==◌, List, [], ◌∷◌, IfSome, map}
+use Rattle.std.specs.Prelude.{length, codes}
 use Rattle.std.specs.List.{list_any, list_all}
 use Rattle.std.specs.Char.{is_ascii_alphanumeric}
 use Rattle.http_wire.specs.declared.request.Request.{Request}
@@ -18,7 +19,8 @@ IsPlain text = list_all is_plain_char text ≡ true
 
 -- the method is one of three, the texts are plain, and the lengths are within the server's limits
 pub record IsSendable (root : List ℕ) (ask : Ask) : Type 0 where
-  pub method : (ask.method ≡ codes "GET") ⊎ ((ask.method ≡ codes "PUT") ⊎ (ask.method ≡ codes "DELETE"))
+  pub method : (ask.method ≡ codes "GET")
+      ⊎ ((ask.method ≡ codes "PUT") ⊎ (ask.method ≡ codes "DELETE"))
   pub path : IsPlain ask.path
   pub user : IfSome ask.user IsPlain
   pub media : IfSome ask.media IsPlain

@@ -1,6 +1,7 @@
 -- The requests of a client and their bytes (RFC 9112, sections 2.1, 3, 5 and 6.2; RFC 4825,
 -- sections 6.1 and 7).
-use Rattle.std.specs.Prelude.{◌≡◌, ◌≢◌, ◌↔◌, ℕ, List, [], ◌∷◌, ◌++◌, IsSome, flat_map, length, codes, decimal, encode_utf8_all}
+use Rattle.std.specs.Prelude.{◌≡◌, ◌≢◌, ◌↔◌, ℕ, List, [], ◌∷◌, ◌++◌, IsSome, flat_map, length}
+use Rattle.std.specs.Prelude.{codes, decimal, encode_utf8_all}
 use Rattle.std.specs.Option.{option_map_or}
 use Rattle.httparse.specs.Ascii.{crlf_bytes, space}
 use Rattle.xcap_uri.specs.Roots.{authority_of, path_of, slash}
@@ -22,7 +23,8 @@ user_field user = (codes "X-XCAP-User", encode_utf8_all user) ∷ []
 -- the fields about the body
 abbrev pub content_fields : List ℕ → List ℕ → List (List ℕ × List ℕ)
 content_fields body media =
-    (codes "Content-Type", encode_utf8_all media) ∷ (codes "Content-Length", decimal (length body)) ∷ []
+    (codes "Content-Type", encode_utf8_all media) ∷ (codes "Content-Length", decimal (length body))
+    ∷ []
 
 -- the names and values of the fields, in order
 abbrev pub fields_of : List ℕ → Ask → List (List ℕ × List ℕ)
@@ -43,7 +45,8 @@ request_line method target = method ++ space ∷ (target ++ space ∷ (codes "HT
 -- the head of a request: the request line, the field lines and an empty line
 abbrev pub head_bytes : List ℕ → Ask → List ℕ
 head_bytes root ask =
-    request_line (encode_utf8_all ask.method) (target_of root ask) ++ (flat_map field_line (fields_of root ask) ++ crlf_bytes)
+    request_line (encode_utf8_all ask.method) (target_of root ask)
+    ++ (flat_map field_line (fields_of root ask) ++ crlf_bytes)
 
 -- the whole request
 abbrev pub request_bytes : List ℕ → Ask → List ℕ

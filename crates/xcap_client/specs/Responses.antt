@@ -27,26 +27,32 @@ response_of head tag body = record { status = status_code head; tag = tag; body 
 -- have a fault; or they are a response, with any bytes after its body.
 pub data SaysResponse (bytes : List ℕ) (answer : Result Response ResponseFault) : Type 0 where
   no_head : HasNoHead bytes → answer ≡ Err Head → SaysResponse bytes answer
-  refused : (head : ResponseHead) (rest : List ℕ) (fault : ResponseFault) → BeginsWithHead bytes head rest
+  refused : (head : ResponseHead) (rest : List ℕ) (fault : ResponseFault)
+      → BeginsWithHead bytes head rest
       → body_to (extent_of head) rest ≡ Err fault → answer ≡ Err fault → SaysResponse bytes answer
-  responds : (head : ResponseHead) (rest : List ℕ) (tag : Option (List ℕ)) (body : List ℕ) → BeginsWithHead bytes head rest
+  responds : (head : ResponseHead) (rest : List ℕ) (tag : Option (List ℕ)) (body : List ℕ)
+      → BeginsWithHead bytes head rest
       → TagIs (map name_and_value head.fields) tag → body_to (extent_of head) rest ≡ Ok body
       → answer ≡ Ok (response_of head tag body) → SaysResponse bytes answer
 
 -- These bytes were given, and this is the meaning of the connection's bytes: however they go on,
 -- or as a read found their end.
 abbrev pub IsDecided : List ℕ → Bool → Result Response ResponseFault → Type 0
-IsDecided given ended answer = ((more : List ℕ) → SaysResponse (given ++ more) answer) ⊎ ((ended ≡ true) × SaysResponse given answer)
+IsDecided given ended answer =
+    ((more : List ℕ) → SaysResponse (given ++ more) answer)
+    ⊎ ((ended ≡ true) × SaysResponse given answer)
 
 -- These bytes don't decide the meaning: there is no head in them, or more of the body is due.
 pub data DecidesNothing (bytes : List ℕ) : Type 0 where
   lacks_head : HasNoHead bytes → DecidesNothing bytes
-  lacks_body : (head : ResponseHead) (rest : List ℕ) (extent : BodyLength) → BeginsWithHead bytes head rest
+  lacks_body : (head : ResponseHead) (rest : List ℕ) (extent : BodyLength)
+      → BeginsWithHead bytes head rest
       → extent_of head ≡ Ok extent → LacksMore extent rest → DecidesNothing bytes
 
 -- Bytes were read from the source, and the result is their meaning; where a read failed, they
 -- don't decide.
-pub record AnswersRead (source source' : InputState) (result : Result Response ResponseFault) : Type 0 where
+pub record AnswersRead (source source' : InputState)
+    (result : Result Response ResponseFault) : Type 0 where
   pub read : List ℕ
   pub given : Gave source source' read
   pub answer : ByCause result (DecidesNothing read) (IsDecided read source'.ended)

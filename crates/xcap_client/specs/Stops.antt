@@ -18,7 +18,8 @@ CountsFault before now _ = now ≡ before
 
 -- By the cause of a result: where a read failed, `Lacks`; out of memory, nothing; and else `Said`
 -- of the result.
-abbrev pub ByCause : {T : Type 0} → Result T ResponseFault → Type 0 → (Result T ResponseFault → Type 0) → Type 0
+abbrev pub ByCause : {T : Type 0} → Result T ResponseFault → Type 0
+    → (Result T ResponseFault → Type 0) → Type 0
 ByCause (Err faults.ReadFailed) Lacks Said = Lacks
 ByCause (Err faults.NoMemory) Lacks Said = Unit {0}
 ByCause result Lacks Said = Said result

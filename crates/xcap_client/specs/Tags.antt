@@ -5,7 +5,9 @@ use Rattle.http_wire.specs.Fields.{values_of}
 
 -- the value is an entity tag, weak or not, with this text between its quotes
 abbrev pub IsTagWith : List ℕ → List ℕ → Type 0
-IsTagWith value opaque = (weak : Bool) × AreAll is_tag_byte opaque × (value ≡ tag_text (record { weak = weak; opaque = opaque }))
+IsTagWith value opaque =
+    (weak : Bool) × AreAll is_tag_byte opaque
+    × (value ≡ tag_text (record { weak = weak; opaque = opaque }))
 
 -- There is one `ETag` field, its value is an entity tag, and the bytes between the quotes are this
 -- text in UTF-8.

@@ -5,7 +5,7 @@ ghost use Rattle.xcap_client.specs.Addresses.{names_port, address_of};
 use std::alloc::Global;
 use xcap_io::NoMemory;
 use xcap_uri::Root;
-use xml_tree::Text;
+use xml_names::Text;
 
 // Whether a port comes after the host, which may be an IPv6 literal in brackets.
 fn names_port(authority: &[u8]) -> bool

@@ -6,7 +6,7 @@ ghost use Rattle.xcap_client.specs.Asks.{bare, getting, removing, putting};
 use crate::Ask;
 use std::alloc::Global;
 use xcap_io::{Bytes, NoMemory};
-use xml_tree::Text;
+use xml_names::Text;
 
 /// A copy of a user's name.
 ///

@@ -1,9 +1,11 @@
 // The length of a response's body (RFC 9112, section 6.3).
-ghost use Rattle.std.specs.Prelude.{◌≡◌, ℕ, List, [], ◌∷◌, All, map, length, IfErr, Some, None, if◌then◌else◌};
+ghost use Rattle.std.specs.Prelude.{◌≡◌, ℕ, List, [], ◌∷◌, All, map, length, IfErr, Some, None};
+ghost use Rattle.std.specs.Prelude.{if◌then◌else◌};
 ghost use Rattle.httparse.specs.Spans.{IsHeaderWithin, header_bytes};
 ghost use Rattle.http_wire.specs.Fields.{is_number, Found};
 ghost use Rattle.xcap_client.specs.inner.FillErrors.{IsOfFields};
-ghost use Rattle.xcap_client.specs.BodyLengths.{capped_value, within_limit, extent_by_length, extent_by};
+ghost use Rattle.xcap_client.specs.BodyLengths.{capped_value, within_limit, extent_by_length};
+ghost use Rattle.xcap_client.specs.BodyLengths.{extent_by};
 
 use crate::ResponseFault;
 use http_wire::{FieldLookup, find};

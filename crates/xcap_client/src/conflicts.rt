@@ -1,13 +1,15 @@
 // The error that an error document names (RFC 4825, section 11).
 ghost use Rattle.std.specs.Prelude.{◌≡◌, [], ◌∷◌, chars, option_map, IfOk};
 ghost use Rattle.std.specs.Str.{bytes_eq};
-ghost use Rattle.xml_tree.specs.Scopes.{bound};
-ghost use Rattle.xcap_client.specs.Conflicts.{NamesError, error_document_of, error_uri, is_conflict};
+ghost use Rattle.xml_names.specs.Scopes.{bound};
+ghost use Rattle.xcap_client.specs.Conflicts.{NamesError, error_document_of, error_uri};
+ghost use Rattle.xcap_client.specs.Conflicts.{is_conflict};
 
 use std::alloc::Global;
 use tree_text::read_document;
 use xcap_io::NoMemory;
-use xml_tree::{Element, MAX_LEVELS, ReadError, Scope, Text};
+use xml_names::{MAX_LEVELS, ReadError, Text};
+use xml_tree::{Element, Scope};
 
 fn is_error_uri(uri: &str) -> bool
     ensures exact { result ≡ bytes_eq (chars uri.now) error_uri }

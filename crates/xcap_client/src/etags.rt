@@ -1,5 +1,6 @@
 // The entity tag of a response (RFC 9110, section 8.8.3).
-ghost use Rattle.std.specs.Prelude.{◌≡◌, ℕ, List, [], ◌∷◌, ◌++◌, All, map, length, IfOk, MatchOption, Some};
+ghost use Rattle.std.specs.Prelude.{◌≡◌, ℕ, List, [], ◌∷◌, ◌++◌, All, map, length, IfOk};
+ghost use Rattle.std.specs.Prelude.{MatchOption, Some};
 ghost use Rattle.std.specs.List.{list_all};
 ghost use Rattle.httparse.specs.Spans.{IsHeaderWithin, header_bytes};
 ghost use Rattle.request_checks.specs.Tags.{is_tag_byte};
@@ -12,7 +13,7 @@ use request_checks::is_tag_byte;
 use std::alloc::Global;
 use std::str::from_utf8;
 use xcap_io::NoMemory;
-use xml_tree::Text;
+use xml_names::Text;
 
 fn are_tag_bytes(bytes: &[u8]) -> bool
     ensures exact { result ≡ list_all is_tag_byte bytes.now }

@@ -6,7 +6,7 @@ ghost use Rattle.xcap_client.specs.Exchanges.{exchange_fault};
 use crate::ResponseFault;
 use thiserror::Error;
 use xcap_io::{Failed, NoMemory};
-use xml_tree::Text;
+use xml_names::Text;
 
 /// Why a call gave no response.
 #[derive(Debug, Drop, Error)]

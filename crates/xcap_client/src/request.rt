@@ -4,12 +4,13 @@ ghost use Rattle.std.specs.Option.{option_map_or};
 ghost use Rattle.xcap_io.specs.Adds.{Adds};
 ghost use Rattle.xcap_io.specs.Causes.{OnlyWrites};
 ghost use Rattle.xcap_io.specs.Streams.{WritesAll};
-ghost use Rattle.xcap_client.specs.Requests.{IsLawful, user_field, content_fields, field_line, request_bytes};
+ghost use Rattle.xcap_client.specs.Requests.{IsLawful, user_field, content_fields, field_line};
+ghost use Rattle.xcap_client.specs.Requests.{request_bytes};
 
 use itoa::Buffer;
 use xcap_io::{Bytes, Failed, Line, Sink, WriteBuffer, flush, put};
 use xcap_uri::Root;
-use xml_tree::Text;
+use xml_names::Text;
 
 /// A request to a server: a method, a path under its root, the user who asks, and for a PUT the
 /// media type of the body and the body.

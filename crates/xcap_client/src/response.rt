@@ -15,7 +15,7 @@ use http_wire::MAX_FIELDS;
 use httparse::spans::EMPTY_HEADER_SPAN;
 use std::alloc::Global;
 use xcap_io::{Bytes, Line, Source};
-use xml_tree::Text;
+use xml_names::Text;
 
 /// A response with its whole body.
 #[derive(Drop)]

@@ -3,9 +3,9 @@ use Rattle.std.proofs.Common.{◌≡◌, ◌≤◌, ◌<◌, ℕ, Bor, List, [],
 use Rattle.std.proofs.lemmas.List.Elements.{All-map, recursion_from_All}
 use Rattle.std.specs.List.{All, AllByRecursion}
 use Rattle.xml_tree.specs.Tree.{Tree, height}
-use Rattle.xml_tree.specs.Memory.{OfFault}
-use Rattle.xml_tree.specs.declared.read_error.ReadError.{ReadError}
-use Rattle.xml_tree.specs.declared.read_error.ReadError.TheVariants.{Fault, NoMemory}
+use Rattle.xml_names.specs.Memory.{OfFault}
+use Rattle.xml_names.specs.declared.read_error.ReadError.{ReadError}
+use Rattle.xml_names.specs.declared.read_error.ReadError.TheVariants.{Fault, NoMemory}
 use Rattle.usage_docs.specs.Services.{service_elements, index_of, index_of_documents, index_len, index_limit, document_len, RefusesServices}
 use Rattle.usage_docs.specs.declared.service_index.IndexFault.{IndexFault}
 use Rattle.usage_docs.specs.declared.service_index.IndexFault.TheVariants.{TooLarge}

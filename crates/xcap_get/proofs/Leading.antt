@@ -5,9 +5,9 @@ use Rattle.store_core.specs.Contents.{StoreContents as Content}
 use Rattle.xml_tree.specs.Tree.{Tree}
 use Rattle.usage_docs.specs.Services.{document_len, index_limit}
 use Rattle.usage_docs.specs.declared.service_index.IndexFault.{IndexFault}
-use Rattle.xml_tree.specs.Memory.{OfFault}
-use Rattle.xml_tree.specs.declared.read_error.ReadError.{ReadError}
-use Rattle.xml_tree.specs.declared.read_error.ReadError.TheVariants.{Fault, NoMemory}
+use Rattle.xml_names.specs.Memory.{OfFault}
+use Rattle.xml_names.specs.declared.read_error.ReadError.{ReadError}
+use Rattle.xml_names.specs.declared.read_error.ReadError.TheVariants.{Fault, NoMemory}
 use Rattle.doc_names.specs.declared.doc_id.Auid.TheVariants.{RlsServices}
 use Rattle.xcap_get.specs.inner.FoundResources.{HasLongIndex}
 use Rattle.xcap_machine.specs.Resources.{IsIndexOfServices, LeadsUnderGlobal, beyond_limit, there}

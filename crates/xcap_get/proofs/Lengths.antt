@@ -3,8 +3,9 @@ use Rattle.std.proofs.Common.{◌≡◌, ◌≤◌, ℕ, ◌+◌, List, [], ◌�
 use Rattle.std.proofs.lemmas.Grind.{flat_map-append}
 use lib.Utf8.{encode}
 use Rattle.xml_tree.specs.Tree.{Tree}
-use Rattle.xml_tree.specs.Print.{print, byte_len}
-use Rattle.xml_tree.proofs.PrintLengths.{byte_len-append}
+use Rattle.xml_names.specs.Markup.{byte_len}
+use Rattle.xml_tree.specs.Print.{print}
+use Rattle.xml_names.proofs.PrintLengths.{byte_len-append}
 use Rattle.usage_docs.specs.SchemaTable.{services_namespace}
 use Rattle.usage_docs.specs.Services.{index_name, index_decls, index_len}
 use Rattle.usage_docs.proofs.ListingLemmas.{index_prints}

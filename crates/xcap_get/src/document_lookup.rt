@@ -5,7 +5,8 @@ ghost use Rattle.std.specs.Str.{bytes_eq};
 ghost use Rattle.usage_docs.specs.Capabilities.{capabilities};
 ghost use Rattle.doc_names.specs.declared.doc_id.Auid.TheVariants.{RlsServices};
 ghost use Rattle.store_core.specs.Indexes.{index};
-ghost use Rattle.xcap_machine.specs.Resources.{IsResourceOf, LeadsUnderGlobal, absent, there, version_of};
+ghost use Rattle.xcap_machine.specs.Resources.{IsResourceOf, LeadsUnderGlobal, absent, there};
+ghost use Rattle.xcap_machine.specs.Resources.{version_of};
 ghost use Rattle.xcap_get.specs.inner.FoundResources.{IsWithinLevels, resource_of};
 
 use crate::NoMemory;
@@ -14,7 +15,8 @@ use doc_names::{Auid, DocId, Home};
 use std::alloc::{AllocError, Global};
 use store_core::Store;
 use usage_docs::capabilities_document;
-use xml_tree::{Element, ReadError};
+use xml_names::ReadError;
+use xml_tree::Element;
 
 /// The resource of an address.
 #[derive(Drop)]
@@ -105,7 +107,8 @@ pub fn find_resource<'a>(
     store: &'a Store,
     doc: &DocId,
 ) -> Result<DocumentLookup<'a>, NoMemory>
-    ensures leads_there { IfOk result (λ f. IsResourceOf store.now.content doc.now (resource_of f)) }
+    ensures leads_there { IfOk result (λ f.
+        IsResourceOf store.now.content doc.now (resource_of f)) }
     ensures found_within_levels { IfOk result (λ f. IsWithinLevels f) }
 {
     match &doc.home {

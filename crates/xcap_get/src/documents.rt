@@ -31,8 +31,8 @@ fn document_reply(
     request: &Request,
 ) -> Result<Reply, NoMemory>
     ensures sends_found { IfOk result
-        (λ r. SendsFound (Some (encode_utf8_all (document_print root.now))) tag media method
-        request.now (unchanged r)) }
+        (λ r. SendsFound (Some (encode_utf8_all (document_print root.now))) tag media
+        (record { method = method; request = request.now }) (unchanged r)) }
 {
     if let Some(reply) = condition_reply(alloc, request, Some(tag), true, true)? {
         return Ok(reply);
@@ -50,7 +50,8 @@ fn get_printed(
     request: &Request,
 ) -> Result<Reply, NoMemory>
     ensures machine_reply { IfOk result
-        (λ r. ReadsDocument store.now.content doc.now method request.now (unchanged r)) }
+        (λ r. ReadsDocument store.now.content doc.now
+        (record { method = method; request = request.now }) (unchanged r)) }
 {
     let media = document_media(doc.auid);
     match find_resource(alloc, store, doc)? {
@@ -112,7 +113,8 @@ fn stored_reply(
 ) -> Result<Reply, NoMemory>
     requires stored_there { IsHeldWith store.old.content doc.now tag }
     ensures machine_reply { IfOk result
-        (λ r. ReadsDocument store.old.content doc.now method request.now (unchanged r)) }
+        (λ r. ReadsDocument store.old.content doc.now
+        (record { method = method; request = request.now }) (unchanged r)) }
     ensures contents_unchanged { store.new ≡ store.old }
 {
     match condition_reply(alloc, request, Some(tag), true, true)? {
@@ -135,7 +137,8 @@ pub fn get_document(
     request: &Request,
 ) -> Result<Reply, NoMemory>
     ensures machine_reply { IfOk result
-        (λ r. ReadsDocument store.old.content doc.now method request.now (unchanged r)) }
+        (λ r. ReadsDocument store.old.content doc.now
+        (record { method = method; request = request.now }) (unchanged r)) }
     ensures contents_unchanged { store.new ≡ store.old }
 {
     match stored_tag(store, doc) {

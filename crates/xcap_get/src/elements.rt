@@ -29,9 +29,15 @@ pub fn get_element_feed(
     method: Method,
     request: &Request,
 ) -> Result<Reply, NoMemory>
-    ensures machine_reply { IfOk result (λ r. ReadsElementFeed root.now store.now.content
-        watch.entry.tag watch.entry.doc.now watch.entry.selector.now watch.entry.raw.now method
-        request.now (unchanged r)) }
+    ensures machine_reply { IfOk result (λ r. ReadsElementFeed
+        (record { root = root.now; content = store.now.content })
+        (record {
+          tag = watch.entry.tag;
+          id = watch.entry.doc.now;
+          selector = watch.entry.selector.now;
+          raw = watch.entry.raw.now;
+        })
+        (record { method = method; request = request.now }) (unchanged r)) }
 {
     let text = match element_notice(alloc, store, root, watch) {
         Ok(text) => text,

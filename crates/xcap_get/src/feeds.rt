@@ -38,8 +38,10 @@ pub fn get_feed(
     method: Method,
     request: &Request,
 ) -> Result<Reply, NoMemory>
-    ensures machine_reply { IfOk result (λ r. ReadsFeed root.now store.now.content
-        feed.entry.mode feed.entry.tag feed.entry.doc.now method request.now (unchanged r)) }
+    ensures machine_reply { IfOk result (λ r. ReadsFeed
+        (record { root = root.now; content = store.now.content })
+        (record { mode = feed.entry.mode; tag = feed.entry.tag; id = feed.entry.doc.now })
+        (record { method = method; request = request.now }) (unchanged r)) }
 {
     let text = match store.since(feed.doc, feed.tag) {
         Since::Gone => gone_notice(alloc, root, feed.doc, feed.tag)?,

@@ -1,6 +1,6 @@
 //! GET and HEAD of flat lists (RFC 4826, section 4; RFC 9110, sections 9.3.1 and 9.3.2).
 ghost use Rattle.std.specs.Prelude.{◌≡◌, None, IfOk, encode_utf8_all};
-ghost use Rattle.xml_tree.specs.Memory.{Answered};
+ghost use Rattle.xml_names.specs.Memory.{Answered};
 ghost use Rattle.xml_tree.specs.Print.{document_print};
 ghost use Rattle.reply_text.specs.ReplyHeads.{plain};
 ghost use Rattle.reply_text.specs.declared.media_types.MediaType.TheVariants as medias;
@@ -18,7 +18,8 @@ use std::alloc::{AllocError, Global};
 use store_core::Store;
 use tree_text::print_document;
 use xcap_uri::Root;
-use xml_tree::{Element, ReadError, Text};
+use xml_names::{ReadError, Text};
+use xml_tree::Element;
 
 // The document of a flat list, or why there is none.
 fn document(
@@ -81,8 +82,8 @@ pub fn get_flat(
     request: &Request,
 ) -> Result<Reply, NoMemory>
     ensures machine_reply { IfOk result
-        (λ r. ReadsFlat root.now store.now.content doc.now service.now method request.now
-        (unchanged r)) }
+        (λ r. ReadsFlat (record { root = root.now; content = store.now.content })
+        doc.now service.now (record { method = method; request = request.now }) (unchanged r)) }
 {
     match document(alloc, root, store, doc, service) {
         Ok(document) => with_document(alloc, &document, method, request.closes),

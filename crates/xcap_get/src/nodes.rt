@@ -1,6 +1,6 @@
 //! GET and HEAD of nodes of documents (RFC 4825, sections 7.6, 7.9, 7.10 and 8.3).
 ghost use Rattle.std.specs.Prelude.{◌≤◌, IfOk};
-ghost use Rattle.xml_tree.specs.Limits.{max_levels};
+ghost use Rattle.xml_names.specs.Limits.{max_levels};
 ghost use Rattle.xml_tree.specs.Tree.{height};
 ghost use Rattle.reply_bodies.specs.Nodes.{encoded, found_text, node_media};
 ghost use Rattle.xcap_machine.specs.Answers.{unchanged};
@@ -32,7 +32,8 @@ fn node_reply(
     requires height_bounded { height root.now ≤ max_levels }
     ensures sends_found { IfOk result
         (λ r. SendsFound (encoded (found_text root.now selector.now)) tag
-        (node_media selector.now.end) method request.now (unchanged r)) }
+        (node_media selector.now.end) (record { method = method; request = request.now })
+        (unchanged r)) }
 {
     let Some(text) = found_text(alloc, root, selector)? else {
         return Ok(Reply::fixed(404, request.closes));
@@ -59,7 +60,8 @@ pub fn get_node(
     request: &Request,
 ) -> Result<Reply, NoMemory>
     ensures machine_reply { IfOk result
-        (λ r. ReadsNode store.now.content doc.now selector.now method request.now (unchanged r)) }
+        (λ r. ReadsNode store.now.content doc.now selector.now
+        (record { method = method; request = request.now }) (unchanged r)) }
 {
     match find_resource(alloc, store, doc)? {
         DocumentLookup::Absent => Ok(Reply::fixed(404, request.closes)),

@@ -1,7 +1,7 @@
 //! The index of all services (RFC 4826, sections 4.4.7 and 4.4.8).
 ghost use Rattle.std.specs.Prelude.{◌≤◌, IfErr, IfOk};
-ghost use Rattle.xml_tree.specs.Limits.{max_levels};
-ghost use Rattle.xml_tree.specs.Memory.{OfFault};
+ghost use Rattle.xml_names.specs.Limits.{max_levels};
+ghost use Rattle.xml_names.specs.Memory.{OfFault};
 ghost use Rattle.xml_tree.specs.Tree.{height};
 ghost use Rattle.usage_docs.specs.Services.{document_len, index_limit};
 ghost use Rattle.xcap_machine.specs.Resources.{IsIndexOfServices};
@@ -10,7 +10,8 @@ ghost use Rattle.xcap_get.specs.inner.FoundResources.{HasLongIndex};
 use std::alloc::Global;
 use store_core::Store;
 use usage_docs::{IndexBuilder, IndexFault};
-use xml_tree::{Element, ReadError};
+use xml_names::ReadError;
+use xml_tree::Element;
 
 /// The index of the services of all stored documents.
 ///

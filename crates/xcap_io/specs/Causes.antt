@@ -1,6 +1,7 @@
 -- What contracts see of a stream, and what a call on it may change. This is the project's own
 -- model of input and output.
-use Rattle.std.specs.Prelude.{◌≡◌, ℕ, ◌+◌, ◌-◌, ◌^◌, ◌≤◌, min, List, [], Bool, false, Option, None, Result, MatchResult}
+use Rattle.std.specs.Prelude.{◌≡◌, ℕ, ◌+◌, ◌-◌, ◌^◌, ◌≤◌, min, List, [], Bool, false, Option, None}
+use Rattle.std.specs.Prelude.{Result, MatchResult}
 use Rattle.std.specs.Borrow.{GName}
 use Rattle.xcap_io.specs.Histories.{Traffic}
 

@@ -1,20 +1,27 @@
 -- What `listen`, `next` and `connect` do. This is the project's own model of connections, one
 -- after the other.
-use Rattle.std.specs.Prelude.{◌≡◌, ℕ, List, [], ◌∷◌, Bool, true, false, Option, Some, IfSome, Result, Ok, Err, MatchResult, option_map}
+use Rattle.std.specs.Prelude.{◌≡◌, ℕ, List, [], ◌∷◌, Bool, true, false, Option, Some, IfSome}
+use Rattle.std.specs.Prelude.{Result, Ok, Err, MatchResult, option_map}
 use Rattle.xcap_io.specs.Causes.{StreamState, CountRises}
 use Rattle.xcap_io.specs.Histories.{Traffic, carried_by, no_traffic}
 
 -- the stream, listening at this address if it shows the address
 abbrev pub listening_at : StreamState → List ℕ → StreamState
-listening_at line address = record line { port = record line.port { listening = option_map (λ _. Some address) line.port.listening } }
+listening_at line address =
+    record line {
+      port = record line.port { listening = option_map (λ _. Some address) line.port.listening };
+    }
 
 -- the port's fault counter rose, and nothing else changed
 abbrev pub ListenFailed : StreamState → StreamState → Type 0
-ListenFailed old new = (new ≡ record old { port = record old.port { faults = new.port.faults } }) × CountRises old.port.faults new.port.faults
+ListenFailed old new =
+    (new ≡ record old { port = record old.port { faults = new.port.faults } })
+    × CountRises old.port.faults new.port.faults
 
 -- On `Ok` the port listens at the address, and at a failure its fault counter rose. Nothing else
 -- changes.
-abbrev pub Listens : {E : Type 0} → StreamState → StreamState → Result (Unit {0}) E → List ℕ → Type 0
+abbrev pub Listens : {E : Type 0} → StreamState → StreamState → Result (Unit {0}) E → List ℕ
+    → Type 0
 Listens old new result address = MatchResult result
     (λ _. new ≡ listening_at old address)
     (λ _. ListenFailed old new)
@@ -33,7 +40,10 @@ asked line = carried_by line.peer.begun.earlier line.peer.begun.is_present (traf
 
 -- the first of the connections still to come has begun, and its bytes are left to read
 abbrev pub Comes : Option (List (List ℕ)) → Option (List (List ℕ)) → Option (List ℕ) → Type 0
-Comes old new left = IfSome old (λ all. (bytes : List ℕ) × (more : List (List ℕ)) × (all ≡ bytes ∷ more) × (new ≡ Some more) × (left ≡ Some bytes))
+Comes old new left =
+    IfSome old (λ all.
+    (bytes : List ℕ) × (more : List (List ℕ))
+    × (all ≡ bytes ∷ more) × (new ≡ Some more) × (left ≡ Some bytes))
 
 -- The present connection of a port ended, and the next one began.
 pub record Next (old new : StreamState) : Type 0 where
@@ -95,5 +105,7 @@ pub record ConnectFailed (old new : StreamState) : Type 0 where
   pub same_port : new.port ≡ old.port
 
 -- On `Ok` a connection at the address began.
-abbrev pub ConnectsOnly : {E : Type 0} → StreamState → StreamState → Result (Unit {0}) E → List ℕ → Type 0
-ConnectsOnly old new result address = MatchResult result (λ _. Connects old new address) (λ _. ConnectFailed old new)
+abbrev pub ConnectsOnly : {E : Type 0} → StreamState → StreamState → Result (Unit {0}) E → List ℕ
+    → Type 0
+ConnectsOnly old new result address =
+    MatchResult result (λ _. Connects old new address) (λ _. ConnectFailed old new)

@@ -33,7 +33,8 @@ no_history = record { earlier = []; is_present = false; now = no_traffic }
 
 -- a read gave these bytes; no bytes mean the end
 abbrev pub with_given : ConnectionHistory → List ℕ → ConnectionHistory
-with_given h bytes = record h { now = record h.now { given = h.now.given ++ bytes; ended = length bytes == 0 } }
+with_given h bytes =
+    record h { now = record h.now { given = h.now.given ++ bytes; ended = length bytes == 0 } }
 
 -- a write handed over these bytes
 abbrev pub with_taken : ConnectionHistory → List ℕ → ConnectionHistory
@@ -41,7 +42,12 @@ with_taken h bytes = record h { now = record h.now { taken = h.now.taken ++ byte
 
 -- the present connection ended, if there was one
 abbrev pub with_end : ConnectionHistory → ConnectionHistory
-with_end h = record { earlier = carried_by h.earlier h.is_present h.now; is_present = false; now = no_traffic }
+with_end h =
+    record {
+      earlier = carried_by h.earlier h.is_present h.now;
+      is_present = false;
+      now = no_traffic;
+    }
 
 -- another connection began, after those that ended
 abbrev pub with_next : ConnectionHistory → ConnectionHistory

@@ -1,6 +1,9 @@
 -- Streams in memory, and ports and peers made of them, as their callers see them. This is the
 -- project's own.
-use Rattle.std.specs.Prelude.{◌≡◌, ◌≢◌, ℕ, zero, suc, ◌+◌, ◌-◌, ◌<◌, ◌==◌, min, List, [], ◌∷◌, ◌++◌, length, map, take, drop, Bool, true, false, Option, None, Some, Result, Ok, Err, option_map, unwrap_or, IsErr, ◌⊎◌, slice_index_or, slice_set}
+use Rattle.std.specs.Prelude.{◌≡◌, ◌≢◌, ℕ, zero, suc, ◌+◌, ◌-◌, ◌<◌, ◌==◌, min, List, [], ◌∷◌, ◌++◌}
+use Rattle.std.specs.Prelude.{length, map, take, drop, Bool, true, false, Option, None, Some}
+use Rattle.std.specs.Prelude.{Result, Ok, Err, option_map, unwrap_or, IsErr, ◌⊎◌, slice_index_or}
+use Rattle.std.specs.Prelude.{slice_set}
 use Rattle.xcap_io.specs.Causes.{Begun, StreamState, greatest_count, no_port, no_peer}
 use Rattle.xcap_io.specs.Histories.{Traffic}
 
@@ -26,21 +29,34 @@ one_more faults = min (faults + 1) greatest_count
 
 -- how many bytes a read into a buffer of n bytes gives, where it doesn't fail
 abbrev pub given_by : MemoryStream → ℕ → ℕ
-given_by line wanted = min (min wanted line.step) (min (unwrap_or line.until_fault (length line.left)) (length line.left))
+given_by line wanted =
+    min (min wanted line.step)
+    (min (unwrap_or line.until_fault (length line.left)) (length line.left))
 
 -- the stream after a read of n bytes
 abbrev pub after_read : MemoryStream → ℕ → MemoryStream
-after_read line n = record line { left = drop n line.left; given = line.given ++ take n line.left; ended = n == 0; until_fault = option_map (λ place. place - n) line.until_fault }
+after_read line n =
+    record line {
+      left = drop n line.left;
+      given = line.given ++ take n line.left;
+      ended = n == 0;
+      until_fault = option_map (λ place. place - n) line.until_fault;
+    }
 
 -- a read fails exactly where no further byte may be given
 abbrev pub MemoryRead : {E : Type 0} → MemoryStream → MemoryStream → ℕ → Result ℕ E → Type 0
-MemoryRead old new wanted (Ok n) = (old.until_fault ≢ Some 0) × (n ≡ given_by old wanted) × (new ≡ after_read old n)
-MemoryRead old new wanted (Err e) = (old.until_fault ≡ Some 0) × (new ≡ record old { read_faults = one_more old.read_faults })
+MemoryRead old new wanted (Ok n) =
+    (old.until_fault ≢ Some 0) × (n ≡ given_by old wanted) × (new ≡ after_read old n)
+MemoryRead old new wanted (Err e) =
+    (old.until_fault ≡ Some 0) × (new ≡ record old { read_faults = one_more old.read_faults })
 
 -- a write takes what there is room for, and fails exactly where there is none
 abbrev pub MemoryWrite : {E : Type 0} → MemoryStream → MemoryStream → List ℕ → Result ℕ E → Type 0
-MemoryWrite old new piece (Ok n) = (length old.taken < old.room) × (n ≡ min (length piece) (old.room - length old.taken)) × (new ≡ record old { taken = old.taken ++ take n piece })
-MemoryWrite old new piece (Err e) = (length old.taken ≡ old.room) × (new ≡ record old { write_faults = one_more old.write_faults })
+MemoryWrite old new piece (Ok n) =
+    (length old.taken < old.room) × (n ≡ min (length piece) (old.room - length old.taken))
+    × (new ≡ record old { taken = old.taken ++ take n piece })
+MemoryWrite old new piece (Err e) =
+    (length old.taken ≡ old.room) × (new ≡ record old { write_faults = one_more old.write_faults })
 
 -- a stream in memory as a stream
 abbrev pub line_state : MemoryStream → StreamState
@@ -66,7 +82,18 @@ pub record MemoryLines : Type 0 where
 
 -- a stream that gives and takes nothing
 abbrev pub no_line : MemoryStream
-no_line = record { left = []; step = 0; until_fault = None; given = []; ended = true; taken = []; room = 0; read_faults = 0; write_faults = 0 }
+no_line =
+    record {
+      left = [];
+      step = 0;
+      until_fault = None;
+      given = [];
+      ended = true;
+      taken = [];
+      room = 0;
+      read_faults = 0;
+      write_faults = 0;
+    }
 
 -- the stream of this number
 abbrev pub line_at : List MemoryStream → ℕ → MemoryStream
@@ -88,7 +115,9 @@ begun_anew line = record line { given = []; ended = false; taken = [] }
 
 -- the next stream begins
 abbrev pub begin_next : MemoryLines → MemoryLines
-begin_next m = let at = next_number m.present in record m { lines = slice_set m.lines at (begun_anew (line_at m.lines at)); present = Some at }
+begin_next m =
+    let at = next_number m.present in
+    record m { lines = slice_set m.lines at (begun_anew (line_at m.lines at)); present = Some at }
 
 -- whether a stream was left, and so began
 abbrev pub BeginsLine : MemoryLines → MemoryLines → Bool → Type 0
@@ -103,19 +132,31 @@ counted (Err e) faults = one_more faults
 -- a read reads from the present stream; where there is none, it finds the end of the input
 abbrev pub LinesRead : {E : Type 0} → Option ℕ → MemoryLines → MemoryLines → ℕ → Result ℕ E → Type 0
 LinesRead None old new wanted result = (result ≡ Ok 0) × (new ≡ old)
-LinesRead (Some i) old new wanted result = (line : MemoryStream) × MemoryRead (line_at old.lines i) line wanted result
-    × (new ≡ record old { lines = slice_set old.lines i line; read_faults = counted result old.read_faults })
+LinesRead (Some i) old new wanted result =
+    (line : MemoryStream) × MemoryRead (line_at old.lines i) line wanted result
+    × (new ≡ record old {
+      lines = slice_set old.lines i line;
+      read_faults = counted result old.read_faults;
+    })
 
 -- a write writes to the present stream; where there is none, it fails
-abbrev pub LinesWrite : {E : Type 0} → Option ℕ → MemoryLines → MemoryLines → List ℕ → Result ℕ E → Type 0
-LinesWrite None old new piece result = IsErr result × (new ≡ record old { write_faults = one_more old.write_faults })
-LinesWrite (Some i) old new piece result = (line : MemoryStream) × MemoryWrite (line_at old.lines i) line piece result
-    × (new ≡ record old { lines = slice_set old.lines i line; write_faults = counted result old.write_faults })
+abbrev pub LinesWrite : {E : Type 0} → Option ℕ → MemoryLines → MemoryLines → List ℕ → Result ℕ E
+    → Type 0
+LinesWrite None old new piece result =
+    IsErr result × (new ≡ record old { write_faults = one_more old.write_faults })
+LinesWrite (Some i) old new piece result =
+    (line : MemoryStream) × MemoryWrite (line_at old.lines i) line piece result
+    × (new ≡ record old {
+      lines = slice_set old.lines i line;
+      write_faults = counted result old.write_faults;
+    })
 
 -- streams in memory as one stream
 abbrev pub lines_state : MemoryLines → StreamState
 lines_state m = record {
-  inward = let line = present_line m.lines m.present in record { left = Some line.left; given = line.given; ended = line.ended };
+  inward =
+      let line = present_line m.lines m.present in
+      record { left = Some line.left; given = line.given; ended = line.ended };
   taken = (present_line m.lines m.present).taken;
   read_faults = m.read_faults;
   write_faults = m.write_faults;
@@ -172,14 +213,21 @@ port_state m = record (lines_state m.lines) {
 }
 
 -- `listen` fails exactly where the port was made so
-abbrev pub MemoryListen : {E : Type 0} → MemoryPort → MemoryPort → Result (Unit {0}) E → List ℕ → Type 0
-MemoryListen old new (Ok x) address = (old.listen_fails ≡ false) × (new ≡ record old { listening = Some address })
-MemoryListen old new (Err e) address = (old.listen_fails ≡ true) × (new ≡ record old { faults = one_more old.faults })
+abbrev pub MemoryListen : {E : Type 0} → MemoryPort → MemoryPort → Result (Unit {0}) E → List ℕ
+    → Type 0
+MemoryListen old new (Ok x) address =
+    (old.listen_fails ≡ false) × (new ≡ record old { listening = Some address })
+MemoryListen old new (Err e) address =
+    (old.listen_fails ≡ true) × (new ≡ record old { faults = one_more old.faults })
 
 -- `next` fails exactly at the call that the port was set to fail
 abbrev pub MemoryNext : {E : Type 0} → MemoryPort → MemoryPort → Result Bool E → Type 0
-MemoryNext old new (Ok begins) = (old.until_fault ≢ Some 1) × BeginsLine old.lines new.lines begins × (new ≡ record old { lines = new.lines; until_fault = after_call old.until_fault })
-MemoryNext old new (Err e) = (old.until_fault ≡ Some 1) × (new ≡ record old { until_fault = None; faults = one_more old.faults })
+MemoryNext old new (Ok begins) =
+    (old.until_fault ≢ Some 1) × BeginsLine old.lines new.lines begins
+    × (new ≡ record old { lines = new.lines; until_fault = after_call old.until_fault })
+MemoryNext old new (Err e) =
+    (old.until_fault ≡ Some 1)
+    × (new ≡ record old { until_fault = None; faults = one_more old.faults })
 
 -- A peer in memory. The addresses are those of the connections that it has made, latest first.
 pub record MemoryPeer : Type 0 where
@@ -204,7 +252,15 @@ abbrev pub CannotConnect : MemoryPeer → Type 0
 CannotConnect m = (m.until_fault ≡ Some 1) ⊎ (next_number m.lines.present ≡ length m.lines.lines)
 
 -- `connect` fails exactly at the call that the peer was set to fail, and where no stream is left
-abbrev pub MemoryConnect : {E : Type 0} → MemoryPeer → MemoryPeer → Result (Unit {0}) E → List ℕ → Type 0
-MemoryConnect old new (Ok x) address = (old.until_fault ≢ Some 1) × BeginsLine old.lines new.lines true
-    × (new ≡ record old { lines = new.lines; until_fault = after_call old.until_fault; addresses = address ∷ old.addresses })
-MemoryConnect old new (Err e) address = CannotConnect old × (new ≡ record old { until_fault = after_call old.until_fault; faults = one_more old.faults })
+abbrev pub MemoryConnect : {E : Type 0} → MemoryPeer → MemoryPeer → Result (Unit {0}) E → List ℕ
+    → Type 0
+MemoryConnect old new (Ok x) address =
+    (old.until_fault ≢ Some 1) × BeginsLine old.lines new.lines true
+    × (new ≡ record old {
+      lines = new.lines;
+      until_fault = after_call old.until_fault;
+      addresses = address ∷ old.addresses;
+    })
+MemoryConnect old new (Err e) address =
+    CannotConnect old
+    × (new ≡ record old { until_fault = after_call old.until_fault; faults = one_more old.faults })

@@ -5,11 +5,29 @@ use Rattle.xcap_io.specs.Causes.{Aside, StreamState, no_inward, no_peer, no_port
 
 -- what reads of an input don't touch
 abbrev pub unread : StreamState → Aside
-unread input = record { inward = no_inward; taken = input.taken; faults = input.write_faults; port = input.port; peer = input.peer; holds = length input.holds; aside = length input.aside }
+unread input =
+    record {
+      inward = no_inward;
+      taken = input.taken;
+      faults = input.write_faults;
+      port = input.port;
+      peer = input.peer;
+      holds = length input.holds;
+      aside = length input.aside;
+    }
 
 -- what writes to an output don't touch
 abbrev pub unwritten : StreamState → Aside
-unwritten output = record { inward = output.inward; taken = []; faults = output.read_faults; port = output.port; peer = output.peer; holds = length output.holds; aside = length output.aside }
+unwritten output =
+    record {
+      inward = output.inward;
+      taken = [];
+      faults = output.read_faults;
+      port = output.port;
+      peer = output.peer;
+      holds = length output.holds;
+      aside = length output.aside;
+    }
 
 -- The two as one stream: it gives what the input gives, and takes what the output takes.
 abbrev pub pair_state : StreamState → StreamState → List GName → StreamState

@@ -31,4 +31,5 @@ Took old new bytes = new ≡ old ++ bytes
 
 -- at `Ok(n)` a write handed over the first n bytes of the piece, and at a failure none
 abbrev pub TakesWrittenBytes : {E : Type 0} → List ℕ → List ℕ → Result ℕ E → List ℕ → Type 0
-TakesWrittenBytes old new result piece = MatchResult result (λ n. Took old new (take n piece)) (λ _. new ≡ old)
+TakesWrittenBytes old new result piece =
+    MatchResult result (λ n. Took old new (take n piece)) (λ _. new ≡ old)

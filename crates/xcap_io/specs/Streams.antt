@@ -8,7 +8,8 @@ TookProperPrefix old new bytes = (n : ℕ) × (n < length bytes) × Took old new
 
 -- all bytes were taken, or at a failure a proper prefix of them
 abbrev pub WritesAll : {E : Type 0} → List ℕ → List ℕ → Result (Unit {0}) E → List ℕ → Type 0
-WritesAll old new result bytes = MatchResult result (λ _. Took old new bytes) (λ _. TookProperPrefix old new bytes)
+WritesAll old new result bytes =
+    MatchResult result (λ _. Took old new bytes) (λ _. TookProperPrefix old new bytes)
 
 -- on `Ok(n)` the sink took at least one byte, and at most all of them
 abbrev pub WritesSome : {E : Type 0} → Result ℕ E → List ℕ → Type 0

@@ -119,7 +119,8 @@ impl Hash for Bytes {
 
     ghost hash_input = { λ bytes. fed.slice fed.u8 bytes };
 
-    ghost respects_eq = { λ x y same. ap (λ bytes. fed.slice fed.u8 bytes) ((bytes_decides x y).0 same) };
+    ghost respects_eq = { λ x y same.
+        ap (λ bytes. fed.slice fed.u8 bytes) ((bytes_decides x y).0 same) };
 
     fn hash<H: Hasher>(&self, state: &mut H) {
         self.as_slice().hash(state);

@@ -23,8 +23,10 @@ impl<'a, I: Source, O: Sink> IoPair<'a, I, O> {
 }
 
 impl<I: Source, O: Sink> Line for IoPair<'_, I, O> {
-    ghost state = { λ p. pair_state
-        (I.state p.input.now) (O.state p.output.now) (p.input.ghost_name ∷ p.output.ghost_name ∷ []) };
+    ghost state = { λ p.
+        pair_state
+        (I.state p.input.now) (O.state p.output.now)
+        (p.input.ghost_name ∷ p.output.ghost_name ∷ []) };
 }
 
 impl<I: Source, O: Sink> Source for IoPair<'_, I, O> {

@@ -1,9 +1,11 @@
 // A port in memory, for tests and for programs over known bytes.
-ghost use Rattle.std.specs.Prelude.{◌≡◌, ◌<◌, length, None, Some, IsTrue, ◌↔◌, option_copied, slice_get};
+ghost use Rattle.std.specs.Prelude.{◌≡◌, ◌<◌, length, None, Some, IsTrue, ◌↔◌, option_copied};
+ghost use Rattle.std.specs.Prelude.{slice_get};
 ghost use Rattle.std.specs.Io.{ReadsAtMost};
 ghost use Rattle.xcap_io.specs.Causes.{OnlyReads, OnlyWrites};
 ghost use Rattle.xcap_io.specs.Connections.{Listens, OnlyNext};
-ghost use Rattle.xcap_io.specs.Memory.{after_call, LinesRead, LinesWrite, MemoryListen, MemoryNext, port_state};
+ghost use Rattle.xcap_io.specs.Memory.{after_call, LinesRead, LinesWrite, MemoryListen, MemoryNext};
+ghost use Rattle.xcap_io.specs.Memory.{port_state};
 ghost use Rattle.xcap_io.specs.StreamTraffic.{GivesReadBytes, TakesWrittenBytes};
 ghost use Rattle.xcap_io.specs.Streams.{WritesSome};
 

@@ -46,7 +46,8 @@ impl Model for MemStream {
       write_faults = m.write_faults;
     } };
 
-    ghost invariant = { λ m. (0 < m.step) × (m.given ≤ length m.input.items) × (m.held ≤ length m.output.items) };
+    ghost invariant = { λ m.
+        (0 < m.step) × (m.given ≤ length m.input.items) × (m.held ≤ length m.output.items) };
 }
 
 impl MemStream {

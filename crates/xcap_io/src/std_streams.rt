@@ -4,7 +4,8 @@
 ghost use Rattle.std.specs.Prelude.{◌≡◌, ◌<◌, [], length};
 ghost use Rattle.std.specs.Io.{ReadsAtMost};
 ghost use Rattle.std.specs.Io.KnownBytes.{ReadConsumes, WriteAppends};
-ghost use Rattle.xcap_io.specs.Causes.{OnlyReads, OnlyWrites, inward_of, no_inward, no_port, no_peer};
+ghost use Rattle.xcap_io.specs.Causes.{OnlyReads, OnlyWrites, inward_of, no_inward, no_port};
+ghost use Rattle.xcap_io.specs.Causes.{no_peer};
 ghost use Rattle.xcap_io.specs.StreamTraffic.{GivesReadBytes, TakesWrittenBytes};
 ghost use Rattle.xcap_io.specs.Streams.{WritesSome};
 

@@ -2,9 +2,11 @@
 // are the trusted edge: no contract says that the bytes a system call gives came over the network,
 // or that the bytes it takes go there. Contracts see which bytes each call gave and took, and on
 // which connection.
-ghost use Rattle.std.specs.Prelude.{◌≡◌, ◌<◌, ◌≤◌, [], None, Some, false, length, take, IfOk, OnOk, OnErr, IsSome, IfSome, IsTrue, MatchResult};
+ghost use Rattle.std.specs.Prelude.{◌≡◌, ◌<◌, ◌≤◌, [], None, Some, false, length, take, IfOk, OnOk};
+ghost use Rattle.std.specs.Prelude.{OnErr, IsSome, IfSome, IsTrue, MatchResult};
 ghost use Rattle.std.specs.Io.{ReadsAtMost};
-ghost use Rattle.xcap_io.specs.Causes.{Counts, OnlyReads, OnlyWrites, inward_of, no_inward, no_peer, none_begun};
+ghost use Rattle.xcap_io.specs.Causes.{Counts, OnlyReads, OnlyWrites, inward_of, no_inward};
+ghost use Rattle.xcap_io.specs.Causes.{no_peer, none_begun};
 ghost use Rattle.xcap_io.specs.Connections.{Listens, OnlyNext, carried};
 ghost use Rattle.xcap_io.specs.Histories.{with_given, with_taken};
 ghost use Rattle.xcap_io.specs.Memory.{latest};
@@ -267,8 +269,12 @@ impl<N: Net + Clock + Drop> Port for TcpPort<N> {
         ensures same_listener { self.new.listener ≡ self.old.listener }
         ensures stream_present { OnOk result (IsSome self.new.stream) }
         ensures err_no_stream { OnErr result (self.new.stream ≡ None) }
-        ensures none_present { OnErr result ((⟦<TcpPort<N> as Line>⟧.state self.new).port.begun
-            ≡ record { earlier = carried (⟦<TcpPort<N> as Line>⟧.state self.old); is_present = false }) }
+        ensures none_present { OnErr result
+            ((⟦<TcpPort<N> as Line>⟧.state self.new).port.begun
+            ≡ record {
+              earlier = carried (⟦<TcpPort<N> as Line>⟧.state self.old);
+              is_present = false;
+            }) }
     {
         // The client waits for the end of the present connection, so it is closed first.
         self.stream = None;

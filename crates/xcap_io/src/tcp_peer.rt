@@ -3,7 +3,8 @@
 // takes go there.
 ghost use Rattle.std.specs.Prelude.{◌≡◌, ◌<◌, [], None, false, length, OnOk, OnErr, IsSome};
 ghost use Rattle.std.specs.Io.{ReadsAtMost};
-ghost use Rattle.xcap_io.specs.Causes.{OnlyReads, OnlyWrites, inward_of, no_inward, no_port, no_peer};
+ghost use Rattle.xcap_io.specs.Causes.{OnlyReads, OnlyWrites, inward_of, no_inward, no_port};
+ghost use Rattle.xcap_io.specs.Causes.{no_peer};
 ghost use Rattle.xcap_io.specs.Connections.{ConnectsOnly, asked};
 ghost use Rattle.xcap_io.specs.StreamTraffic.{GivesReadBytes, TakesWrittenBytes};
 ghost use Rattle.xcap_io.specs.Sockets.{ReadsStream, WritesStream};
@@ -116,8 +117,12 @@ impl<N: Net + Drop> Peer for TcpPeer<N> {
             (⟦<TcpPeer<N> as Line>⟧.state self.new) result address.now }
         ensures stream_present { OnOk result (IsSome self.new.stream) }
         ensures err_no_stream { OnErr result (self.new.stream ≡ None) }
-        ensures none_present { OnErr result ((⟦<TcpPeer<N> as Line>⟧.state self.new).peer.begun
-            ≡ record { earlier = asked (⟦<TcpPeer<N> as Line>⟧.state self.old); is_present = false }) }
+        ensures none_present { OnErr result
+            ((⟦<TcpPeer<N> as Line>⟧.state self.new).peer.begun
+            ≡ record {
+              earlier = asked (⟦<TcpPeer<N> as Line>⟧.state self.old);
+              is_present = false;
+            }) }
     {
         // The present connection is closed first.
         self.stream = None;

@@ -2,7 +2,8 @@
 // run time.
 ghost use Rattle.std.specs.Prelude.{◌≡◌};
 ghost use Rattle.std.specs.Borrow.{ftrue};
-ghost use Rattle.xcap_io.specs.Histories.{ConnectionHistory, no_history, with_end, with_given, with_next, with_taken};
+ghost use Rattle.xcap_io.specs.Histories.{ConnectionHistory, no_history, with_end, with_given};
+ghost use Rattle.xcap_io.specs.Histories.{with_next, with_taken};
 
 use std::marker::Model;
 

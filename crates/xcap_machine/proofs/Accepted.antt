@@ -47,6 +47,7 @@ use Rattle.xcap_machine.specs.Requests.{ByMethod, ByTarget, ByUser, Deletes, IsA
 use Rattle.xcap_machine.specs.Resources.{version_of}
 use Rattle.xcap_machine.specs.DocumentWrites.{IfStored, PutsDocument, PutsSpelled, change_answer, deleted_reply, put_answer, put_reply}
 use Rattle.xcap_machine.specs.inner.Cases.{DeletesDocumentIn, DeletesNodeIn, PutsNodeIn, IsAnswered, PutsText, by_judgement, version_tag as tag_of, Behind}
+use Rattle.xcap_machine.specs.inner.Records.{representation, server_of, write_of}
 use Rattle.xcap_machine.proofs.Steps.{made_change}
 use Rattle.xcap_machine.proofs.Changed.{as_the_store, told_by_store}
 
@@ -71,7 +72,7 @@ past_made : (stop : Option SentReply) (P : Type 0) (a : Answer) (made : Made) �
 past_made None P a made is h = h
 past_made (Some reply) P a made is h = absurd (stopped_never a reply made is h)
 
-behind_made : (request : Request) (tag : Option ℕ) (exists : Bool) (P : Type 0) (a : Answer) (made : Made) → a.made ≡ Some made → BehindConditions request tag exists false a P → P
+behind_made : (request : Request) (tag : Option ℕ) (exists : Bool) (P : Type 0) (a : Answer) (made : Made) → a.made ≡ Some made → BehindConditions request (representation tag exists) false a P → P
 behind_made request tag exists P a made is h = past_made h.0 P a made is h.2
 
 stored_made : (u : Option Usage) (request : Request) (P : Usage → Type 0) (a : Answer) (made : Made) → a.made ≡ Some made → IfStored u request a P → (usage : Usage) × (u ≡ Some usage) × P usage
@@ -86,17 +87,17 @@ past_none : (stop : Option SentReply) (P : Type 0) (a : Answer) → stop ≡ Non
 past_none None P a is h = h
 past_none (Some reply) P a is h = let z : Some reply ≡ None = is in cc
 
-pub unstopped_by : (request : Request) (tag : Option ℕ) (exists : Bool) (P : Type 0) (a : Answer) → IsStop request tag exists false None → BehindConditions request tag exists false a P → P
+pub unstopped_by : (request : Request) (tag : Option ℕ) (exists : Bool) (P : Type 0) (a : Answer) → IsStop request tag exists false None → BehindConditions request (representation tag exists) false a P → P
 unstopped_by request tag exists P a free h = past_none h.0 P a (one_stop request tag exists false h.0 None h.1 free) h.2
 
 -- ---- up to the method
 
 pub by_target : (root : List ℕ) (c : Content) (request : Request) (a : Answer) (target : Target) (method : Method) → TargetResult root request.target (Ok target) → method_of request.method ≡ method
-    → IsAnswer root c request a → ByTarget root c target method request a
+    → IsAnswer root c request a → ByTarget (server_of root c) target method request a
 by_target root c request a target method means asks is =
     let same : is.0 ≡ Ok target = one_target root request.target is.0 (Ok target) is.1 means in
-    let here : ByTarget root c target (method_of request.method) request a = subst (λ (r : Result Target UriFault). IsAnswered root c r request a) same is.2 in
-    subst (λ (m : Method). ByTarget root c target m request a) asks here
+    let here : ByTarget (server_of root c) target (method_of request.method) request a = subst (λ (r : Result Target UriFault). IsAnswered root c r request a) same is.2 in
+    subst (λ (m : Method). ByTarget (server_of root c) target m request a) asks here
 
 -- a change is made for a target that the address means
 pub accepted : (root : List ℕ) (c next : Content) (request : Request) (reply : SentReply) (edit : Edit) (method : Method) → Does root c request reply next (Some edit) → method_of request.method ≡ method
@@ -116,26 +117,26 @@ pub record Enters (target : Target) (method : Method) (request : Request) (P : U
   pub does : P usage
 
 module _ (root : List ℕ) (c : Content) (request : Request) (target : Target) (a : Answer) where
-  pub put_enters : (made : Made) → a.made ≡ Some made → ByTarget root c target Put request a → Enters target Put request (λ usage. Puts root c target usage request a)
+  pub put_enters : (made : Made) → a.made ≡ Some made → ByTarget (server_of root c) target Put request a → Enters target Put request (λ usage. Puts (server_of root c) target usage request a)
   put_enters made is h =
-      let taken = either_made (takes target Put) (ByUser root c target Put request a) a (not_allowed (is_read_only target) request.closes) made is h in
-      let user = either_made (is_allowed (not (is_reading Put)) (auid_of target) (home_of target) request.fields) (ByMethod root c target Put request a) a (plain 403 request.closes) made is taken.1 in
-      let stored = stored_made (usage_of (auid_of target)) request (λ usage. Puts root c target usage request a) a made is user.1 in
+      let taken = either_made (takes target Put) (ByUser (server_of root c) target Put request a) a (not_allowed (is_read_only target) request.closes) made is h in
+      let user = either_made (is_allowed (not (is_reading Put)) (auid_of target) (home_of target) request.fields) (ByMethod (server_of root c) target Put request a) a (plain 403 request.closes) made is taken.1 in
+      let stored = stored_made (usage_of (auid_of target)) request (λ usage. Puts (server_of root c) target usage request a) a made is user.1 in
       record { is_taken = taken.0; is_user = user.0; usage = stored.0; known = stored.1; does = stored.2 }
 
-  pub delete_enters : (made : Made) → a.made ≡ Some made → ByTarget root c target Delete request a → Enters target Delete request (λ usage. Deletes c target usage request a)
+  pub delete_enters : (made : Made) → a.made ≡ Some made → ByTarget (server_of root c) target Delete request a → Enters target Delete request (λ usage. Deletes c target usage request a)
   delete_enters made is h =
-      let taken = either_made (takes target Delete) (ByUser root c target Delete request a) a (not_allowed (is_read_only target) request.closes) made is h in
-      let user = either_made (is_allowed (not (is_reading Delete)) (auid_of target) (home_of target) request.fields) (ByMethod root c target Delete request a) a (plain 403 request.closes) made is taken.1 in
+      let taken = either_made (takes target Delete) (ByUser (server_of root c) target Delete request a) a (not_allowed (is_read_only target) request.closes) made is h in
+      let user = either_made (is_allowed (not (is_reading Delete)) (auid_of target) (home_of target) request.fields) (ByMethod (server_of root c) target Delete request a) a (plain 403 request.closes) made is taken.1 in
       let stored = stored_made (usage_of (auid_of target)) request (λ usage. Deletes c target usage request a) a made is user.1 in
       record { is_taken = taken.0; is_user = user.0; usage = stored.0; known = stored.1; does = stored.2 }
 
   -- the same request, made again, gets as far
-  pub put_again_enters : (P : Usage → Type 0) (e : Enters target Put request P) → ByTarget root c target Put request a → Puts root c target e.usage request a
+  pub put_again_enters : (P : Usage → Type 0) (e : Enters target Put request P) → ByTarget (server_of root c) target Put request a → Puts (server_of root c) target e.usage request a
   put_again_enters P e h =
-      let taken = match_true (takes target Put) (ByUser root c target Put request a) (a ≡ unchanged (not_allowed (is_read_only target) request.closes)) e.is_taken h in
-      let user = match_true (is_allowed (not (is_reading Put)) (auid_of target) (home_of target) request.fields) (ByMethod root c target Put request a) (a ≡ unchanged (plain 403 request.closes)) e.is_user taken in
-      subst (λ (u : Option Usage). IfStored u request a (λ usage. Puts root c target usage request a)) e.known user
+      let taken = match_true (takes target Put) (ByUser (server_of root c) target Put request a) (a ≡ unchanged (not_allowed (is_read_only target) request.closes)) e.is_taken h in
+      let user = match_true (is_allowed (not (is_reading Put)) (auid_of target) (home_of target) request.fields) (ByMethod (server_of root c) target Put request a) (a ≡ unchanged (plain 403 request.closes)) e.is_user taken in
+      subst (λ (u : Option Usage). IfStored u request a (λ usage. Puts (server_of root c) target usage request a)) e.known user
 
 -- ---- the change that the store makes
 
@@ -199,10 +200,10 @@ document_put c id usage request a made is h =
 -- the plan for the parsed body at the edit target of the address
 pub data NodePut (c : Content) (id : DocId) (usage : Usage) (selector : Selector) (t : Tree) (request : Request) (a : Answer) : Type 0 where
   of_element : (spot : Spot) → selector.end ≡ ends.Element → IsSpotOf t selector spot → (e : Tree) → TextAnswer (levels_for spot) (scope_for t spot) request.body (Ok e)
-      → (change : Change) → IsPutPlan usage t selector.steps spot e (Ok change) → a ≡ change_answer c id change request.closes (put_reply (is_there t selector) request.closes)
+      → (change : Change) → IsPutPlan (record { usage = usage; document = t; steps = selector.steps }) spot e (Ok change) → a ≡ change_answer c id change request.closes (put_reply (is_there t selector) request.closes)
       → NodePut c id usage selector t request a
   of_value : (p uri local value : List ℕ) → selector.end ≡ ends.Attribute uri local → IsSpotOf t selector (Value p) → BodyAnswer request.body (Ok value)
-      → (change : Change) → IsAttrPlan usage t selector.steps selector.end p value (Ok change) → a ≡ change_answer c id change request.closes (put_reply (is_there t selector) request.closes)
+      → (change : Change) → IsAttrPlan (record { usage = usage; document = t; steps = selector.steps }) selector.end p value (Ok change) → a ≡ change_answer c id change request.closes (put_reply (is_there t selector) request.closes)
       → NodePut c id usage selector t request a
 
 -- namespace bindings are never put
@@ -216,40 +217,40 @@ pub record TypedPut (c : Content) (id : DocId) (usage : Usage) (selector : Selec
 
 module _ (c : Content) (id : DocId) (usage : Usage) (selector : Selector) (t : Tree) (request : Request) (a : Answer) (made : Made) (is : a.made ≡ Some made) where
   abbrev Planned : Result Change EditRefusal → Type 0
-  Planned plan = a ≡ put_planned c id usage selector t request plan
+  Planned plan = a ≡ put_planned c (write_of id usage selector request) t plan
 
   element_planned : (spot : Spot) → selector.end ≡ ends.Element → IsSpotOf t selector spot → (e : Tree) → TextAnswer (levels_for spot) (scope_for t spot) request.body (Ok e)
-      → (plan : Result Change EditRefusal) → IsPutPlan usage t selector.steps spot e plan → Planned plan → NodePut c id usage selector t request a
+      → (plan : Result Change EditRefusal) → IsPutPlan (record { usage = usage; document = t; steps = selector.steps }) spot e plan → Planned plan → NodePut c id usage selector t request a
   element_planned spot ends_so place e read (Err why) plan answer = absurd (stopped_never a _ made is answer)
   element_planned spot ends_so place e read (Ok change) plan answer = of_element spot ends_so place e read change plan answer
 
-  element_put : (spot : Spot) → selector.end ≡ ends.Element → IsSpotOf t selector spot → PutsElement c id usage selector t spot request a → NodePut c id usage selector t request a
+  element_put : (spot : Spot) → selector.end ≡ ends.Element → IsSpotOf t selector spot → PutsElement c (write_of id usage selector request) t spot a → NodePut c id usage selector t request a
   element_put spot ends_so place (Err fault, read, answer) = absurd (stopped_never a _ made is answer)
   element_put spot ends_so place (Ok e, read, answer) = element_planned spot ends_so place e read answer.0 answer.1 answer.2
 
   value_planned : (p uri local value : List ℕ) → selector.end ≡ ends.Attribute uri local → IsSpotOf t selector (Value p) → BodyAnswer request.body (Ok value)
-      → (plan : Result Change EditRefusal) → IsAttrPlan usage t selector.steps selector.end p value plan → Planned plan → NodePut c id usage selector t request a
+      → (plan : Result Change EditRefusal) → IsAttrPlan (record { usage = usage; document = t; steps = selector.steps }) selector.end p value plan → Planned plan → NodePut c id usage selector t request a
   value_planned p uri local value ends_so place read (Err why) plan answer = absurd (stopped_never a _ made is answer)
   value_planned p uri local value ends_so place read (Ok change) plan answer = of_value p uri local value ends_so place read change plan answer
 
-  value_put : (p : List ℕ) → IsSpotOf t selector (Value p) → PutsValue c id usage selector t p request a → NodePut c id usage selector t request a
+  value_put : (p : List ℕ) → IsSpotOf t selector (Value p) → PutsValue c (write_of id usage selector request) t p a → NodePut c id usage selector t request a
   value_put p place (Err fault, read, answer) = absurd (stopped_never a _ made is answer)
   value_put p place (Ok value, read, answer) = value_planned p place.0.0 place.0.1.0 value place.0.1.1 place read answer.0 answer.1 answer.2
 
-  put_at : (spot : Spot) → IsSpotOf t selector spot → PutsAt c id usage selector t spot request a → NodePut c id usage selector t request a
+  put_at : (spot : Spot) → IsSpotOf t selector spot → PutsAt c (write_of id usage selector request) t spot a → NodePut c id usage selector t request a
   put_at (Over p) place h = element_put (Over p) place.0 place h
   put_at (Under q) place h = element_put (Under q) place.0 place h
   put_at Beside place h = element_put Beside place.0 place h
   put_at (Value p) place h = value_put p place h
 
-  fragment_put : (spot : Spot) → IsSpotOf t selector spot → PutsFragment c id usage selector t spot request a → TypedPut c id usage selector t request a
+  fragment_put : (spot : Spot) → IsSpotOf t selector spot → PutsFragment c (write_of id usage selector request) t spot a → TypedPut c id usage selector t request a
   fragment_put spot place h =
-      let typed = either_made (has_type (node_media selector.end) request.fields) (PutsAt c id usage selector t spot request a) a (plain 415 request.closes) made is h in
+      let typed = either_made (has_type (node_media selector.end) request.fields) (PutsAt c (write_of id usage selector request) t spot a) a (plain 415 request.closes) made is h in
       record { typed = typed.0; put = put_at spot place typed.1 }
 
-  put_from : (root : List ℕ) (tag : ℕ) (spot : Result Spot NoParent) → IsSpot t selector spot → PutsFrom c id usage selector t root tag spot request a → TypedPut c id usage selector t request a
+  put_from : (root : List ℕ) (tag : ℕ) (spot : Result Spot NoParent) → IsSpot t selector spot → PutsFrom (server_of root c) (write_of id usage selector request) (t, tag) spot a → TypedPut c id usage selector t request a
   put_from root tag (Err none) place h = absurd (stopped_never a _ made is h)
-  put_from root tag (Ok spot) place h = fragment_put spot place (behind_made request (Some tag) (is_there t selector) (PutsFragment c id usage selector t spot request a) a made is h)
+  put_from root tag (Ok spot) place h = fragment_put spot place (behind_made request (Some tag) (is_there t selector) (PutsFragment c (write_of id usage selector request) t spot a) a made is h)
 
 -- for a document that is stored
 pub record HeldPut (c : Content) (id : DocId) (usage : Usage) (selector : Selector) (version : Option (Tree × ℕ)) (request : Request) (a : Answer) : Type 0 where
@@ -259,7 +260,7 @@ pub record HeldPut (c : Content) (id : DocId) (usage : Usage) (selector : Select
   pub put : TypedPut c id usage selector tree request a
 
 pub node_put : (root : List ℕ) (c : Content) (id : DocId) (usage : Usage) (selector : Selector) (version : Option (Tree × ℕ)) (request : Request) (a : Answer) (made : Made) → a.made ≡ Some made
-    → PutsNodeIn root c id usage selector version request a → HeldPut c id usage selector version request a
+    → PutsNodeIn (server_of root c) (write_of id usage selector request) version a → HeldPut c id usage selector version request a
 node_put root c id usage selector None request a made is h = absurd (stopped_never a _ made is h)
 node_put root c id usage selector (Some (t, tag)) request a made is h = record { tree = t; tag = tag; held = refl; put = put_from c id usage selector t request a made is root tag h.0 h.1 h.2 }
 
@@ -290,11 +291,11 @@ pub record NodeDeleted (c : Content) (id : DocId) (usage : Usage) (selector : Se
   pub answers : a ≡ change_answer c id change request.closes (cut_reply request.closes)
 
 pub node_deleted : (c : Content) (id : DocId) (usage : Usage) (selector : Selector) (version : Option (Tree × ℕ)) (request : Request) (a : Answer) (made : Made) → a.made ≡ Some made
-    → DeletesNodeIn c id usage selector version request a → NodeDeleted c id usage selector version request a
+    → DeletesNodeIn c (write_of id usage selector request) version a → NodeDeleted c id usage selector version request a
 node_deleted c id usage selector None request a made is h = absurd (stopped_never a _ made is h)
 node_deleted c id usage selector (Some (t, tag)) request a made is h =
-    let Last : Type 0 = CutsNode c id usage selector t request a in
-    let there = either_made (is_there t selector) (BehindConditions request (Some tag) true false a Last) a (plain 404 request.closes) made is h in
+    let Last : Type 0 = CutsNode c (write_of id usage selector request) t a in
+    let there = either_made (is_there t selector) (BehindConditions request (representation (Some tag) true) false a Last) a (plain 404 request.closes) made is h in
     let cut = behind_made request (Some tag) true Last a made is there.1 in
     by cut.0 cut.1 cut.2
   where

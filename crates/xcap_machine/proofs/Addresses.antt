@@ -10,14 +10,14 @@ use Rattle.request_checks.specs.Methods.{method_of}
 use Rattle.request_checks.specs.declared.method.Method.{Method}
 use Rattle.store_core.specs.Queries.{Asks}
 use Rattle.store_core.specs.Contents.{Represents, StoreContents as Content}
-use Rattle.store_core.specs.KeyAddresses.{KeepsAddressesOf}
 use Rattle.store_core.specs.ValidStates.{IsValidState}
 use Rattle.store_core.specs.State.{State}
-use Rattle.store_core.proofs.KeyAddresses.{asked_stays}
 use Rattle.store_core.proofs.SoundHeld.{AllSound, all_sound}
 use Rattle.xcap_machine.specs.Answers.{Answer, Made}
 use Rattle.xcap_machine.specs.Effects.{KeyAddressesStay}
+use Rattle.xcap_machine.specs.KeyAddresses.{KeepsAddressesOf}
 use Rattle.xcap_machine.specs.Machine.{Does, answer_as, told_as}
+use Rattle.xcap_machine.proofs.KeyAddresses.{asked_stays}
 use Rattle.xcap_machine.proofs.Steps.{made_change}
 use Rattle.xcap_machine.proofs.Ways.{Way, changes, stays, way_of}
 

@@ -43,6 +43,7 @@ use Rattle.xcap_machine.specs.Requests.{ByMethod, ByTarget, ByUser, IsAnswer, au
 use Rattle.xcap_machine.specs.inner.Cases.{IsAnswered}
 use Rattle.xcap_machine.proofs.Cases.{either}
 use Rattle.xcap_machine.specs.SubscriberVersions.{Updates, UpdatesFrom, UpdatesHeld, UpdatesTo, SubscriberHolds}
+use Rattle.xcap_machine.specs.inner.Records.{feed_query, notes_since, read_by, server_of}
 
 -- ---- a document that is gone
 
@@ -89,10 +90,10 @@ led id notice held answer new body same brings = record {
 
 module _ (root : List ℕ) (is_root : IsRoot root (authority_of root) (path_of root)) (c : StoreContents) (m : State) (kept : IsValidState m) (stands : Represents c m)
     (mode : Mode) (tag : ℕ) (id : DocId) (encodable : is_encodable id ≡ true) (body : List ℕ) where
-  by_mode : (one : Mode) (d : Document) (from : Version) (ns : List Note) → TellsSince c m id d from ns → body ≡ encode_utf8_all (document_print (notice_of one root (id_text id) from.tag ns)) → UpdatesTo one id body from d.now
-  by_mode NoPatching d from ns tells same = led id _ (subscribed from) (fetch_between from d.now) (subscribed from) body same (tags_alone c m id d from ns root tells is_root encodable)
-  by_mode XcapPatching d from ns tells same = led id _ (subscribed from) (answer_between from d.now) (subscribed d.now) body same (patching c m id d from ns root tells is_root encodable)
-  by_mode Aggregate d from ns tells same = led id _ (subscribed from) (answer_between from d.now) (subscribed d.now) body same (aggregate c m id d from ns root tells is_root encodable)
+  by_mode : (one : Mode) (d : Document) (from : Version) (ns : List Note) → TellsSince c m (notes_since id d from ns) → body ≡ encode_utf8_all (document_print (notice_of one root (id_text id) from.tag ns)) → UpdatesTo one id body from d.now
+  by_mode NoPatching d from ns tells same = led id _ (subscribed from) (fetch_between from d.now) (subscribed from) body same (tags_alone c m (notes_since id d from ns) root tells is_root encodable)
+  by_mode XcapPatching d from ns tells same = led id _ (subscribed from) (answer_between from d.now) (subscribed d.now) body same (patching c m (notes_since id d from ns) root tells is_root encodable)
+  by_mode Aggregate d from ns tells same = led id _ (subscribed from) (answer_between from d.now) (subscribed d.now) body same (aggregate c m (notes_since id d from ns) root tells is_root encodable)
 
   told_on : (ns : List Note) → since c id tag ≡ ReportedChanges ns → body ≡ encode_utf8_all (document_print (notice_of mode root (id_text id) tag ns)) → UpdatesHeld mode tag id body (document_in document_name m.documents id)
   told_on ns told same =
@@ -131,7 +132,7 @@ module _ (root : List ℕ) (is_root : IsRoot root (authority_of root) (path_of r
       differ : (n k : ℕ) → (n == k) ≡ false → n ≡ k → ⊥
       differ n k other same = true≢false (sym (eq-eqb n k same) ∙ other)
 
-  by_story : (changes_since : ChangesSince) → since c id tag ≡ changes_since → a ≡ changes_since_answer root mode tag id changes_since Get request → SubscriberHolds m mode tag id a.reply
+  by_story : (changes_since : ChangesSince) → since c id tag ≡ changes_since → a ≡ changes_since_answer root (feed_query mode tag id) changes_since (read_by Get request) → SubscriberHolds m mode tag id a.reply
   by_story Gone e is = record {
     updates = λ _. gone_on root is_root c m kept stands mode tag id encodable a.reply.body e (ap (λ (x : Answer). x.reply.body) is);
     unknown = λ same. let never : 200 ≡ 410 = sym (ap (λ (x : Answer). x.reply.status) is) ∙ same in absurd (omega (arith, never));
@@ -145,13 +146,13 @@ module _ (root : List ℕ) (is_root : IsRoot root (authority_of root) (path_of r
     unknown = λ same. let never : 200 ≡ 410 = sym (ap (λ (x : Answer). x.reply.status) is) ∙ same in absurd (omega (arith, never));
   }
 
-  by_user : ByUser root c (Feed mode tag id) Get request a → SubscriberHolds m mode tag id a.reply
+  by_user : ByUser (server_of root c) (Feed mode tag id) Get request a → SubscriberHolds m mode tag id a.reply
   by_user is =
-      either (is_allowed false (auid_of (Feed mode tag id)) (home_of (Feed mode tag id)) request.fields) (ByMethod root c (Feed mode tag id) Get request a) (a ≡ unchanged (plain 403 request.closes))
+      either (is_allowed false (auid_of (Feed mode tag id)) (home_of (Feed mode tag id)) request.fields) (ByMethod (server_of root c) (Feed mode tag id) Get request a) (a ≡ unchanged (plain 403 request.closes))
       (λ _. by_story (since c id tag) refl) (λ _. silent 403 refl refl) is
 
-  by_target : ByTarget root c (Feed mode tag id) (method_of request.method) request a → method_of request.method ≡ Get → SubscriberHolds m mode tag id a.reply
-  by_target is method = by_user (subst (λ (x : Method). ByTarget root c (Feed mode tag id) x request a) method is)
+  by_target : ByTarget (server_of root c) (Feed mode tag id) (method_of request.method) request a → method_of request.method ≡ Get → SubscriberHolds m mode tag id a.reply
+  by_target is method = by_user (subst (λ (x : Method). ByTarget (server_of root c) (Feed mode tag id) x request a) method is)
 
 pub holds : (root : List ℕ) → IsRoot root (authority_of root) (path_of root) → (c : StoreContents) (m : State) (request : Request) (a : Answer) → IsValidState m → Represents c m → IsAnswer root c request a
     → (mode : Mode) (tag : ℕ) (id : DocId) → TargetResult root request.target (Ok (Feed mode tag id)) → method_of request.method ≡ Get → SubscriberHolds m mode tag id a.reply

@@ -8,6 +8,7 @@ use Rattle.request_checks.specs.Conditions.{IsStop}
 use Rattle.xcap_machine.specs.Answers.{Answer, BehindConditions, unchanged}
 use Rattle.xcap_machine.specs.inner.Cases.{Behind}
 use Rattle.xcap_machine.specs.DocumentWrites.{IfStored}
+use Rattle.xcap_machine.specs.inner.Records.{representation}
 
 -- either case of a test
 pub either : {X : Type 0} (b : Bool) (P Q : Type 0) → (b ≡ true → P → X) → (b ≡ false → Q → X) → MatchBool b P Q → X
@@ -23,10 +24,10 @@ at_false b P Q is q = subst (λ (t : Bool). MatchBool t P Q) (sym is) q
 
 -- a reply that stops the request is the answer; without one, what follows counts
 module _ (request : Request) (tag : Option ℕ) (exists reading : Bool) (stop : Option SentReply) (is : IsStop request tag exists reading stop) where
-  pub stopped : (reply : SentReply) (P : Type 0) → stop ≡ Some reply → BehindConditions request tag exists reading (unchanged reply) P
+  pub stopped : (reply : SentReply) (P : Type 0) → stop ≡ Some reply → BehindConditions request (representation tag exists) reading (unchanged reply) P
   stopped reply P so = (stop, is, subst (λ (s : Option SentReply). Behind s (unchanged reply) P) (sym so) refl)
 
-  pub unstopped : (a : Answer) (P : Type 0) → stop ≡ None → P → BehindConditions request tag exists reading a P
+  pub unstopped : (a : Answer) (P : Type 0) → stop ≡ None → P → BehindConditions request (representation tag exists) reading a P
   unstopped a P so p = (stop, is, subst (λ (s : Option SentReply). Behind s a P) (sym so) p)
 
 -- a usage that stores documents, and one that doesn't

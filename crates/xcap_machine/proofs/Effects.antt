@@ -8,7 +8,7 @@ use Rattle.node_select.specs.declared.selector.End.{End}
 use Rattle.node_select.specs.declared.selector.End.TheVariants as ends
 use Rattle.node_select.specs.declared.selector.Selector.{Selector}
 use Rattle.tree_text.specs.Faults.{TextAnswer}
-use Rattle.xml_tree.specs.declared.names.Decl.{Decl}
+use Rattle.xml_names.specs.declared.names.Decl.{Decl}
 use Rattle.edit_ops.specs.Changes.{edited}
 use Rattle.edit_ops.specs.declared.change.Change.{Change}
 use Rattle.edit_ops.specs.declared.change.Change.TheVariants.{CreateDocument, Insert, Replace, Remove, DropAttr, RemoveDocument}
@@ -39,33 +39,35 @@ use Rattle.xcap_machine.specs.Requests.{Deletes, IsAnswer, Puts}
 use Rattle.xcap_machine.specs.Resources.{version_of}
 use Rattle.xcap_machine.specs.DocumentWrites.{change_answer, deleted_reply, put_change, put_reply}
 use Rattle.xcap_machine.specs.inner.Cases.{PutsNodeIn, PutsNodeOf}
+use Rattle.xcap_machine.specs.inner.Records.{put_of, server_of, write_of}
 use Rattle.xcap_machine.proofs.Accepted.{Accepts, DocumentPut, Enters, HeldPut, NodePut, StoreMade, accepted, by_target, delete_enters, document_deleted, document_put, no_bindings, node_deleted, node_put, of_element, of_value, put_again_enters, put_enters, stopped_never, store_made}
 use Rattle.store_core.proofs.HeldAfter.{edited_there, made_there, new_held, removed_there, same_others, same_others_more}
 use Rattle.xcap_machine.proofs.After.{edit_let_in, let_in_again, make_let_in, names_apart, seen_at, unseen_at}
 use Rattle.xcap_machine.proofs.Asked.{held_at}
 use Rattle.xcap_machine.proofs.Steps.{step_of}
 use Rattle.xcap_machine.proofs.Twice.{document_again, element_again, leaves_trees, same_place, value_again}
+use Rattle.edit_rules.specs.Plans.{IsJudged}
 
 -- ---- planned changes are edits
 
-element_edits : (u : Usage) (t : Tree) (steps : List Step) (spot : Spot) (e : Tree) (change : Change) → IsPutPlan u t steps spot e (Ok change) → act_of change ≡ Edits
+element_edits : (u : Usage) (t : Tree) (steps : List Step) (spot : Spot) (e : Tree) (change : Change) → IsPutPlan (record { usage = u; document = t; steps = steps }) spot e (Ok change) → act_of change ≡ Edits
 element_edits u t steps (Over p) e change h = let m = tested_ok CannotInsert (IsLawfulReplacement steps t e p) u t (Replace p e) change h in ap act_of m.is
 element_edits u t steps (Under q) e change h = by h.gap h.then
   where
-    by : (g : Result ℕ EditRefusal) → FromGap u t q e g (Ok change) → act_of change ≡ Edits
+    by : (g : Result ℕ EditRefusal) → FromGap (λ gap. IsJudged u t (Insert q gap e)) g (Ok change) → act_of change ≡ Edits
     by (Err why) then = let z = then in cc
     by (Ok gap) then = ap act_of (judged_ok u t (Insert q gap e) change then).0
 element_edits u t steps Beside e change h = cc
 element_edits u t steps (Value p) e change h = absurd h
 
-value_edits : (u : Usage) (t : Tree) (steps : List Step) (uri local p value : List ℕ) (change : Change) → IsValuePlan u t steps uri local p value (Ok change) → act_of change ≡ Edits
+value_edits : (u : Usage) (t : Tree) (steps : List Step) (uri local p value : List ℕ) (change : Change) → IsValuePlan (record { usage = u; document = t; steps = steps }) (record { path = p; uri = uri; local = local }) value (Ok change) → act_of change ≡ Edits
 value_edits u t steps uri local p value change h = ap act_of (written_is u t steps uri local p value change h).is
 
-removal_edits : (u : Usage) (t : Tree) (selector : Selector) (p : List ℕ) (change : Change) → IsRemoval u t selector p (Ok change) → act_of change ≡ Edits
+removal_edits : (u : Usage) (t : Tree) (selector : Selector) (p : List ℕ) (change : Change) → IsRemoval (record { usage = u; document = t; selector = selector }) p (Ok change) → act_of change ≡ Edits
 removal_edits u t selector [] change h = cc
 removal_edits u t selector (n ∷ p) change h = ap act_of (tested_ok CannotDelete (FindsNothingAfter selector t (Remove (n ∷ p))) u t (Remove (n ∷ p)) change h).is
 
-plan_for_edits : (u : Usage) (t : Tree) (selector : Selector) (p : List ℕ) (e : Tree) (end : End) (change : Change) → IsPlanFor u t selector p e end (Ok change) → act_of change ≡ Edits
+plan_for_edits : (u : Usage) (t : Tree) (selector : Selector) (p : List ℕ) (e : Tree) (end : End) (change : Change) → IsPlanFor (record { usage = u; document = t; selector = selector }) p e end (Ok change) → act_of change ≡ Edits
 plan_for_edits u t selector p e ends.Element change h = removal_edits u t selector p change h
 plan_for_edits u t selector p e (ends.Attribute uri local) change h =
     let drop = DropAttr p h.attr.name in ap act_of (tested_ok CannotDelete (FindsNothingAfter selector t drop) u t drop change h.then).is
@@ -141,7 +143,7 @@ module _ (root : List ℕ) (c next : Content) (request : Request) (edit : Edit) 
     abbrev answer : Answer
     answer = answer_as a.reply (Some edit)
 
-    document_enters : Enters (Document id) Put request (λ usage. Puts root c (Document id) usage request answer)
+    document_enters : Enters (Document id) Put request (λ usage. Puts (server_of root c) (Document id) usage request answer)
     document_enters = put_enters root c request (Document id) answer made refl (by_target root c request answer (Document id) Put a.means a.asks a.does.answers)
 
     document_made : DocumentPut c id document_enters.usage request answer
@@ -160,7 +162,7 @@ module _ (root : List ℕ) (c next : Content) (request : Request) (edit : Edit) 
     document_leaves apart free b is =
         let t = document_made.tree in
         let now = document_now in
-        let again = put_again_enters root next request (Document id) b (λ usage. Puts root c (Document id) usage request answer) document_enters (by_target root next request b (Document id) Put a.means a.asks is) in
+        let again = put_again_enters root next request (Document id) b (λ usage. Puts (server_of root c) (Document id) usage request answer) document_enters (by_target root next request b (Document id) Put a.means a.asks is) in
         let put = document_again next id document_enters.usage request t edit.note.next b document_made.typed document_made.spelled document_made.judged free (seen_now next id t edit.note.next now) again in
         leaves_trees next id (Replace [] t) now.held refl now.there now.let_in request b (put_reply true request.closes) (λ n. refl) (sym now.tree) apart put
 
@@ -170,7 +172,7 @@ module _ (root : List ℕ) (c next : Content) (request : Request) (edit : Edit) 
     abbrev node_answer : Answer
     node_answer = answer_as a.reply (Some edit)
 
-    node_enters : Enters (Node id selector) Put request (λ usage. Puts root c (Node id selector) usage request node_answer)
+    node_enters : Enters (Node id selector) Put request (λ usage. Puts (server_of root c) (Node id selector) usage request node_answer)
     node_enters = put_enters root c request (Node id selector) node_answer made refl (by_target root c request node_answer (Node id selector) Put a.means a.asks a.does.answers)
 
     node_made : HeldPut c id node_enters.usage selector (version_of c id) request node_answer
@@ -184,10 +186,10 @@ module _ (root : List ℕ) (c next : Content) (request : Request) (edit : Edit) 
         let s = store_made c id change request.closes (put_reply (is_there before selector) request.closes) node_answer made refl answers in
         subst (λ (x : Content). Now x id (edited before change) edit.note.next) (sym (next_is root c next request edit id change a.reply a.does s)) (now_edited c id made change before node_made.tag acts node_made.held s)
 
-    element_is_there : selector.end ≡ ends.Element → ElementIsThere c next id edit.note.next selector request.body
+    element_is_there : selector.end ≡ ends.Element → ElementIsThere (put_of c next id edit.note.next selector request.body)
     element_is_there ends_so = by node_made.put.put
       where
-        by : NodePut c id node_enters.usage selector before request node_answer → ElementIsThere c next id edit.note.next selector request.body
+        by : NodePut c id node_enters.usage selector before request node_answer → ElementIsThere (put_of c next id edit.note.next selector request.body)
         by (of_value p uri local value ends_in place spelled change plan answers) = let z : ends.Element ≡ ends.Attribute uri local = sym ends_so ∙ ends_in in cc
         by (of_element spot _ place e spelled change plan answers) =
             let put = put_is node_enters.usage before selector.steps spot e change plan in
@@ -206,13 +208,13 @@ module _ (root : List ℕ) (c next : Content) (request : Request) (edit : Edit) 
               there = put.there;
             }
 
-    value_is_there : (uri local : List ℕ) → selector.end ≡ ends.Attribute uri local → ValueIsThere next id edit.note.next selector uri local request.body
+    value_is_there : (uri local : List ℕ) → selector.end ≡ ends.Attribute uri local → ValueIsThere (put_of c next id edit.note.next selector request.body) uri local
     value_is_there uri local ends_so = by node_made.put.put
       where
-        by : NodePut c id node_enters.usage selector before request node_answer → ValueIsThere next id edit.note.next selector uri local request.body
+        by : NodePut c id node_enters.usage selector before request node_answer → ValueIsThere (put_of c next id edit.note.next selector request.body) uri local
         by (of_element spot ends_in place e spelled change plan answers) = let z : ends.Element ≡ ends.Attribute uri local = sym ends_in ∙ ends_so in cc
         by (of_value p _ _ value _ place spelled change plan answers) =
-            let here : IsValuePlan node_enters.usage before selector.steps uri local p value (Ok change) = subst (λ (end : End). IsAttrPlan node_enters.usage before selector.steps end p value (Ok change)) ends_so plan in
+            let here : IsValuePlan (record { usage = node_enters.usage; document = before; steps = selector.steps }) (record { path = p; uri = uri; local = local }) value (Ok change) = subst (λ (end : End). IsAttrPlan (record { usage = node_enters.usage; document = before; steps = selector.steps }) end p value (Ok change)) ends_so plan in
             record {
               value = value;
               spelled = spelled;
@@ -225,12 +227,12 @@ module _ (root : List ℕ) (c next : Content) (request : Request) (edit : Edit) 
     node_leaves : AreDistinct (map stored_name next.documents) → IsUnconditional request → (b : Answer) → IsAnswer root next request b → LeavesTrees next request b
     node_leaves apart free b is = by node_made.put.put
       where
-        again : Puts root next (Node id selector) node_enters.usage request b
-        again = put_again_enters root next request (Node id selector) b (λ usage. Puts root c (Node id selector) usage request node_answer) node_enters (by_target root next request b (Node id selector) Put a.means a.asks is)
+        again : Puts (server_of root next) (Node id selector) node_enters.usage request b
+        again = put_again_enters root next request (Node id selector) b (λ usage. Puts (server_of root c) (Node id selector) usage request node_answer) node_enters (by_target root next request b (Node id selector) Put a.means a.asks is)
 
         -- of the document as it is stored afterwards
-        of_version : (t : Tree) → ◌≡◌ {A = Option (Tree × ℕ)} (version_of next id) (Some (t, edit.note.next)) → PutsNodeOf next id node_enters.usage selector t root edit.note.next request b
-        of_version t held = subst (λ (v : Option (Tree × ℕ)). PutsNodeIn root next id node_enters.usage selector v request b) held again
+        of_version : (t : Tree) → ◌≡◌ {A = Option (Tree × ℕ)} (version_of next id) (Some (t, edit.note.next)) → PutsNodeOf (server_of root next) (write_of id node_enters.usage selector request) (t, edit.note.next) b
+        of_version t held = subst (λ (v : Option (Tree × ℕ)). PutsNodeIn (server_of root next) (write_of id node_enters.usage selector request) v b) held again
 
         leaves : (change : Change) (t : Tree) → Now next id t edit.note.next → act_of change ≡ Edits → edited t change ≡ t → b ≡ change_answer next id change request.closes (put_reply true request.closes) → LeavesTrees next request b
         leaves change t now acts same put =
@@ -253,7 +255,7 @@ module _ (root : List ℕ) (c next : Content) (request : Request) (edit : Edit) 
         by (of_value p uri local value ends_so place spelled change plan answers) =
             let usage = node_enters.usage in
             let t = edited before change in
-            let here : IsValuePlan usage before selector.steps uri local p value (Ok change) = subst (λ (end : End). IsAttrPlan usage before selector.steps end p value (Ok change)) ends_so plan in
+            let here : IsValuePlan (record { usage = usage; document = before; steps = selector.steps }) (record { path = p; uri = uri; local = local }) value (Ok change) = subst (λ (end : End). IsAttrPlan (record { usage = usage; document = before; steps = selector.steps }) end p value (Ok change)) ends_so plan in
             let acts = value_edits usage before selector.steps uri local p value change here in
             let now = node_now change acts answers in
             let written = written_is usage before selector.steps uri local p value change here in
@@ -261,10 +263,10 @@ module _ (root : List ℕ) (c next : Content) (request : Request) (edit : Edit) 
             leaves change t now acts twice.2
             (value_again next id usage selector t request b node_made.put.typed free root edit.note.next p uri local value change ends_so twice.0 twice.1 (written_finds usage before selector.steps uri local p value change written) spelled (of_version t (seen_now next id t edit.note.next now)))
 
-  node_is_there : (id : DocId) (selector : Selector) → Accepts root c request Put (Node id selector) next edit → NodeIsThere c next id edit.note.next selector selector.end request.body
+  node_is_there : (id : DocId) (selector : Selector) → Accepts root c request Put (Node id selector) next edit → NodeIsThere (put_of c next id edit.note.next selector request.body) selector.end
   node_is_there id selector a = by selector.end refl
     where
-      by : (end : End) → selector.end ≡ end → NodeIsThere c next id edit.note.next selector end request.body
+      by : (end : End) → selector.end ≡ end → NodeIsThere (put_of c next id edit.note.next selector request.body) end
       by ends.Element ends_so = element_is_there id selector a ends_so
       by (ends.Attribute uri local) ends_so = value_is_there id selector a uri local ends_so
       by ends.Namespaces ends_so = absurd (no_bindings c id (node_enters id selector a).usage selector (before id selector a) request (node_answer id selector a) (node_made id selector a).put.put ends_so)
@@ -272,7 +274,7 @@ module _ (root : List ℕ) (c next : Content) (request : Request) (edit : Edit) 
   -- ---- by target
 
   -- which lines an accepted PUT passed
-  put_passed : (target : Target) (a : Accepts root c request Put target next edit) → Enters target Put request (λ usage. Puts root c target usage request (answer_as a.reply (Some edit)))
+  put_passed : (target : Target) (a : Accepts root c request Put target next edit) → Enters target Put request (λ usage. Puts (server_of root c) target usage request (answer_as a.reply (Some edit)))
   put_passed target a = put_enters root c request target (answer_as a.reply (Some edit)) made refl (by_target root c request (answer_as a.reply (Some edit)) target Put a.means a.asks a.does.answers)
 
   -- it is for a document or a node

@@ -7,7 +7,7 @@ use Rattle.std.specs.Fmt.{digit_glyph}
 use Rattle.std.specs.List.{list_all}
 use Rattle.percent_encoding.specs.Percent.{percent_encode_byte}
 use Rattle.tree_text.proofs.PrintedValues.{both as parts}
-use Rattle.xml_tree.specs.Characters.{all_chars, is_char}
+use Rattle.xml_names.specs.Characters.{all_chars, is_char}
 use Rattle.doc_names.specs.Escapes.{escaped, escaped_octet, is_plain, escaped_part as part_text}
 use Rattle.doc_names.specs.Ids.{home_text, id_text}
 use Rattle.doc_names.specs.Usages.{auid_text}

@@ -8,6 +8,7 @@ pub mod Changed
 pub mod Documents
 pub mod Effects
 pub mod Following
+pub mod KeyAddresses
 pub mod Leading
 pub mod Letters
 pub mod Named

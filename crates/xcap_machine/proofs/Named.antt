@@ -1,7 +1,7 @@
 -- The attribute that the address of a request ends in is writable.
 use Rattle.std.proofs.Common.{◌≡◌, ℕ, Bool, true, false, cond, List, Option, Result, Ok, Err, IfOk, inl, inr, subst, sym, encode_utf8_all}
 use Rattle.std.specs.Str.{chars}
-use Rattle.xml_tree.specs.declared.names.Decl.{Decl}
+use Rattle.xml_names.specs.declared.names.Decl.{Decl}
 use Rattle.doc_names.specs.Usages.{namespace_of}
 use Rattle.doc_names.specs.declared.doc_id.DocId.{DocId}
 use Rattle.node_select.specs.declared.fault.SelectorFault.{SelectorFault}

@@ -64,6 +64,7 @@ use Rattle.xcap_machine.specs.Resources.{IsResourceOf, Resource, absent, beyond_
 use Rattle.xcap_machine.specs.NodeWrites.{CutsNode, PutsAt, PutsElement, PutsFragment, PutsFrom, PutsValue, cut_reply, is_there, levels_for, plan_answer, put_planned, scope_for, value_conflict}
 use Rattle.xcap_machine.specs.DocumentWrites.{IfStored, PutsBody, PutsDocument, PutsSpelled, change_answer, deleted_reply, missing_parent_answer, put_answer, text_conflict}
 use Rattle.xcap_machine.specs.inner.Cases.{DeletesDocumentIn, DeletesNodeIn, PutsElementText, PutsNodeIn, PutsNodeOf, PutsValueText, IsAnswered, PutsText, by_judgement, version_tag as tag_of, Behind}
+use Rattle.xcap_machine.specs.inner.Records.{element_query, feed_query, read_by, representation, server_of, write_of}
 use Rattle.xcap_machine.proofs.Leading.{leads, only_leads, resource}
 
 -- there is an answer of this kind, and there is no other
@@ -91,7 +92,7 @@ one_past : (stop : Option SentReply) (P : Answer → Type 0) → IsOne P → IsO
 one_past None P p = p
 one_past (Some reply) P p = one_equal (unchanged reply)
 
-one_behind : (request : Request) (tag : Option ℕ) (exists reading : Bool) (P : Answer → Type 0) → IsOne P → IsOne (λ a. BehindConditions request tag exists reading a (P a))
+one_behind : (request : Request) (tag : Option ℕ) (exists reading : Bool) (P : Answer → Type 0) → IsOne P → IsOne (λ a. BehindConditions request (representation tag exists) reading a (P a))
 one_behind request tag exists reading P p =
     let stop = some_stop request tag exists reading in
     one_by (IsStop request tag exists reading) (λ s a. Behind s a (P a)) stop.0 stop.1 (λ s is. one_stop request tag exists reading s stop.0 is stop.1) (one_past stop.0 P p)
@@ -99,44 +100,44 @@ one_behind request tag exists reading P p =
 -- ---- reading
 
 module _ (method : Method) (request : Request) where
-  one_found : (text : Option (List ℕ)) (tag : ℕ) (media : MediaType) → IsOne (λ a. SendsFound text tag media method request a)
+  one_found : (text : Option (List ℕ)) (tag : ℕ) (media : MediaType) → IsOne (λ a. SendsFound text tag media (read_by method request) a)
   one_found None tag media = one_equal (unchanged (plain 404 request.closes))
   one_found (Some text) tag media =
       let last : Answer = unchanged (for_method method (found (Some tag) media text request.closes)) in
       one_behind request (Some tag) true true (λ a. a ≡ last) (one_equal last)
 
-  one_document_sent : (r : Resource) (media : MediaType) → IsOne (λ a. SendsDocument r media method request a)
+  one_document_sent : (r : Resource) (media : MediaType) → IsOne (λ a. SendsDocument r media (read_by method request) a)
   one_document_sent absent media = one_equal (unchanged (plain 404 request.closes))
   one_document_sent beyond_limit media = one_equal (unchanged (plain 507 request.closes))
   one_document_sent (there t tag) media = one_found (Some (encode_utf8_all (document_print t))) tag media
 
-  one_node_sent : (r : Resource) (selector : Selector) → IsOne (λ a. SendsNode r selector method request a)
+  one_node_sent : (r : Resource) (selector : Selector) → IsOne (λ a. SendsNode r selector (read_by method request) a)
   one_node_sent absent selector = one_equal (unchanged (plain 404 request.closes))
   one_node_sent beyond_limit selector = one_equal (unchanged (plain 507 request.closes))
   one_node_sent (there t tag) selector = one_found (encoded (found_text t selector)) tag (node_media selector.end)
 
-  one_element_told : (root : List ℕ) (c : Content) (tag : ℕ) (id : DocId) (selector : Selector) (raw : List ℕ) (changes_since : ChangesSince) → since c id tag ≡ changes_since → IsOne (λ a. TellsElement root c tag id selector raw changes_since method request a)
-  one_element_told root c tag id selector raw Gone is = one_equal (sends_notice (gone_notice root (id_text id) tag) method request)
+  one_element_told : (root : List ℕ) (c : Content) (tag : ℕ) (id : DocId) (selector : Selector) (raw : List ℕ) (changes_since : ChangesSince) → since c id tag ≡ changes_since → IsOne (λ a. TellsElement (server_of root c) (element_query tag id selector raw) changes_since (read_by method request) a)
+  one_element_told root c tag id selector raw Gone is = one_equal (sends_notice (gone_notice root (id_text id) tag) (read_by method request))
   one_element_told root c tag id selector raw Unknown is = one_equal (unchanged (plain 410 request.closes))
   one_element_told root c tag id selector raw (ReportedChanges ns) is =
       let notice = some_notice root c tag id selector raw ns is in
-      one_by (IsElementNotice root c id selector raw ns) (λ n a. a ≡ sends_notice n method request) notice.0 notice.1 (λ n h. one_notice root c id selector raw ns n notice.0 h notice.1) (one_equal (sends_notice notice.0 method request))
+      one_by (IsElementNotice (record { root = root; doc = id; selector = selector; raw = raw }) c ns) (λ n a. a ≡ sends_notice n (read_by method request)) notice.0 notice.1 (λ n h. one_notice root c id selector raw ns n notice.0 h notice.1) (one_equal (sends_notice notice.0 (read_by method request)))
 
-  one_read : (root : List ℕ) (c : Content) (target : Target) → IsOne (λ a. Reads root c target method request a)
+  one_read : (root : List ℕ) (c : Content) (target : Target) → IsOne (λ a. Reads (server_of root c) target (read_by method request) a)
   one_read root c (Document id) =
       let r = resource c id in
-      one_by (IsResourceOf c id) (λ r a. SendsDocument r (document_media id.auid) method request a) r (leads c id) (only_leads c id) (one_document_sent r (document_media id.auid))
+      one_by (IsResourceOf c id) (λ r a. SendsDocument r (document_media id.auid) (read_by method request) a) r (leads c id) (only_leads c id) (one_document_sent r (document_media id.auid))
   one_read root c (Node id selector) =
       let r = resource c id in
-      one_by (IsResourceOf c id) (λ r a. SendsNode r selector method request a) r (leads c id) (only_leads c id) (one_node_sent r selector)
+      one_by (IsResourceOf c id) (λ r a. SendsNode r selector (read_by method request) a) r (leads c id) (only_leads c id) (one_node_sent r selector)
   one_read root c (Deep auid home) = one_equal (unchanged (plain 404 request.closes))
-  one_read root c (Feed mode tag id) = one_equal (changes_since_answer root mode tag id (since c id tag) method request)
+  one_read root c (Feed mode tag id) = one_equal (changes_since_answer root (feed_query mode tag id) (since c id tag) (read_by method request))
   one_read root c (ElementFeed tag id selector raw) = one_element_told root c tag id selector raw (since c id tag) refl
   one_read root c (Flat id service) =
       let list = some_list c root id service in
       let document = document_of list.0 in
-      one_by (IsFlatDocument root c id service) (λ x a. a ≡ sends_flat x method request) document (list.0, list.1, refl) (λ x is. is.2 ∙ ap document_of (one_list c root id service is.0 list.0 is.1 list.1))
-      (one_equal (sends_flat document method request))
+      one_by (IsFlatDocument root c id service) (λ x a. a ≡ sends_flat x (read_by method request)) document (list.0, list.1, refl) (λ x is. is.2 ∙ ap document_of (one_list c root id service is.0 list.0 is.1 list.1))
+      (one_equal (sends_flat document (read_by method request)))
 
 -- ---- PUT of documents
 
@@ -166,56 +167,56 @@ module _ (c : Content) (id : DocId) (request : Request) where
   -- ---- PUT of nodes
 
   module _ (usage : Usage) (selector : Selector) (t : Tree) where
-    one_element_text : (spot : Spot) → selector.end ≡ ends.Element → IsSpotOf t selector spot → (read : Result Tree TextFault) → IsOne (λ a. PutsElementText c id usage selector t spot read request a)
+    one_element_text : (spot : Spot) → selector.end ≡ ends.Element → IsSpotOf t selector spot → (read : Result Tree TextFault) → IsOne (λ a. PutsElementText c (write_of id usage selector request) t spot read a)
     one_element_text spot ends_so is (Err fault) = one_equal (unchanged (conflict (text_conflict conflicts.NotXmlFrag fault) request.closes))
     one_element_text spot ends_so is (Ok e) =
         let plan = some_put usage t selector spot e ends_so is in
-        one_by (IsPutPlan usage t selector.steps spot e) (λ p a. a ≡ put_planned c id usage selector t request p) plan.0 plan.1
-        (λ p h. plans.one_put usage t selector.steps spot e p plan.0 h plan.1) (one_equal (put_planned c id usage selector t request plan.0))
+        one_by (IsPutPlan (record { usage = usage; document = t; steps = selector.steps }) spot e) (λ p a. a ≡ put_planned c (write_of id usage selector request) t p) plan.0 plan.1
+        (λ p h. plans.one_put usage t selector.steps spot e p plan.0 h plan.1) (one_equal (put_planned c (write_of id usage selector request) t plan.0))
 
-    one_element : (spot : Spot) → selector.end ≡ ends.Element → IsSpotOf t selector spot → IsOne (λ a. PutsElement c id usage selector t spot request a)
+    one_element : (spot : Spot) → selector.end ≡ ends.Element → IsSpotOf t selector spot → IsOne (λ a. PutsElement c (write_of id usage selector request) t spot a)
     one_element spot ends_so is =
         let levels = levels_for spot in
         let scope = scope_for t spot in
         let read = text_read levels scope request.body in
         let spelled = text_answer levels scope request.body in
-        one_by (TextAnswer levels scope request.body) (λ r a. PutsElementText c id usage selector t spot r request a) read spelled
+        one_by (TextAnswer levels scope request.body) (λ r a. PutsElementText c (write_of id usage selector request) t spot r a) read spelled
         (λ r h. one_reading levels scope request.body r read h spelled) (one_element_text spot ends_so is read)
 
-    one_value_text : (p : List ℕ) → IsSpotOf t selector (Value p) → (read : Result (List ℕ) ValueFault) → IsOne (λ a. PutsValueText c id usage selector t p read request a)
+    one_value_text : (p : List ℕ) → IsSpotOf t selector (Value p) → (read : Result (List ℕ) ValueFault) → IsOne (λ a. PutsValueText c (write_of id usage selector request) t p read a)
     one_value_text p is (Err fault) = one_equal (unchanged (conflict (value_conflict fault) request.closes))
     one_value_text p is (Ok value) =
         let plan = some_attr usage t selector p value is in
-        one_by (IsAttrPlan usage t selector.steps selector.end p value) (λ x a. a ≡ put_planned c id usage selector t request x) plan.0 plan.1
-        (λ x h. plans.one_attr usage t selector.steps selector.end p value x plan.0 h plan.1) (one_equal (put_planned c id usage selector t request plan.0))
+        one_by (IsAttrPlan (record { usage = usage; document = t; steps = selector.steps }) selector.end p value) (λ x a. a ≡ put_planned c (write_of id usage selector request) t x) plan.0 plan.1
+        (λ x h. plans.one_attr usage t selector.steps selector.end p value x plan.0 h plan.1) (one_equal (put_planned c (write_of id usage selector request) t plan.0))
 
-    one_value : (p : List ℕ) → IsSpotOf t selector (Value p) → IsOne (λ a. PutsValue c id usage selector t p request a)
+    one_value : (p : List ℕ) → IsSpotOf t selector (Value p) → IsOne (λ a. PutsValue c (write_of id usage selector request) t p a)
     one_value p is =
         let read = body_read request.body in
         let spelled = body_answer request.body in
-        one_by (BodyAnswer request.body) (λ r a. PutsValueText c id usage selector t p r request a) read spelled (λ r h. one_value_reading request.body r read h spelled) (one_value_text p is read)
+        one_by (BodyAnswer request.body) (λ r a. PutsValueText c (write_of id usage selector request) t p r a) read spelled (λ r h. one_value_reading request.body r read h spelled) (one_value_text p is read)
 
-    one_at : (spot : Spot) → IsSpotOf t selector spot → IsOne (λ a. PutsAt c id usage selector t spot request a)
+    one_at : (spot : Spot) → IsSpotOf t selector spot → IsOne (λ a. PutsAt c (write_of id usage selector request) t spot a)
     one_at (Over p) is = one_element (Over p) is.0 is
     one_at (Under q) is = one_element (Under q) is.0 is
     one_at Beside is = one_element Beside is.0 is
     one_at (Value p) is = one_value p is
 
-    one_fragment : (spot : Spot) → IsSpotOf t selector spot → IsOne (λ a. PutsFragment c id usage selector t spot request a)
+    one_fragment : (spot : Spot) → IsSpotOf t selector spot → IsOne (λ a. PutsFragment c (write_of id usage selector request) t spot a)
     one_fragment spot is =
-        one_either (has_type (node_media selector.end) request.fields) (λ a. PutsAt c id usage selector t spot request a) (λ a. a ≡ unchanged (plain 415 request.closes))
+        one_either (has_type (node_media selector.end) request.fields) (λ a. PutsAt c (write_of id usage selector request) t spot a) (λ a. a ≡ unchanged (plain 415 request.closes))
         (λ _. one_at spot is) (λ _. one_equal (unchanged (plain 415 request.closes)))
 
-    one_from : (root : List ℕ) (tag : ℕ) (spot : Result Spot NoParent) → IsSpot t selector spot → IsOne (λ a. PutsFrom c id usage selector t root tag spot request a)
+    one_from : (root : List ℕ) (tag : ℕ) (spot : Result Spot NoParent) → IsSpot t selector spot → IsOne (λ a. PutsFrom (server_of root c) (write_of id usage selector request) (t, tag) spot a)
     one_from root tag (Err none) is = one_equal (unchanged (conflict (conflicts.NoParent (ancestor_uri root id t selector.steps)) request.closes))
-    one_from root tag (Ok spot) is = one_behind request (Some tag) (is_there t selector) false (λ a. PutsFragment c id usage selector t spot request a) (one_fragment spot is)
+    one_from root tag (Ok spot) is = one_behind request (Some tag) (is_there t selector) false (λ a. PutsFragment c (write_of id usage selector request) t spot a) (one_fragment spot is)
 
-    one_node_of : (root : List ℕ) (tag : ℕ) → IsOne (λ a. PutsNodeOf c id usage selector t root tag request a)
+    one_node_of : (root : List ℕ) (tag : ℕ) → IsOne (λ a. PutsNodeOf (server_of root c) (write_of id usage selector request) (t, tag) a)
     one_node_of root tag =
         let spot = some_spot t selector in
-        one_by (IsSpot t selector) (λ s a. PutsFrom c id usage selector t root tag s request a) spot.0 spot.1 (λ s is. plans.one_spot t selector s spot.0 is spot.1) (one_from root tag spot.0 spot.1)
+        one_by (IsSpot t selector) (λ s a. PutsFrom (server_of root c) (write_of id usage selector request) (t, tag) s a) spot.0 spot.1 (λ s is. plans.one_spot t selector s spot.0 is spot.1) (one_from root tag spot.0 spot.1)
 
-  one_node_put : (root : List ℕ) (usage : Usage) (selector : Selector) (version : Option (Tree × ℕ)) → IsOne (λ a. PutsNodeIn root c id usage selector version request a)
+  one_node_put : (root : List ℕ) (usage : Usage) (selector : Selector) (version : Option (Tree × ℕ)) → IsOne (λ a. PutsNodeIn (server_of root c) (write_of id usage selector request) version a)
   one_node_put root usage selector None = one_equal (missing_parent_answer root id.auid id.home request)
   one_node_put root usage selector (Some (t, tag)) = one_node_of usage selector t root tag
 
@@ -227,18 +228,18 @@ module _ (c : Content) (id : DocId) (request : Request) where
       let last : Answer = change_answer c id RemoveDocument request.closes (deleted_reply request.closes) in
       one_behind request (Some tag) true false (λ a. a ≡ last) (one_equal last)
 
-  one_cut : (usage : Usage) (selector : Selector) (t : Tree) → (selector.end ≡ ends.Namespaces → ⊥) → IsOne (λ a. CutsNode c id usage selector t request a)
+  one_cut : (usage : Usage) (selector : Selector) (t : Tree) → (selector.end ≡ ends.Namespaces → ⊥) → IsOne (λ a. CutsNode c (write_of id usage selector request) t a)
   one_cut usage selector t node =
       let plan = some_delete usage t selector node in
       let answer : Result Change EditRefusal → Answer = λ p. plan_answer c id request.closes (cut_reply request.closes) p in
       one_by (IsDeletePlan usage t selector) (λ p a. a ≡ answer p) plan.0 plan.1 (λ p h. plans.one_delete usage t selector p plan.0 h plan.1) (one_equal (answer plan.0))
 
-  one_node_deleted : (usage : Usage) (selector : Selector) → (selector.end ≡ ends.Namespaces → ⊥) → (version : Option (Tree × ℕ)) → IsOne (λ a. DeletesNodeIn c id usage selector version request a)
+  one_node_deleted : (usage : Usage) (selector : Selector) → (selector.end ≡ ends.Namespaces → ⊥) → (version : Option (Tree × ℕ)) → IsOne (λ a. DeletesNodeIn c (write_of id usage selector request) version a)
   one_node_deleted usage selector node None = one_equal (unchanged (plain 404 request.closes))
   one_node_deleted usage selector node (Some (t, tag)) =
-      let Last : Answer → Type 0 = λ a. CutsNode c id usage selector t request a in
+      let Last : Answer → Type 0 = λ a. CutsNode c (write_of id usage selector request) t a in
       let missing : Answer = unchanged (plain 404 request.closes) in
-      one_either (is_there t selector) (λ a. BehindConditions request (Some tag) true false a (Last a)) (λ a. a ≡ missing) (λ _. one_behind request (Some tag) true false Last (one_cut usage selector t node)) (λ _. one_equal missing)
+      one_either (is_there t selector) (λ a. BehindConditions request (representation (Some tag) true) false a (Last a)) (λ a. a ≡ missing) (λ _. one_behind request (Some tag) true false Last (one_cut usage selector t node)) (λ _. one_equal missing)
 
 -- ---- all in order
 
@@ -248,7 +249,7 @@ not_bindings selector written is = let z : false ≡ true = sym (ap (λ (end : E
 
 module _ (root : List ℕ) (c : Content) (request : Request) where
   -- a target that can only be read isn't written
-  one_put : (target : Target) (usage : Usage) → takes target Put ≡ true → IsOne (λ a. Puts root c target usage request a)
+  one_put : (target : Target) (usage : Usage) → takes target Put ≡ true → IsOne (λ a. Puts (server_of root c) target usage request a)
   one_put (Document id) usage written = one_document_put c id request usage
   one_put (Node id selector) usage written = one_node_put c id request root usage selector (version_of c id)
   one_put (Deep auid home) usage written = one_equal (missing_parent_answer root auid home request)
@@ -264,21 +265,21 @@ module _ (root : List ℕ) (c : Content) (request : Request) where
   one_deleted (ElementFeed tag id selector raw) usage written = let none : ⊥ = cc in absurd none
   one_deleted (Flat id service) usage written = let none : ⊥ = cc in absurd none
 
-  one_by_method : (target : Target) (method : Method) → takes target method ≡ true → IsOne (λ a. ByMethod root c target method request a)
+  one_by_method : (target : Target) (method : Method) → takes target method ≡ true → IsOne (λ a. ByMethod (server_of root c) target method request a)
   one_by_method target Get takes_it = one_read Get request root c target
   one_by_method target Head takes_it = one_read Head request root c target
-  one_by_method target Put takes_it = one_stored (usage_of (auid_of target)) request (λ usage a. Puts root c target usage request a) (λ usage. one_put target usage takes_it)
+  one_by_method target Put takes_it = one_stored (usage_of (auid_of target)) request (λ usage a. Puts (server_of root c) target usage request a) (λ usage. one_put target usage takes_it)
   one_by_method target Delete takes_it = one_stored (usage_of (auid_of target)) request (λ usage a. Deletes c target usage request a) (λ usage. one_deleted target usage takes_it)
   one_by_method target Other takes_it = let none : ⊥ = cc in absurd none
 
-  one_by_user : (target : Target) (method : Method) → takes target method ≡ true → IsOne (λ a. ByUser root c target method request a)
+  one_by_user : (target : Target) (method : Method) → takes target method ≡ true → IsOne (λ a. ByUser (server_of root c) target method request a)
   one_by_user target method takes_it =
-      one_either (is_allowed (not (is_reading method)) (auid_of target) (home_of target) request.fields) (λ a. ByMethod root c target method request a) (λ a. a ≡ unchanged (plain 403 request.closes))
+      one_either (is_allowed (not (is_reading method)) (auid_of target) (home_of target) request.fields) (λ a. ByMethod (server_of root c) target method request a) (λ a. a ≡ unchanged (plain 403 request.closes))
       (λ _. one_by_method target method takes_it) (λ _. one_equal (unchanged (plain 403 request.closes)))
 
-  one_by_target : (target : Target) (method : Method) → IsOne (λ a. ByTarget root c target method request a)
+  one_by_target : (target : Target) (method : Method) → IsOne (λ a. ByTarget (server_of root c) target method request a)
   one_by_target target method =
-      one_either (takes target method) (λ a. ByUser root c target method request a) (λ a. a ≡ unchanged (not_allowed (is_read_only target) request.closes))
+      one_either (takes target method) (λ a. ByUser (server_of root c) target method request a) (λ a. a ≡ unchanged (not_allowed (is_read_only target) request.closes))
       (one_by_user target method) (λ _. one_equal (unchanged (not_allowed (is_read_only target) request.closes)))
 
   one_answered : (read : Result Target UriFault) → IsOne (λ a. IsAnswered root c read request a)

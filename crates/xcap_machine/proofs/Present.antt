@@ -2,7 +2,7 @@
 -- current one.
 use Rattle.std.proofs.Common.{◌≡◌, ℕ, ◌≤◌, Bool, true, false, cond, List, [], ◌∷◌, length, Option, Some, None, Result, Ok, decimal, slice_get, refl, sym, ap, ◌∙◌, subst, arith}
 use Rattle.std.specs.Prelude.{◌==◌}
-use Rattle.xml_tree.specs.Characters.{all_chars}
+use Rattle.xml_names.specs.Characters.{all_chars}
 use Rattle.xml_tree.specs.Tree.{Tree}
 use Rattle.doc_names.specs.Ids.{id_text}
 use Rattle.doc_names.specs.Equality.{same_id}
@@ -27,7 +27,8 @@ use Rattle.store_core.specs.ValidStates.{IsKept, IsSoundFor, IsValidState}
 use Rattle.store_core.specs.Since.{ReportedChanges, since}
 use Rattle.store_core.specs.State.{Document, State, Version, versions}
 use Rattle.store_core.proofs.Bridge.{told_since}
-use Rattle.xcap_machine.specs.Subscribers.{Brings, TellsSince, answer_between, fetch_between, subscribed}
+use Rattle.xcap_machine.specs.inner.Records.{notes_since}
+use Rattle.xcap_machine.specs.Subscribers.{Brings, TellsSince, VersionNotes, answer_between, fetch_between, subscribed}
 use Rattle.xcap_machine.proofs.Letters.{id_chars, root_chars}
 use Rattle.xcap_machine.proofs.OneVersion.{answered, found_all, one_version}
 
@@ -108,21 +109,21 @@ same_version m id d from number ns s kept same there held =
     let k : IsKept m.next d = found_all (IsKept m.next) (λ x. same_id id x.id) m.documents d kept.documents there in
     one_version d.now d.earlier s.number number s.from from k.follows (ap (λ (x : Document). slice_get (versions x) s.number) (sym same) ∙ s.is_version) held s.same_tag
 
-between : (c : Content) (m : State) (id : DocId) (d : Document) (from : Version) (ns : List Note) → TellsSince c m id d from ns → AreBetween m.next from d.now ns
-between c m id d from ns h =
-    let s = told_since c m id from.tag ns h.kept h.stands h.told in
-    let doc : s.document ≡ d = same_document (document_in document_name m.documents id) s.document d s.there h.there in
-    let version : s.from ≡ from = same_version m id d from h.number ns s h.kept doc h.there h.is_version in
-    let here : Leads (usage_of s.document.id.auid) m.next from ns s.document.now = subst (λ (v : Version). Leads (usage_of s.document.id.auid) m.next v ns s.document.now) version s.leads in record {
-      usage = usage_of d.id.auid;
-      leads = subst (λ (x : Document). Leads (usage_of x.id.auid) m.next from ns x.now) doc here;
+between : (c : Content) (m : State) (v : VersionNotes) → TellsSince c m v → AreBetween m.next v.from v.document.now v.notes
+between c m v h =
+    let s = told_since c m v.id v.from.tag v.notes h.kept h.stands h.told in
+    let doc : s.document ≡ v.document = same_document (document_in document_name m.documents v.id) s.document v.document s.there h.there in
+    let version : s.from ≡ v.from = same_version m v.id v.document v.from h.number v.notes s h.kept doc h.there h.is_version in
+    let here : Leads (usage_of s.document.id.auid) m.next v.from v.notes s.document.now = subst (λ (x : Version). Leads (usage_of s.document.id.auid) m.next x v.notes s.document.now) version s.leads in record {
+      usage = usage_of v.document.id.auid;
+      leads = subst (λ (x : Document). Leads (usage_of x.id.auid) m.next v.from v.notes x.now) doc here;
       few = s.few;
-      answer = answered c m id d from ns h.stands h.there h.told;
+      answer = answered c m v.id v.document v.from v.notes h.stands h.there h.told;
     }
 
 -- ---- the laws as they are stated
 
-pub some_version : (c : Content) (m : State) (id : DocId) (tag : ℕ) (ns : List Note) → IsValidState m → Represents c m → since c id tag ≡ ReportedChanges ns → (d : Document) × (from : Version) × (from.tag ≡ tag) × TellsSince c m id d from ns
+pub some_version : (c : Content) (m : State) (id : DocId) (tag : ℕ) (ns : List Note) → IsValidState m → Represents c m → since c id tag ≡ ReportedChanges ns → (d : Document) × (from : Version) × (from.tag ≡ tag) × TellsSince c m (notes_since id d from ns)
 some_version c m id tag ns kept stands told =
     let s = told_since c m id tag ns kept stands told in (
       s.document,
@@ -131,18 +132,18 @@ some_version c m id tag ns kept stands told =
       record { kept = kept; stands = stands; there = s.there; number = s.number; is_version = s.is_version; told = ap (since c id) s.same_tag ∙ told },
     )
 
-module _ (c : Content) (m : State) (id : DocId) (d : Document) (from : Version) (ns : List Note) (root : List ℕ) (tells : TellsSince c m id d from ns) (is_root : IsRoot root (authority_of root) (path_of root)) (encodable : is_encodable id ≡ true) where
+module _ (c : Content) (m : State) (v : VersionNotes) (root : List ℕ) (tells : TellsSince c m v) (is_root : IsRoot root (authority_of root) (path_of root)) (encodable : is_encodable v.id ≡ true) where
   chars : all_chars root ≡ true
   chars = root_chars root (authority_of root) (path_of root) is_root
 
-  pub patching : Brings id (patching_notice root (id_text id) from.tag ns) (subscribed from) (answer_between from d.now) (subscribed d.now)
-  patching = patched id root m.next from d.now ns (between c m id d from ns tells) (names id encodable) chars
+  pub patching : Brings v.id (patching_notice root (id_text v.id) v.from.tag v.notes) (subscribed v.from) (answer_between v.from v.document.now) (subscribed v.document.now)
+  patching = patched v.id root m.next v.from v.document.now v.notes (between c m v tells) (names v.id encodable) chars
 
-  pub aggregate : Brings id (aggregate_notice root (id_text id) from.tag ns) (subscribed from) (answer_between from d.now) (subscribed d.now)
-  aggregate = at_once id root m.next from d.now ns (between c m id d from ns tells) (names id encodable) chars
+  pub aggregate : Brings v.id (aggregate_notice root (id_text v.id) v.from.tag v.notes) (subscribed v.from) (answer_between v.from v.document.now) (subscribed v.document.now)
+  aggregate = at_once v.id root m.next v.from v.document.now v.notes (between c m v tells) (names v.id encodable) chars
 
-  pub tags_alone : Brings id (tags_notice root (id_text id) from.tag ns) (subscribed from) (fetch_between from d.now) (subscribed from)
-  tags_alone = by_tags id root m.next from d.now ns (between c m id d from ns tells) (names id encodable) chars
+  pub tags_alone : Brings v.id (tags_notice root (id_text v.id) v.from.tag v.notes) (subscribed v.from) (fetch_between v.from v.document.now) (subscribed v.from)
+  tags_alone = by_tags v.id root m.next v.from v.document.now v.notes (between c m v tells) (names v.id encodable) chars
 
 pub gone : (id : DocId) (tag : ℕ) (t : Tree) (root : List ℕ) → IsRoot root (authority_of root) (path_of root) → is_encodable id ≡ true → Brings id (gone_notice root (id_text id) tag) (Some (decimal tag, t)) Removed None
 gone id tag t root is_root encodable = record {

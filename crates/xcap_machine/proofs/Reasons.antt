@@ -58,6 +58,7 @@ use Rattle.xcap_machine.specs.Requests.{ByMethod, ByTarget, ByUser, Deletes, IsA
 use Rattle.xcap_machine.specs.Resources.{Resource, absent, beyond_limit, there, version_of}
 use Rattle.xcap_machine.specs.DocumentWrites.{IfStored, PutsBody, PutsDocument, PutsSpelled, change_answer, deleted_reply, fault_conflict, put_answer, put_change, put_reply, text_conflict}
 use Rattle.xcap_machine.specs.inner.Cases.{DeletesDocumentIn, DeletesNodeIn, PutsElementText, PutsNodeIn, PutsValueText, IsAnswered, PutsText, by_judgement, version_tag as tag_of, Behind}
+use Rattle.xcap_machine.specs.inner.Records.{element_query, feed_query, read_by, representation, server_of, write_of}
 use Rattle.xcap_machine.proofs.Cases.{either}
 use Rattle.xcap_machine.proofs.Changed.{as_the_store, told_by_store}
 
@@ -85,7 +86,7 @@ module _ (request : Request) (a : Answer) where
   by_outcome NotModified tag P so is = fine _ refl is
   by_outcome Failed tag P so is = fine _ refl is
 
-  behind : (tag : Option ℕ) (exists reading : Bool) (P : Type 0) → (P → Fine a) → BehindConditions request tag exists reading a P → Fine a
+  behind : (tag : Option ℕ) (exists reading : Bool) (P : Type 0) → (P → Fine a) → BehindConditions request (representation tag exists) reading a P → Fine a
   behind tag exists reading P so is = by_outcome is.1.0 tag P so (subst (λ (stop : Option SentReply). Behind stop a P) is.1.2 is.2)
 
   no_usage : (u : Option Usage) (P : Usage → Type 0) → ((usage : Usage) → P usage → Fine a) → IfStored u request a P → Fine a
@@ -118,38 +119,38 @@ asked_so Delete reply other = other
 asked_so Other reply other = other
 
 module _ (method : Method) (request : Request) (a : Answer) where
-  found_so : (text : Option (List ℕ)) (tag : ℕ) (media : MediaType) → SendsFound text tag media method request a → Fine a
+  found_so : (text : Option (List ℕ)) (tag : ℕ) (media : MediaType) → SendsFound text tag media (read_by method request) a → Fine a
   found_so None tag media is = only request a 404 refl is
   found_so (Some text) tag media is =
       let reply = found (Some tag) media text request.closes in
       behind request a (Some tag) true true (a ≡ unchanged (for_method method reply)) (fine request a (for_method method reply) (asked_so method reply refl)) is
 
-  document_so : (r : Resource) (media : MediaType) → SendsDocument r media method request a → Fine a
+  document_so : (r : Resource) (media : MediaType) → SendsDocument r media (read_by method request) a → Fine a
   document_so absent media is = only request a 404 refl is
   document_so beyond_limit media is = only request a 507 refl is
   document_so (there t tag) media is = found_so (Some (encode_utf8_all (document_print t))) tag media is
 
-  node_so : (r : Resource) (selector : Selector) → SendsNode r selector method request a → Fine a
+  node_so : (r : Resource) (selector : Selector) → SendsNode r selector (read_by method request) a → Fine a
   node_so absent selector is = only request a 404 refl is
   node_so beyond_limit selector is = only request a 507 refl is
   node_so (there t tag) selector is = found_so (encoded (found_text t selector)) tag (node_media selector.end) is
 
-  notice_so : (notice : Tree) → a ≡ sends_notice notice method request → Fine a
+  notice_so : (notice : Tree) → a ≡ sends_notice notice (read_by method request) → Fine a
   notice_so notice is =
       let sent = found None medias.Diff (encode_utf8_all (document_print notice)) request.closes in
       fine request a (for_method method sent) (asked_so method sent refl) is
 
-  story_so : (root : List ℕ) (mode : Mode) (tag : ℕ) (id : DocId) (changes_since : ChangesSince) → a ≡ changes_since_answer root mode tag id changes_since method request → Fine a
+  story_so : (root : List ℕ) (mode : Mode) (tag : ℕ) (id : DocId) (changes_since : ChangesSince) → a ≡ changes_since_answer root (feed_query mode tag id) changes_since (read_by method request) → Fine a
   story_so root mode tag id Gone is = notice_so (gone_notice root (id_text id) tag) is
   story_so root mode tag id Unknown is = only request a 410 refl is
   story_so root mode tag id (ReportedChanges ns) is = notice_so (notice_of mode root (id_text id) tag ns) is
 
-  element_told_so : (root : List ℕ) (c : Content) (tag : ℕ) (id : DocId) (selector : Selector) (raw : List ℕ) (changes_since : ChangesSince) → TellsElement root c tag id selector raw changes_since method request a → Fine a
+  element_told_so : (root : List ℕ) (c : Content) (tag : ℕ) (id : DocId) (selector : Selector) (raw : List ℕ) (changes_since : ChangesSince) → TellsElement (server_of root c) (element_query tag id selector raw) changes_since (read_by method request) a → Fine a
   element_told_so root c tag id selector raw Gone is = notice_so (gone_notice root (id_text id) tag) is
   element_told_so root c tag id selector raw Unknown is = only request a 410 refl is
   element_told_so root c tag id selector raw (ReportedChanges ns) is = notice_so is.0 is.2
 
-  flat_so : (answer : Result Tree FlatFault) → a ≡ sends_flat answer method request → Fine a
+  flat_so : (answer : Result Tree FlatFault) → a ≡ sends_flat answer (read_by method request) → Fine a
   flat_so (Ok t) is =
       let sent = found None medias.ResourceLists (encode_utf8_all (document_print t)) request.closes in
       fine request a (for_method method sent) (asked_so method sent refl) is
@@ -157,7 +158,7 @@ module _ (method : Method) (request : Request) (a : Answer) where
   flat_so (Err TooWide) is = only request a 507 refl is
   flat_so (Err (TooLarge len)) is = only request a 507 refl is
 
-  read_so : (root : List ℕ) (c : Content) (target : Target) → Reads root c target method request a → Fine a
+  read_so : (root : List ℕ) (c : Content) (target : Target) → Reads (server_of root c) target (read_by method request) a → Fine a
   read_so root c (Document id) is = document_so is.0 (document_media id.auid) is.2
   read_so root c (Node id selector) is = node_so is.0 selector is.2
   read_so root c (Deep auid home) is = only request a 404 refl is
@@ -196,30 +197,30 @@ module _ (c : Content) (id : DocId) (request : Request) (a : Answer) where
     abbrev reply : Note → SentReply
     reply = put_reply (is_there t selector) request.closes
 
-    element_so : (spot : Spot) (read : Result Tree TextFault) → PutsElementText c id usage selector t spot read request a → Fine a
+    element_so : (spot : Spot) (read : Result Tree TextFault) → PutsElementText c (write_of id usage selector request) t spot read a → Fine a
     element_so spot (Err fault) is = conflicts_so request a (text_conflict conflicts.NotXmlFrag fault) is
     element_so spot (Ok e) is = by_plan request a c id reply (put_so (is_there t selector) request.closes) is.0 is.2
 
-    value_so : (p : List ℕ) (read : Result (List ℕ) ValueFault) → PutsValueText c id usage selector t p read request a → Fine a
+    value_so : (p : List ℕ) (read : Result (List ℕ) ValueFault) → PutsValueText c (write_of id usage selector request) t p read a → Fine a
     value_so p (Err fault) is = conflicts_so request a (value_conflict fault) is
     value_so p (Ok value) is = by_plan request a c id reply (put_so (is_there t selector) request.closes) is.0 is.2
 
-    at_so : (spot : Spot) → PutsAt c id usage selector t spot request a → Fine a
+    at_so : (spot : Spot) → PutsAt c (write_of id usage selector request) t spot a → Fine a
     at_so (Over p) is = element_so (Over p) is.0 is.2
     at_so (Under q) is = element_so (Under q) is.0 is.2
     at_so Beside is = element_so Beside is.0 is.2
     at_so (Value p) is = value_so p is.0 is.2
 
-    fragment_so : (spot : Spot) → PutsFragment c id usage selector t spot request a → Fine a
+    fragment_so : (spot : Spot) → PutsFragment c (write_of id usage selector request) t spot a → Fine a
     fragment_so spot is =
-        either (has_type (node_media selector.end) request.fields) (PutsAt c id usage selector t spot request a) (a ≡ unchanged (plain 415 request.closes))
+        either (has_type (node_media selector.end) request.fields) (PutsAt c (write_of id usage selector request) t spot a) (a ≡ unchanged (plain 415 request.closes))
         (λ _. at_so spot) (λ _. only request a 415 refl) is
 
-    from_so : (root : List ℕ) (tag : ℕ) (spot : Result Spot NoParent) → PutsFrom c id usage selector t root tag spot request a → Fine a
+    from_so : (root : List ℕ) (tag : ℕ) (spot : Result Spot NoParent) → PutsFrom (server_of root c) (write_of id usage selector request) (t, tag) spot a → Fine a
     from_so root tag (Err none) is = conflicts_so request a (conflicts.NoParent (ancestor_uri root id t selector.steps)) is
-    from_so root tag (Ok spot) is = behind request a (Some tag) (is_there t selector) false (PutsFragment c id usage selector t spot request a) (fragment_so spot) is
+    from_so root tag (Ok spot) is = behind request a (Some tag) (is_there t selector) false (PutsFragment c (write_of id usage selector request) t spot a) (fragment_so spot) is
 
-  node_put_so : (root : List ℕ) (usage : Usage) (selector : Selector) (version : Option (Tree × ℕ)) → PutsNodeIn root c id usage selector version request a → Fine a
+  node_put_so : (root : List ℕ) (usage : Usage) (selector : Selector) (version : Option (Tree × ℕ)) → PutsNodeIn (server_of root c) (write_of id usage selector request) version a → Fine a
   node_put_so root usage selector None is = conflicts_so request a (conflicts.NoParent (home_uri root id.auid id.home)) is
   node_put_so root usage selector (Some (t, tag)) is = from_so usage selector t root tag is.0 is.2
 
@@ -229,20 +230,20 @@ module _ (c : Content) (id : DocId) (request : Request) (a : Answer) where
       behind request a (Some tag) true false (a ≡ change_answer c id RemoveDocument request.closes (deleted_reply request.closes))
       (λ so. by_store request a c id (deleted_reply request.closes) (λ note. refl) (changing c id RemoveDocument) (so ∙ as_the_store c id RemoveDocument request.closes (deleted_reply request.closes))) is
 
-  cut_so : (usage : Usage) (selector : Selector) (t : Tree) → CutsNode c id usage selector t request a → Fine a
+  cut_so : (usage : Usage) (selector : Selector) (t : Tree) → CutsNode c (write_of id usage selector request) t a → Fine a
   cut_so usage selector t is = by_plan request a c id (cut_reply request.closes) (λ note. refl) is.0 is.2
 
-  node_deleted_so : (usage : Usage) (selector : Selector) (version : Option (Tree × ℕ)) → DeletesNodeIn c id usage selector version request a → Fine a
+  node_deleted_so : (usage : Usage) (selector : Selector) (version : Option (Tree × ℕ)) → DeletesNodeIn c (write_of id usage selector request) version a → Fine a
   node_deleted_so usage selector None is = only request a 404 refl is
   node_deleted_so usage selector (Some (t, tag)) is =
-      let Last : Type 0 = CutsNode c id usage selector t request a in
-      either (is_there t selector) (BehindConditions request (Some tag) true false a Last) (a ≡ unchanged (plain 404 request.closes))
+      let Last : Type 0 = CutsNode c (write_of id usage selector request) t a in
+      either (is_there t selector) (BehindConditions request (representation (Some tag) true) false a Last) (a ≡ unchanged (plain 404 request.closes))
       (λ _. behind request a (Some tag) true false Last (cut_so usage selector t)) (λ _. only request a 404 refl) is
 
 -- ---- all in order
 
 module _ (root : List ℕ) (c : Content) (request : Request) (a : Answer) where
-  target_put_so : (target : Target) (usage : Usage) → Puts root c target usage request a → Fine a
+  target_put_so : (target : Target) (usage : Usage) → Puts (server_of root c) target usage request a → Fine a
   target_put_so (Document id) usage is = document_put_so c id request a usage is
   target_put_so (Node id selector) usage is = node_put_so c id request a root usage selector (version_of c id) is
   target_put_so (Deep auid home) usage is = conflicts_so request a (conflicts.NoParent (home_uri root auid home)) is
@@ -258,21 +259,21 @@ module _ (root : List ℕ) (c : Content) (request : Request) (a : Answer) where
   target_deleted_so (ElementFeed tag id selector raw) usage is = absurd is
   target_deleted_so (Flat id service) usage is = absurd is
 
-  method_so : (target : Target) (method : Method) → ByMethod root c target method request a → Fine a
+  method_so : (target : Target) (method : Method) → ByMethod (server_of root c) target method request a → Fine a
   method_so target Get is = read_so Get request a root c target is
   method_so target Head is = read_so Head request a root c target is
-  method_so target Put is = no_usage request a (usage_of (auid_of target)) (λ usage. Puts root c target usage request a) (target_put_so target) is
+  method_so target Put is = no_usage request a (usage_of (auid_of target)) (λ usage. Puts (server_of root c) target usage request a) (target_put_so target) is
   method_so target Delete is = no_usage request a (usage_of (auid_of target)) (λ usage. Deletes c target usage request a) (target_deleted_so target) is
   method_so target Other is = absurd is
 
-  user_so : (target : Target) (method : Method) → ByUser root c target method request a → Fine a
+  user_so : (target : Target) (method : Method) → ByUser (server_of root c) target method request a → Fine a
   user_so target method is =
-      either (is_allowed (not (is_reading method)) (auid_of target) (home_of target) request.fields) (ByMethod root c target method request a) (a ≡ unchanged (plain 403 request.closes))
+      either (is_allowed (not (is_reading method)) (auid_of target) (home_of target) request.fields) (ByMethod (server_of root c) target method request a) (a ≡ unchanged (plain 403 request.closes))
       (λ _. method_so target method) (λ _. only request a 403 refl) is
 
-  target_so : (target : Target) (method : Method) → ByTarget root c target method request a → Fine a
+  target_so : (target : Target) (method : Method) → ByTarget (server_of root c) target method request a → Fine a
   target_so target method is =
-      either (takes target method) (ByUser root c target method request a) (a ≡ unchanged (not_allowed (is_read_only target) request.closes))
+      either (takes target method) (ByUser (server_of root c) target method request a) (a ≡ unchanged (not_allowed (is_read_only target) request.closes))
       (λ _. user_so target method) (λ _. fine request a (not_allowed (is_read_only target) request.closes) refl) is
 
   fault_so : (fault : UriFault) → a ≡ unchanged (plain (fault_status fault) request.closes) → Fine a

@@ -8,8 +8,8 @@ use Rattle.std.specs.Option.{option_or as or_else}
 use Rattle.node_select.specs.InsertionPoints.{PlanIs}
 use Rattle.xml_tree.specs.Tree.{Tree, at, child_elements_of}
 use Rattle.xml_tree.specs.Edits.{put_in, put_kid, put_over}
-use Rattle.xml_tree.specs.Scopes.{scope_around, scope_at}
-use Rattle.xml_tree.specs.declared.names.Attr.{Attr}
+use Rattle.xml_tree.specs.TreeScopes.{scope_around, scope_at}
+use Rattle.xml_names.specs.declared.names.Attr.{Attr}
 use Rattle.xml_tree.proofs.PathLemmas.{front-snoc}
 use Rattle.xml_tree.proofs.PlaceLaws.{at-changed}
 use Rattle.xml_tree.proofs.ProperEdits.{around-change_at}
@@ -65,10 +65,12 @@ use Rattle.xcap_machine.specs.Machine.{content_after_answer}
 use Rattle.xcap_machine.specs.Resources.{version_of}
 use Rattle.xcap_machine.specs.DocumentWrites.{PutsDocument, PutsSpelled, change_answer, put_answer, put_change, put_reply}
 use Rattle.xcap_machine.specs.inner.Cases.{PutsElementText, PutsNodeOf, PutsValueText, PutsText, by_judgement, version_tag as tag_of}
+use Rattle.xcap_machine.specs.inner.Records.{server_of, write_of}
 use Rattle.xcap_machine.proofs.Accepted.{match_true, unstopped_by}
 use Rattle.xcap_machine.proofs.After.{same_trees}
 use Rattle.xcap_machine.proofs.Steps.{made_change}
 use Rattle.xcap_machine.proofs.Changed.{as_the_store, told_by_store}
+use Rattle.edit_rules.specs.Plans.{IsJudged}
 
 -- ---- no condition stops it
 
@@ -135,10 +137,10 @@ pub record SamePlace (t after : Tree) (spot : Spot) (path : List ℕ) : Type 0 w
   pub levels : levels_for (Over path) ≡ levels_for spot
   pub scope : scope_for after (Over path) ≡ scope_for t spot
 
-same_under : (u : Usage) (t : Tree) (steps : List Step) (q : List ℕ) (e : Tree) (change : Change) (path : List ℕ) → IsInsertion u t steps q e (Ok change) → SelectsPath steps (edited t change) path → SamePlace t (edited t change) (Under q) path
+same_under : (u : Usage) (t : Tree) (steps : List Step) (q : List ℕ) (e : Tree) (change : Change) (path : List ℕ) → IsInsertion (record { usage = u; document = t; steps = steps }) q e (Ok change) → SelectsPath steps (edited t change) path → SamePlace t (edited t change) (Under q) path
 same_under u t steps q e change path h selects = by h.gap h.is_chosen h.then
   where
-    by : (g : Result ℕ EditRefusal) → PlanIs CannotInsert (Faulty Invalid) (IsLawfulGap steps t e q) (λ j. usage.IsValidDocument u (put_in q j e t)) (length (child_elements_of h.parent) + 1) g → FromGap u t q e g (Ok change) → SamePlace t (edited t change) (Under q) path
+    by : (g : Result ℕ EditRefusal) → PlanIs CannotInsert (Faulty Invalid) (IsLawfulGap steps t e q) (λ j. usage.IsValidDocument u (put_in q j e t)) (length (child_elements_of h.parent) + 1) g → FromGap (λ gap. IsJudged u t (Insert q gap e)) g (Ok change) → SamePlace t (edited t change) (Under q) path
     by (Err why) chosen then = let z = then in cc
     by (Ok gap) chosen then =
         let j = judged_ok u t (Insert q gap e) change then in
@@ -162,7 +164,7 @@ kept_around p e t there = by (at p t) refl
     by (Some x) is = around-change_at p (λ _. e) t x is
     by None is = absurd (nowhere (at p (put_over p e t)) there (at-changed p (λ _. e) t ∙ ap (option_map (λ (x : Tree). e)) is))
 
-pub same_place : (u : Usage) (t : Tree) (steps : List Step) (spot : Spot) (e : Tree) (change : Change) (path : List ℕ) → IsPutPlan u t steps spot e (Ok change) → SelectsPath steps (edited t change) path → SamePlace t (edited t change) spot path
+pub same_place : (u : Usage) (t : Tree) (steps : List Step) (spot : Spot) (e : Tree) (change : Change) (path : List ℕ) → IsPutPlan (record { usage = u; document = t; steps = steps }) spot e (Ok change) → SelectsPath steps (edited t change) path → SamePlace t (edited t change) spot path
 same_place u t steps (Over p) e change path plan selects =
     let m = tested_ok CannotInsert (IsLawfulReplacement steps t e p) u t (Replace p e) change plan in
     let there : SelectsPath steps (edited t change) p = subst (λ (x : Change). SelectsPath steps (edited t x) p) (sym m.is) m.is_lawful in
@@ -187,7 +189,7 @@ pub element_there : (t : Tree) (selector : Selector) (p : List ℕ) (e : Tree) �
 element_there t selector p e ends_so selects there =
     there_by t selector p (text_at ends.Element p t) selects (ap (λ (end : End). text_at end p t) ends_so) (ap (λ (o : Option Tree). is_some (option_and_then (node_text ends.Element (scope_at p t)) o)) there)
 
-value_there : (t : Tree) (selector : Selector) (p uri local value : List ℕ) → selector.end ≡ ends.Attribute uri local → FindsValue selector.steps uri local t p value → is_there t selector ≡ true
+value_there : (t : Tree) (selector : Selector) (p uri local value : List ℕ) → selector.end ≡ ends.Attribute uri local → FindsValue selector.steps (record { path = p; uri = uri; local = local }) t value → is_there t selector ≡ true
 value_there t selector p uri local value ends_so finds =
     let end : End = ends.Attribute uri local in
     there_by t selector p (text_at end p t) finds.selects (ap (λ (x : End). text_at x p t) ends_so)
@@ -199,30 +201,30 @@ value_there t selector p uri local value ends_so finds =
 
 module _ (c : Content) (id : DocId) (usage : Usage) (selector : Selector) (t : Tree) (request : Request) (b : Answer) (typed : has_type (node_media selector.end) request.fields ≡ true) (free : IsUnconditional request) where
   -- where the edit target is this one, the answer is the one for it
-  put_at : (root : List ℕ) (tag : ℕ) (spot : Spot) → IsSpotOf t selector spot → PutsNodeOf c id usage selector t root tag request b → PutsAt c id usage selector t spot request b
+  put_at : (root : List ℕ) (tag : ℕ) (spot : Spot) → IsSpotOf t selector spot → PutsNodeOf (server_of root c) (write_of id usage selector request) (t, tag) b → PutsAt c (write_of id usage selector request) t spot b
   put_at root tag spot place h =
       let same : h.0 ≡ Ok spot = plans.one_spot t selector h.0 (Ok spot) h.1 place in
-      let here : PutsFrom c id usage selector t root tag (Ok spot) request b = subst (λ (r : Result Spot NoParent). PutsFrom c id usage selector t root tag r request b) same h.2 in
-      let fragment = unstopped_by request (Some tag) (is_there t selector) (PutsFragment c id usage selector t spot request b) b (unstopped request (Some tag) (is_there t selector) free) here in
-      match_true (has_type (node_media selector.end) request.fields) (PutsAt c id usage selector t spot request b) (b ≡ unchanged (plain 415 request.closes)) typed fragment
+      let here : PutsFrom (server_of root c) (write_of id usage selector request) (t, tag) (Ok spot) b = subst (λ (r : Result Spot NoParent). PutsFrom (server_of root c) (write_of id usage selector request) (t, tag) r b) same h.2 in
+      let fragment = unstopped_by request (Some tag) (is_there t selector) (PutsFragment c (write_of id usage selector request) t spot b) b (unstopped request (Some tag) (is_there t selector) free) here in
+      match_true (has_type (node_media selector.end) request.fields) (PutsAt c (write_of id usage selector request) t spot b) (b ≡ unchanged (plain 415 request.closes)) typed fragment
 
-  planned : (r : Result Change EditRefusal) (change : Change) → r ≡ Ok change → is_there t selector ≡ true → b ≡ put_planned c id usage selector t request r → b ≡ change_answer c id change request.closes (put_reply true request.closes)
+  planned : (r : Result Change EditRefusal) (change : Change) → r ≡ Ok change → is_there t selector ≡ true → b ≡ put_planned c (write_of id usage selector request) t r → b ≡ change_answer c id change request.closes (put_reply true request.closes)
   planned r change same there is =
-      is ∙ ap (λ (x : Result Change EditRefusal). put_planned c id usage selector t request x) same ∙ ap (λ (x : Bool). change_answer c id change request.closes (put_reply x request.closes)) there
+      is ∙ ap (λ (x : Result Change EditRefusal). put_planned c (write_of id usage selector request) t x) same ∙ ap (λ (x : Bool). change_answer c id change request.closes (put_reply x request.closes)) there
 
-  pub element_again : (root : List ℕ) (tag : ℕ) (p : List ℕ) (e : Tree) → IsSpotOf t selector (Over p) → IsPutPlan usage t selector.steps (Over p) e (Ok (Replace p e)) → at p t ≡ Some e
-      → TextAnswer (levels_for (Over p)) (scope_for t (Over p)) request.body (Ok e) → PutsNodeOf c id usage selector t root tag request b → b ≡ change_answer c id (Replace p e) request.closes (put_reply true request.closes)
+  pub element_again : (root : List ℕ) (tag : ℕ) (p : List ℕ) (e : Tree) → IsSpotOf t selector (Over p) → IsPutPlan (record { usage = usage; document = t; steps = selector.steps }) (Over p) e (Ok (Replace p e)) → at p t ≡ Some e
+      → TextAnswer (levels_for (Over p)) (scope_for t (Over p)) request.body (Ok e) → PutsNodeOf (server_of root c) (write_of id usage selector request) (t, tag) b → b ≡ change_answer c id (Replace p e) request.closes (put_reply true request.closes)
   element_again root tag p e place plan there spelled h =
       let here = put_at root tag (Over p) place h in
       let same : here.0 ≡ Ok e = one_text (levels_for (Over p)) (scope_for t (Over p)) request.body here.0 (Ok e) here.1 spelled in
-      let text : PutsElementText c id usage selector t (Over p) (Ok e) request b = subst (λ (r : Result Tree TextFault). PutsElementText c id usage selector t (Over p) r request b) same here.2 in
+      let text : PutsElementText c (write_of id usage selector request) t (Over p) (Ok e) b = subst (λ (r : Result Tree TextFault). PutsElementText c (write_of id usage selector request) t (Over p) r b) same here.2 in
       planned text.0 (Replace p e) (plans.one_put usage t selector.steps (Over p) e text.0 (Ok (Replace p e)) text.1 plan) (element_there t selector p e place.0 place.1 there) text.2
 
-  pub value_again : (root : List ℕ) (tag : ℕ) (p uri local value : List ℕ) (change : Change) → selector.end ≡ ends.Attribute uri local → IsSpotOf t selector (Value p) → IsAttrPlan usage t selector.steps (ends.Attribute uri local) p value (Ok change)
-      → FindsValue selector.steps uri local t p value → BodyAnswer request.body (Ok value) → PutsNodeOf c id usage selector t root tag request b → b ≡ change_answer c id change request.closes (put_reply true request.closes)
+  pub value_again : (root : List ℕ) (tag : ℕ) (p uri local value : List ℕ) (change : Change) → selector.end ≡ ends.Attribute uri local → IsSpotOf t selector (Value p) → IsAttrPlan (record { usage = usage; document = t; steps = selector.steps }) (ends.Attribute uri local) p value (Ok change)
+      → FindsValue selector.steps (record { path = p; uri = uri; local = local }) t value → BodyAnswer request.body (Ok value) → PutsNodeOf (server_of root c) (write_of id usage selector request) (t, tag) b → b ≡ change_answer c id change request.closes (put_reply true request.closes)
   value_again root tag p uri local value change ends_so place plan finds spelled h =
       let here = put_at root tag (Value p) place h in
       let same : here.0 ≡ Ok value = one_body request.body here.0 (Ok value) here.1 spelled in
-      let text : PutsValueText c id usage selector t p (Ok value) request b = subst (λ (r : Result (List ℕ) ValueFault). PutsValueText c id usage selector t p r request b) same here.2 in
-      let plan_so : IsAttrPlan usage t selector.steps selector.end p value (Ok change) = subst (λ (end : End). IsAttrPlan usage t selector.steps end p value (Ok change)) (sym ends_so) plan in
+      let text : PutsValueText c (write_of id usage selector request) t p (Ok value) b = subst (λ (r : Result (List ℕ) ValueFault). PutsValueText c (write_of id usage selector request) t p r b) same here.2 in
+      let plan_so : IsAttrPlan (record { usage = usage; document = t; steps = selector.steps }) selector.end p value (Ok change) = subst (λ (end : End). IsAttrPlan (record { usage = usage; document = t; steps = selector.steps }) end p value (Ok change)) (sym ends_so) plan in
       planned text.0 change (plans.one_attr usage t selector.steps selector.end p value text.0 (Ok change) text.1 plan_so) (value_there t selector p uri local value ends_so finds) text.2

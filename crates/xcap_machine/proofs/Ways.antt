@@ -78,6 +78,7 @@ use Rattle.xcap_machine.specs.Resources.{Resource, absent, beyond_limit, there, 
 use Rattle.xcap_machine.specs.NodeWrites.{CutsNode, PutsAt, PutsFragment, PutsFrom, cut_reply, is_there, levels_for, plan_answer, plan_refused, put_planned, scope_for}
 use Rattle.xcap_machine.specs.DocumentWrites.{IfStored, PutsBody, PutsDocument, PutsSpelled, change_answer, deleted_reply, fault_conflict, put_answer, put_change, put_reply, refusal_reply, text_conflict}
 use Rattle.xcap_machine.specs.inner.Cases.{DeletesDocumentIn, DeletesNodeIn, PutsElementText, PutsNodeIn, PutsValueText, IsAnswered, PutsText, by_judgement, version_tag as tag_of, Behind}
+use Rattle.xcap_machine.specs.inner.Records.{element_query, feed_query, read_by, representation, server_of, write_of}
 use Rattle.store_core.proofs.SoundHeld.{AllSound}
 use Rattle.store_core.specs.Contents.{StoreContents as Content}
 use Rattle.xcap_machine.proofs.Asked.{asks_to_delete, asks_to_edit, asks_to_put, sound_at, users_write}
@@ -122,7 +123,7 @@ module _ (method : Method) (c : Content) (request : Request) (a : Answer) where
   by_outcome NotModified tag P so is = refuses _ refl refl refl is
   by_outcome Failed tag P so is = refuses _ refl refl refl is
 
-  behind : (tag : Option ℕ) (exists reading : Bool) (P : Type 0) → (P → Way method request.closes c a) → BehindConditions request tag exists reading a P → Way method request.closes c a
+  behind : (tag : Option ℕ) (exists reading : Bool) (P : Type 0) → (P → Way method request.closes c a) → BehindConditions request (representation tag exists) reading a P → Way method request.closes c a
   behind tag exists reading P so is = by_outcome is.1.0 tag P so (subst (λ (stop : Option SentReply). Behind stop a P) is.1.2 is.2)
 
   store_refuses : (refusal : StoreRefusal) → a ≡ unchanged (refusal_reply refusal request.closes) → Way method request.closes c a
@@ -164,38 +165,38 @@ asked_closes Delete reply = refl
 asked_closes Other reply = refl
 
 module _ (method : Method) (request : Request) (c : Content) (a : Answer) (quiet : (status : ℕ) → tells_change method status ≡ false) where
-  found_way : (text : Option (List ℕ)) (tag : ℕ) (media : MediaType) → SendsFound text tag media method request a → Way method request.closes c a
+  found_way : (text : Option (List ℕ)) (tag : ℕ) (media : MediaType) → SendsFound text tag media (read_by method request) a → Way method request.closes c a
   found_way None tag media is = only method c request a 404 refl refl is
   found_way (Some text) tag media is =
       let reply = for_method method (found (Some tag) media text request.closes) in
       behind method c request a (Some tag) true true (a ≡ unchanged reply) (stays reply (quiet reply.status) (asked_closes method (found (Some tag) media text request.closes))) is
 
-  document_way : (r : Resource) (media : MediaType) → SendsDocument r media method request a → Way method request.closes c a
+  document_way : (r : Resource) (media : MediaType) → SendsDocument r media (read_by method request) a → Way method request.closes c a
   document_way absent media is = only method c request a 404 refl refl is
   document_way beyond_limit media is = only method c request a 507 refl refl is
   document_way (there t tag) media is = found_way (Some (encode_utf8_all (document_print t))) tag media is
 
-  node_way : (r : Resource) (selector : Selector) → SendsNode r selector method request a → Way method request.closes c a
+  node_way : (r : Resource) (selector : Selector) → SendsNode r selector (read_by method request) a → Way method request.closes c a
   node_way absent selector is = only method c request a 404 refl refl is
   node_way beyond_limit selector is = only method c request a 507 refl refl is
   node_way (there t tag) selector is = found_way (encoded (found_text t selector)) tag (node_media selector.end) is
 
-  notice_way : (notice : Tree) → a ≡ sends_notice notice method request → Way method request.closes c a
+  notice_way : (notice : Tree) → a ≡ sends_notice notice (read_by method request) → Way method request.closes c a
   notice_way notice is =
       let sent = found None medias.Diff (encode_utf8_all (document_print notice)) request.closes in
       stays (for_method method sent) (quiet (for_method method sent).status) (asked_closes method sent) is
 
-  story_way : (root : List ℕ) (mode : Mode) (tag : ℕ) (id : DocId) (changes_since : ChangesSince) → a ≡ changes_since_answer root mode tag id changes_since method request → Way method request.closes c a
+  story_way : (root : List ℕ) (mode : Mode) (tag : ℕ) (id : DocId) (changes_since : ChangesSince) → a ≡ changes_since_answer root (feed_query mode tag id) changes_since (read_by method request) → Way method request.closes c a
   story_way root mode tag id Gone is = notice_way (gone_notice root (id_text id) tag) is
   story_way root mode tag id Unknown is = only method c request a 410 refl refl is
   story_way root mode tag id (ReportedChanges ns) is = notice_way (notice_of mode root (id_text id) tag ns) is
 
-  element_way : (root : List ℕ) (tag : ℕ) (id : DocId) (selector : Selector) (raw : List ℕ) (changes_since : ChangesSince) → TellsElement root c tag id selector raw changes_since method request a → Way method request.closes c a
+  element_way : (root : List ℕ) (tag : ℕ) (id : DocId) (selector : Selector) (raw : List ℕ) (changes_since : ChangesSince) → TellsElement (server_of root c) (element_query tag id selector raw) changes_since (read_by method request) a → Way method request.closes c a
   element_way root tag id selector raw Gone is = notice_way (gone_notice root (id_text id) tag) is
   element_way root tag id selector raw Unknown is = only method c request a 410 refl refl is
   element_way root tag id selector raw (ReportedChanges ns) is = notice_way is.0 is.2
 
-  flat_way : (answer : Result Tree FlatFault) → a ≡ sends_flat answer method request → Way method request.closes c a
+  flat_way : (answer : Result Tree FlatFault) → a ≡ sends_flat answer (read_by method request) → Way method request.closes c a
   flat_way (Ok t) is =
       let sent = found None medias.ResourceLists (encode_utf8_all (document_print t)) request.closes in
       stays (for_method method sent) (quiet (for_method method sent).status) (asked_closes method sent) is
@@ -203,7 +204,7 @@ module _ (method : Method) (request : Request) (c : Content) (a : Answer) (quiet
   flat_way (Err TooWide) is = only method c request a 507 refl refl is
   flat_way (Err (TooLarge len)) is = only method c request a 507 refl refl is
 
-  reads_way : (root : List ℕ) (target : Target) → Reads root c target method request a → Way method request.closes c a
+  reads_way : (root : List ℕ) (target : Target) → Reads (server_of root c) target (read_by method request) a → Way method request.closes c a
   reads_way root (Document id) is = document_way is.0 (document_media id.auid) is.2
   reads_way root (Node id selector) is = node_way is.0 selector is.2
   reads_way root (Deep auid home) is = only method c request a 404 refl refl is
@@ -266,57 +267,57 @@ module _ (c : Content) (id : DocId) (request : Request) (a : Answer) where
     reply = put_reply (is_there t selector) request.closes
 
     element_planned : (spot : Spot) → IsSpotOf t selector spot → (e : Tree) → TextAnswer (levels_for spot) (scope_for t spot) request.body (Ok e)
-        → (plan : Result Change EditRefusal) → IsPutPlan usage t selector.steps spot e plan → a ≡ put_planned c id usage selector t request plan → Way Put request.closes c a
+        → (plan : Result Change EditRefusal) → IsPutPlan (record { usage = usage; document = t; steps = selector.steps }) spot e plan → a ≡ put_planned c (write_of id usage selector request) t plan → Way Put request.closes c a
     element_planned spot is e read plan planned answer =
         let good = answer_proper (levels_for spot) (scope_for t spot) request.body e read in
         by_plan Put c request a id reply plan (λ change made all.
         let sound = sound_at c id usage t tag known held all in
-        let here : IsPutPlan usage t selector.steps spot e (Ok change) = subst (λ (r : Result Change EditRefusal). IsPutPlan usage t selector.steps spot e r) made planned in
+        let here : IsPutPlan (record { usage = usage; document = t; steps = selector.steps }) spot e (Ok change) = subst (λ (r : Result Change EditRefusal). IsPutPlan (record { usage = usage; document = t; steps = selector.steps }) spot e r) made planned in
         let leaves = put_leaves usage t selector spot e change here is sound.proper sound.low (proper_there t spot e good.0) (room_there spot e good.1) in
         asks_to_edit c id usage t tag change known held leaves (put_is usage t selector.steps spot e change here).faultless)
         (put_tells (is_there t selector) request.closes) (put_closes (is_there t selector) request.closes) answer
 
     element_text : (spot : Spot) → IsSpotOf t selector spot → (read : Result Tree TextFault) → TextAnswer (levels_for spot) (scope_for t spot) request.body read
-        → PutsElementText c id usage selector t spot read request a → Way Put request.closes c a
+        → PutsElementText c (write_of id usage selector request) t spot read a → Way Put request.closes c a
     element_text spot is (Err fault) read answer = conflicts_so Put c request a (text_conflict conflicts.NotXmlFrag fault) answer
     element_text spot is (Ok e) read answer = element_planned spot is e read answer.0 answer.1 answer.2
 
     value_planned : (p : List ℕ) (uri local value : List ℕ) → selector.end ≡ ends.Attribute uri local → IsWritable uri local → BodyAnswer request.body (Ok value)
-        → (plan : Result Change EditRefusal) → IsAttrPlan usage t selector.steps selector.end p value plan → a ≡ put_planned c id usage selector t request plan → Way Put request.closes c a
+        → (plan : Result Change EditRefusal) → IsAttrPlan (record { usage = usage; document = t; steps = selector.steps }) selector.end p value plan → a ≡ put_planned c (write_of id usage selector request) t plan → Way Put request.closes c a
     value_planned p uri local value ends_so may read plan planned answer =
         by_plan Put c request a id reply plan (λ change made all.
         let sound = sound_at c id usage t tag known held all in
-        let by_end : IsValuePlan usage t selector.steps uri local p value plan = subst (λ (end : End). IsAttrPlan usage t selector.steps end p value plan) ends_so planned in
-        let here : IsValuePlan usage t selector.steps uri local p value (Ok change) = subst (λ (r : Result Change EditRefusal). IsValuePlan usage t selector.steps uri local p value r) made by_end in
+        let by_end : IsValuePlan (record { usage = usage; document = t; steps = selector.steps }) (record { path = p; uri = uri; local = local }) value plan = subst (λ (end : End). IsAttrPlan (record { usage = usage; document = t; steps = selector.steps }) end p value plan) ends_so planned in
+        let here : IsValuePlan (record { usage = usage; document = t; steps = selector.steps }) (record { path = p; uri = uri; local = local }) value (Ok change) = subst (λ (r : Result Change EditRefusal). IsValuePlan (record { usage = usage; document = t; steps = selector.steps }) (record { path = p; uri = uri; local = local }) value r) made by_end in
         let written = written_is usage t selector.steps uri local p value change here in
         let leaves = written_leaves usage t selector.steps uri local p value change written sound.proper sound.low may (body_good request.body (Ok value) read) in
         asks_to_edit c id usage t tag change known held leaves (written_change usage t selector.steps uri local p value change written))
         (put_tells (is_there t selector) request.closes) (put_closes (is_there t selector) request.closes) answer
 
     value_text : (p : List ℕ) (uri local : List ℕ) → selector.end ≡ ends.Attribute uri local → IsWritable uri local → (read : Result (List ℕ) ValueFault) → BodyAnswer request.body read
-        → PutsValueText c id usage selector t p read request a → Way Put request.closes c a
+        → PutsValueText c (write_of id usage selector request) t p read a → Way Put request.closes c a
     value_text p uri local ends_so may (Err values.NotUtf8) read answer = conflicts_so Put c request a conflicts.NotUtf8 answer
     value_text p uri local ends_so may (Err (values.NotValue place)) read answer = conflicts_so Put c request a conflicts.NotXmlAttValue answer
     value_text p uri local ends_so may (Ok value) read answer = value_planned p uri local value ends_so may read answer.0 answer.1 answer.2
 
-    put_at : (spot : Spot) → IsSpotOf t selector spot → IsWritableTarget (Node id selector) → PutsAt c id usage selector t spot request a → Way Put request.closes c a
+    put_at : (spot : Spot) → IsSpotOf t selector spot → IsWritableTarget (Node id selector) → PutsAt c (write_of id usage selector request) t spot a → Way Put request.closes c a
     put_at (Over p) is may answer = element_text (Over p) is answer.0 answer.1 answer.2
     put_at (Under q) is may answer = element_text (Under q) is answer.0 answer.1 answer.2
     put_at Beside is may answer = element_text Beside is answer.0 answer.1 answer.2
     put_at (Value p) is may answer = value_text p is.0.0 is.0.1.0 is.0.1.1 (may is.0.0 is.0.1.0 is.0.1.1) answer.0 answer.1 answer.2
 
-    fragment_put : (spot : Spot) → IsSpotOf t selector spot → IsWritableTarget (Node id selector) → PutsFragment c id usage selector t spot request a → Way Put request.closes c a
+    fragment_put : (spot : Spot) → IsSpotOf t selector spot → IsWritableTarget (Node id selector) → PutsFragment c (write_of id usage selector request) t spot a → Way Put request.closes c a
     fragment_put spot is may answer =
-        either (has_type (node_media selector.end) request.fields) (PutsAt c id usage selector t spot request a) (a ≡ unchanged (plain 415 request.closes))
+        either (has_type (node_media selector.end) request.fields) (PutsAt c (write_of id usage selector request) t spot a) (a ≡ unchanged (plain 415 request.closes))
         (λ _. put_at spot is may) (λ _. only Put c request a 415 refl refl) answer
 
-    put_from : (root : List ℕ) (spot : Result Spot NoParent) → IsSpot t selector spot → IsWritableTarget (Node id selector) → PutsFrom c id usage selector t root tag spot request a → Way Put request.closes c a
+    put_from : (root : List ℕ) (spot : Result Spot NoParent) → IsSpot t selector spot → IsWritableTarget (Node id selector) → PutsFrom (server_of root c) (write_of id usage selector request) (t, tag) spot a → Way Put request.closes c a
     put_from root (Err none) is may answer = conflicts_so Put c request a (conflicts.NoParent (ancestor_uri root id t selector.steps)) answer
     put_from root (Ok spot) is may answer =
-        behind Put c request a (Some tag) (is_there t selector) false (PutsFragment c id usage selector t spot request a) (fragment_put spot is may) answer
+        behind Put c request a (Some tag) (is_there t selector) false (PutsFragment c (write_of id usage selector request) t spot a) (fragment_put spot is may) answer
 
   node_put : (root : List ℕ) (usage : Usage) (selector : Selector) (version : Option (Tree × ℕ)) → version_of c id ≡ version → usage_of id.auid ≡ Some usage → IsWritableTarget (Node id selector)
-      → PutsNodeIn root c id usage selector version request a → Way Put request.closes c a
+      → PutsNodeIn (server_of root c) (write_of id usage selector request) version a → Way Put request.closes c a
   node_put root usage selector None held known may is = conflicts_so Put c request a (conflicts.NoParent (home_uri root id.auid id.home)) is
   node_put root usage selector (Some (t, tag)) held known may is = put_from usage selector t tag known held root is.0 is.1 may is.2
 
@@ -329,7 +330,7 @@ module _ (c : Content) (id : DocId) (request : Request) (a : Answer) where
       (λ so. by_store Delete c request a id RemoveDocument (deleted_reply request.closes) (λ _. asks_to_delete c id t tag e) (λ note. refl) (λ note. refl) (changing c id RemoveDocument) refl
       (so ∙ as_the_store c id RemoveDocument request.closes (deleted_reply request.closes))) is
 
-  node_cut : (usage : Usage) (selector : Selector) (t : Tree) (tag : ℕ) → ◌≡◌ {A = Option (Tree × ℕ)} (version_of c id) (Some (t, tag)) → usage_of id.auid ≡ Some usage → CutsNode c id usage selector t request a → Way Delete request.closes c a
+  node_cut : (usage : Usage) (selector : Selector) (t : Tree) (tag : ℕ) → ◌≡◌ {A = Option (Tree × ℕ)} (version_of c id) (Some (t, tag)) → usage_of id.auid ≡ Some usage → CutsNode c (write_of id usage selector request) t a → Way Delete request.closes c a
   node_cut usage selector t tag held known is =
       by_plan Delete c request a id (cut_reply request.closes) is.0 (λ change made all.
       let sound = sound_at c id usage t tag known held all in
@@ -337,17 +338,17 @@ module _ (c : Content) (id : DocId) (request : Request) (a : Answer) where
       asks_to_edit c id usage t tag change known held (delete_leaves usage t selector change here sound.proper sound.low) (deleted_is usage t selector change here).faultless)
       (λ note. refl) (λ note. refl) is.2
 
-  node_deleted : (usage : Usage) (selector : Selector) (version : Option (Tree × ℕ)) → version_of c id ≡ version → usage_of id.auid ≡ Some usage → DeletesNodeIn c id usage selector version request a → Way Delete request.closes c a
+  node_deleted : (usage : Usage) (selector : Selector) (version : Option (Tree × ℕ)) → version_of c id ≡ version → usage_of id.auid ≡ Some usage → DeletesNodeIn c (write_of id usage selector request) version a → Way Delete request.closes c a
   node_deleted usage selector None held known is = only Delete c request a 404 refl refl is
   node_deleted usage selector (Some (t, tag)) held known is =
-      let Last : Type 0 = CutsNode c id usage selector t request a in
-      either (is_there t selector) (BehindConditions request (Some tag) true false a Last) (a ≡ unchanged (plain 404 request.closes))
+      let Last : Type 0 = CutsNode c (write_of id usage selector request) t a in
+      either (is_there t selector) (BehindConditions request (representation (Some tag) true) false a Last) (a ≡ unchanged (plain 404 request.closes))
       (λ _. behind Delete c request a (Some tag) true false Last (node_cut usage selector t tag held known)) (λ _. only Delete c request a 404 refl refl) is
 
 -- ---- all in order
 
 module _ (root : List ℕ) (c : Content) (request : Request) (a : Answer) where
-  target_put : (target : Target) → IsReadableTarget target → IsWritableTarget target → IsUserDocument (home_of target) → (usage : Usage) → usage_of (auid_of target) ≡ Some usage → Puts root c target usage request a → Way Put request.closes c a
+  target_put : (target : Target) → IsReadableTarget target → IsWritableTarget target → IsUserDocument (home_of target) → (usage : Usage) → usage_of (auid_of target) ≡ Some usage → Puts (server_of root c) target usage request a → Way Put request.closes c a
   target_put (Document id) readable may users usage known is = document_put c id request a readable users usage known is
   target_put (Node id selector) readable may users usage known is = node_put c id request a root usage selector (version_of c id) refl known may is
   target_put (Deep auid home) readable may users usage known is = conflicts_so Put c request a (conflicts.NoParent (home_uri root auid home)) is
@@ -364,24 +365,24 @@ module _ (root : List ℕ) (c : Content) (request : Request) (a : Answer) where
   target_deleted (Flat id service) usage known is = absurd is
 
   method_way : (target : Target) (method : Method) → IsReadableTarget target → IsWritableTarget target → is_allowed (not (is_reading method)) (auid_of target) (home_of target) request.fields ≡ true
-      → ByMethod root c target method request a → Way method request.closes c a
+      → ByMethod (server_of root c) target method request a → Way method request.closes c a
   method_way target Get readable may allowed is = reads_way Get request c a (λ _. refl) root target is
   method_way target Head readable may allowed is = reads_way Head request c a (λ _. refl) root target is
   method_way target Put readable may allowed is =
-      no_usage Put c request a (usage_of (auid_of target)) (λ usage. Puts root c target usage request a)
+      no_usage Put c request a (usage_of (auid_of target)) (λ usage. Puts (server_of root c) target usage request a)
       (target_put target readable may (users_write (auid_of target) (home_of target) request.fields allowed)) is
   method_way target Delete readable may allowed is =
       no_usage Delete c request a (usage_of (auid_of target)) (λ usage. Deletes c target usage request a) (λ usage known. target_deleted target usage known) is
   method_way target Other readable may allowed is = absurd is
 
-  user_way : (target : Target) (method : Method) → IsReadableTarget target → IsWritableTarget target → ByUser root c target method request a → Way method request.closes c a
+  user_way : (target : Target) (method : Method) → IsReadableTarget target → IsWritableTarget target → ByUser (server_of root c) target method request a → Way method request.closes c a
   user_way target method readable may is =
-      either (is_allowed (not (is_reading method)) (auid_of target) (home_of target) request.fields) (ByMethod root c target method request a) (a ≡ unchanged (plain 403 request.closes))
+      either (is_allowed (not (is_reading method)) (auid_of target) (home_of target) request.fields) (ByMethod (server_of root c) target method request a) (a ≡ unchanged (plain 403 request.closes))
       (method_way target method readable may) (λ _. only method c request a 403 refl refl) is
 
-  target_way : (target : Target) (method : Method) → IsReadableTarget target → IsWritableTarget target → ByTarget root c target method request a → Way method request.closes c a
+  target_way : (target : Target) (method : Method) → IsReadableTarget target → IsWritableTarget target → ByTarget (server_of root c) target method request a → Way method request.closes c a
   target_way target method readable may is =
-      either (takes target method) (ByUser root c target method request a) (a ≡ unchanged (not_allowed (is_read_only target) request.closes))
+      either (takes target method) (ByUser (server_of root c) target method request a) (a ≡ unchanged (not_allowed (is_read_only target) request.closes))
       (λ _. user_way target method readable may) (λ _. refuses method c request a (not_allowed (is_read_only target) request.closes) refl refl refl) is
 
   fault_way : (fault : UriFault) (method : Method) → a ≡ unchanged (plain (fault_status fault) request.closes) → Way method request.closes c a

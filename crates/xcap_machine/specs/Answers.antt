@@ -23,26 +23,69 @@ pub record Answer : Type 0 where
 abbrev pub unchanged : SentReply → Answer
 unchanged reply = record { reply = reply; made = None }
 
--- the reply of a request's conditions, or what follows where they pass: by the document's tag, if
--- it is stored, whether the resource is there, and whether the request reads (RFC 9110, section
--- 13.2)
-abbrev pub BehindConditions : Request → Option ℕ → Bool → Bool → Answer → Type 0 → Type 0
-BehindConditions request tag exists reading a GoesOn = (stop : Option SentReply) × IsStop request tag exists reading stop × MatchOption stop GoesOn (λ reply. a ≡ unchanged reply)
+-- what conditions are tested against: the tag of the document, if it is stored, and whether the
+-- resource is there (RFC 9110, section 13.1)
+pub record Representation : Type 0 where
+  pub tag : Option ℕ
+  pub exists : Bool
+
+-- the reply of a request's conditions, or what follows where they pass; by whether the request
+-- reads (RFC 9110, section 13.2)
+abbrev pub BehindConditions : Request → Representation → Bool → Answer → Type 0 → Type 0
+BehindConditions request current reading a GoesOn =
+    (stop : Option SentReply) × IsStop request current.tag current.exists reading stop
+    × MatchOption stop GoesOn (λ reply. a ≡ unchanged reply)
 
 -- ---- replies
 
 -- the resource doesn't allow the method (RFC 9110, section 15.5.6)
 abbrev pub not_allowed : Bool → Bool → SentReply
-not_allowed read_only closes = sent 405 None (Some read_only) None 0 closes []
+not_allowed read_only closes =
+    sent (record {
+      status = 405;
+      tag = None;
+      read_only = Some read_only;
+      media = None;
+      size = 0;
+      closes = closes;
+    })
+    []
 
 -- a conflict, with its error document (RFC 4825, section 11)
 abbrev pub conflict : ErrorBody → Bool → SentReply
-conflict body closes = sent 409 None None (Some media.Error) (length (conflict_bytes body)) closes (conflict_bytes body)
+conflict body closes =
+    sent (record {
+      status = 409;
+      tag = None;
+      read_only = None;
+      media = Some media.Error;
+      size = length (conflict_bytes body);
+      closes = closes;
+    })
+    (conflict_bytes body)
 
 -- a status with the tag of a document (RFC 4825, section 8.5)
 abbrev pub tagged : ℕ → ℕ → Bool → SentReply
-tagged status tag closes = sent status (Some tag) None None 0 closes []
+tagged status tag closes =
+    sent (record {
+      status = status;
+      tag = Some tag;
+      read_only = None;
+      media = None;
+      size = 0;
+      closes = closes;
+    })
+    []
 
 -- a text of this media type, with the document's tag, if it has one
 abbrev pub found : Option ℕ → MediaType → List ℕ → Bool → SentReply
-found tag m body closes = sent 200 tag None (Some m) (length body) closes body
+found tag m body closes =
+    sent (record {
+      status = 200;
+      tag = tag;
+      read_only = None;
+      media = Some m;
+      size = length body;
+      closes = closes;
+    })
+    body

@@ -1,12 +1,14 @@
 -- Requests that write documents, and what they have in common with requests that write nodes. RFC
 -- 4825, sections 8.2 (PUT) and 8.4 (DELETE), with the conflicts of section 11 and the entity tags
 -- of section 8.5; the order of the tests is this server's own.
-use Rattle.std.specs.Prelude.{◌≡◌, ℕ, Bool, true, false, List, [], ◌++◌, codes, is_some, Option, None, Some, Result, option_map, MatchOption, MatchResult, if◌then◌else◌}
+use Rattle.std.specs.Prelude.{◌≡◌, ℕ, Bool, true, false, List, [], ◌++◌, codes, is_some, Option}
+use Rattle.std.specs.Prelude.{None, Some, Result, option_map, MatchOption, MatchResult}
+use Rattle.std.specs.Prelude.{if◌then◌else◌}
 use Rattle.std.specs.Bool.{MatchBool}
 use Rattle.std.specs.Option.{option_map_or}
 use Rattle.xml_tree.specs.PathTexts.{path_text}
 use Rattle.xml_tree.specs.Tree.{Tree}
-use Rattle.xml_tree.specs.Limits.{max_levels}
+use Rattle.xml_names.specs.Limits.{max_levels}
 use Rattle.tree_text.specs.Faults.{TextAnswer}
 use Rattle.tree_text.specs.declared.fault.TextFault.{TextFault}
 use Rattle.tree_text.specs.declared.fault.TextFault.TheVariants as texts
@@ -20,7 +22,8 @@ use Rattle.doc_names.specs.declared.doc_id.Auid.{Auid}
 use Rattle.doc_names.specs.declared.doc_id.Home.{Home}
 use Rattle.doc_names.specs.declared.doc_id.DocId.{DocId}
 use Rattle.edit_ops.specs.declared.change.Change.{Change}
-use Rattle.edit_ops.specs.declared.change.Change.TheVariants.{CreateDocument, Replace, RemoveDocument}
+use Rattle.edit_ops.specs.declared.change.Change.TheVariants.{CreateDocument, Replace}
+use Rattle.edit_ops.specs.declared.change.Change.TheVariants.{RemoveDocument}
 use Rattle.edit_ops.specs.Notes.{Note}
 use Rattle.reply_bodies.specs.declared.conflicts.ErrorBody.{ErrorBody}
 use Rattle.reply_bodies.specs.declared.conflicts.ErrorBody.TheVariants as conflicts
@@ -76,7 +79,9 @@ abbrev pub change_answer : StoreContents → DocId → Change → Bool → (Note
 change_answer c id change closes reply =
     let held = document_in stored_name c.documents id in
     let note = note_for c id change held in
-    option_map_or (λ refusal. unchanged (refusal_reply refusal closes)) (against c id change held (act_of change)) (record { reply = reply note; made = Some (id, note) })
+    option_map_or (λ refusal. unchanged (refusal_reply refusal closes))
+    (against c id change held (act_of change))
+    (record { reply = reply note; made = Some (id, note) })
 
 -- the reply to a PUT: the resource is new, or replaces the old one; the document's new tag is the
 -- number of the change
@@ -102,8 +107,11 @@ abbrev pub PutsSpelled : Usage → Request → (Tree → Answer) → Answer → 
 PutsSpelled usage request answer a =
     (read : Result Tree TextFault) × TextAnswer max_levels [] request.body read
     × MatchResult read
-    (λ t. (judgement : Option Fault) × HasFirstFault usage t judgement
-    × (a ≡ option_map_or (λ fault. unchanged (conflict (fault_conflict fault) request.closes)) judgement (answer t)))
+    (λ t.
+    (judgement : Option Fault) × HasFirstFault usage t judgement
+    × (a
+    ≡ option_map_or (λ fault. unchanged (conflict (fault_conflict fault) request.closes)) judgement
+    (answer t)))
     (λ fault. a ≡ unchanged (conflict (text_conflict conflicts.NotWellFormed fault) request.closes))
 
 -- the body has the usage's media type
@@ -115,12 +123,15 @@ PutsBody usage media request answer a =
 
 abbrev pub PutsDocument : StoreContents → DocId → Usage → Request → Answer → Type 0
 PutsDocument c id usage request a =
-    BehindConditions request (option_map (λ held. held.1) (version_of c id)) (is_some (version_of c id)) false a
+    let version = version_of c id in
+    let tag : Option ℕ = option_map (λ held. held.1) version in
+    BehindConditions request (record { tag = tag; exists = is_some version }) false a
     (PutsBody usage (document_media id.auid) request (put_answer c id request.closes) a)
 
 -- no document is deeper than directly in a home (RFC 4825, section 8.2.1)
 abbrev pub missing_parent_answer : List ℕ → Auid → Home → Request → Answer
-missing_parent_answer root auid home request = unchanged (conflict (conflicts.NoParent (home_uri root auid home)) request.closes)
+missing_parent_answer root auid home request =
+    unchanged (conflict (conflicts.NoParent (home_uri root auid home)) request.closes)
 
 -- ---- DELETE of documents (RFC 4825, section 8.4)
 
@@ -132,4 +143,5 @@ deleted_reply closes note = plain 200 closes
 abbrev pub DeletesDocument : StoreContents → DocId → Request → Answer → Type 0
 DeletesDocument c id request a =
     MatchOption (version_of c id) (a ≡ unchanged (plain 404 request.closes)) (λ held.
-    BehindConditions request (Some held.1) true false a (a ≡ change_answer c id RemoveDocument request.closes (deleted_reply request.closes)))
+    BehindConditions request (record { tag = Some held.1; exists = true }) false a
+    (a ≡ change_answer c id RemoveDocument request.closes (deleted_reply request.closes)))

@@ -2,10 +2,11 @@
 -- sections 8.2.3 and 8.2.4 (a GET of the same address gives what was put) and 8.4 (and nothing
 -- once it was deleted); RFC 9110, section 9.2.2 (PUT can be repeated without harm); RFC 4826,
 -- sections 3.4.5 and 4.4.5 (keys, by which addresses last).
-use Rattle.std.specs.Prelude.{◌≡◌, ℕ, nat_le, codes, List, [], map, Option, None, Some, IfSome, Ok, ◌+◌}
+use Rattle.std.specs.Prelude.{◌≡◌, ℕ, nat_le, codes, List, [], map, Option, None, Some, IfSome, Ok}
+use Rattle.std.specs.Prelude.{◌+◌}
 use Rattle.std.specs.Bool.{MatchBool}
 use Rattle.xml_tree.specs.Tree.{Tree, at}
-use Rattle.xml_tree.specs.Limits.{max_levels, u64_max}
+use Rattle.xml_names.specs.Limits.{max_levels, u64_max}
 use Rattle.tree_text.specs.Faults.{BodyAnswer, TextAnswer}
 use Rattle.node_select.specs.Selection.{Found, SelectsPath}
 use Rattle.node_select.specs.declared.selector.End.{End}
@@ -25,9 +26,9 @@ use Rattle.request_checks.specs.declared.method.Method.TheVariants.{Put, Delete}
 use Rattle.edit_ops.specs.declared.edit.Edit.{Edit}
 use Rattle.reply_text.specs.ReplyHeads.{plain}
 use Rattle.store_core.specs.Contents.{StoredDocument, StoreContents}
-use Rattle.store_core.specs.KeyAddresses.{KeepsAddressesOf}
 use Rattle.xcap_machine.specs.Answers.{Answer, unchanged}
 use Rattle.xcap_machine.specs.NodeWrites.{levels_for, scope_for}
+use Rattle.xcap_machine.specs.KeyAddresses.{KeepsAddressesOf}
 use Rattle.xcap_machine.specs.Machine.{content_after_answer}
 use Rattle.xcap_machine.specs.Requests.{IsAnswer}
 use Rattle.xcap_machine.specs.Resources.{version_of}
@@ -35,60 +36,78 @@ use Rattle.xcap_machine.specs.Resources.{version_of}
 -- ---- what was put is there
 
 -- the stored document has this tag afterwards, and is the tree that the body is parsed as
-pub record DocumentIsThere (next : StoreContents) (id : DocId) (tag : ℕ) (body : List ℕ) : Type 0 where
+pub record DocumentIsThere (next : StoreContents) (id : DocId) (tag : ℕ)
+    (body : List ℕ) : Type 0 where
   pub tree : Tree
   pub spelled : TextAnswer max_levels [] body (Ok tree)
   pub held : version_of next id ≡ Some (tree, tag)
 
--- in the document afterwards, which has this tag, the selector selects exactly the element that
--- the body is parsed as in the scope of the edit target that it had before
-pub record ElementIsThere (c next : StoreContents) (id : DocId) (tag : ℕ) (selector : Selector) (body : List ℕ) : Type 0 where
+-- a PUT of a node that made a change: the contents before and after it, the document, its tag
+-- afterwards, the selector, and the body
+pub record AcceptedPut : Type 0 where
+  pub old : StoreContents
+  pub new : StoreContents
+  pub id : DocId
+  pub tag : ℕ
+  pub selector : Selector
+  pub body : List ℕ
+
+-- in the document afterwards the selector selects exactly the element that the body is parsed as
+-- in the scope of the edit target that it had before
+pub record ElementIsThere (put : AcceptedPut) : Type 0 where
   pub before : Tree
   pub old_tag : ℕ
-  pub was_held : version_of c id ≡ Some (before, old_tag)
+  pub was_held : version_of put.old put.id ≡ Some (before, old_tag)
   pub spot : Spot
-  pub is_spot : IsSpotOf before selector spot
+  pub is_spot : IsSpotOf before put.selector spot
   pub element : Tree
-  pub spelled : TextAnswer (levels_for spot) (scope_for before spot) body (Ok element)
+  pub spelled : TextAnswer (levels_for spot) (scope_for before spot) put.body (Ok element)
   pub after : Tree
-  pub held : version_of next id ≡ Some (after, tag)
+  pub held : version_of put.new put.id ≡ Some (after, put.tag)
   pub path : List ℕ
-  pub selects : SelectsPath selector.steps after path
+  pub selects : SelectsPath put.selector.steps after path
   pub there : at path after ≡ Some element
 
--- in the document afterwards, which has this tag, the attribute that the selector finds has the
+-- in the document afterwards the attribute that the selector finds, whose name this is, has the
 -- value of the body
-pub record ValueIsThere (next : StoreContents) (id : DocId) (tag : ℕ) (selector : Selector) (uri local body : List ℕ) : Type 0 where
+pub record ValueIsThere (put : AcceptedPut) (uri local : List ℕ) : Type 0 where
   pub value : List ℕ
-  pub spelled : BodyAnswer body (Ok value)
+  pub spelled : BodyAnswer put.body (Ok value)
   pub after : Tree
-  pub held : version_of next id ≡ Some (after, tag)
+  pub held : version_of put.new put.id ≡ Some (after, put.tag)
   pub path : List ℕ
-  pub finds : FindsValue selector.steps uri local after path value
+  pub finds : FindsValue put.selector.steps (record { path = path; uri = uri; local = local }) after
+      value
 
 -- by what the selector ends in; namespace bindings are never put
-abbrev pub NodeIsThere : StoreContents → StoreContents → DocId → ℕ → Selector → End → List ℕ → Type 0
-NodeIsThere c next id tag selector Element body = ElementIsThere c next id tag selector body
-NodeIsThere c next id tag selector (Attribute uri local) body = ValueIsThere next id tag selector uri local body
-NodeIsThere c next id tag selector Namespaces body = ⊥
+abbrev pub NodeIsThere : AcceptedPut → End → Type 0
+NodeIsThere put Element = ElementIsThere put
+NodeIsThere put (Attribute uri local) = ValueIsThere put uri local
+NodeIsThere put Namespaces = ⊥
 
 -- by what was put: a document or a node of one
 abbrev pub TargetIsThere : StoreContents → StoreContents → Target → ℕ → List ℕ → Type 0
 TargetIsThere c next (Document id) tag body = DocumentIsThere next id tag body
-TargetIsThere c next (Node id selector) tag body = NodeIsThere c next id tag selector selector.end body
+TargetIsThere c next (Node id selector) tag body =
+    let put : AcceptedPut =
+    record { old = c; new = next; id = id; tag = tag; selector = selector; body = body } in
+    NodeIsThere put selector.end
 TargetIsThere c next _ tag body = ⊥
 
 -- where a PUT made a change, from the contents before to the next ones, its address means a
 -- target, which is there as the body says
 abbrev pub PutIsThere : List ℕ → StoreContents → Request → Option Edit → StoreContents → Type 0
 PutIsThere root c request edit next =
-    IfSome edit (λ e. method_of request.method ≡ Put
-    → (target : Target) × TargetResult root request.target (Ok target) × TargetIsThere c next target e.note.next request.body)
+    IfSome edit (λ e.
+    method_of request.method ≡ Put
+    → (target : Target) × TargetResult root request.target (Ok target)
+    × TargetIsThere c next target e.note.next request.body)
 
 -- ---- what was deleted is gone
 
 -- in the document afterwards, which has this tag, the selector finds nothing
-pub record NodeIsGone (next : StoreContents) (id : DocId) (tag : ℕ) (selector : Selector) : Type 0 where
+pub record NodeIsGone (next : StoreContents) (id : DocId) (tag : ℕ)
+    (selector : Selector) : Type 0 where
   pub after : Tree
   pub held : version_of next id ≡ Some (after, tag)
   pub finds_nothing : Found after selector → ⊥
@@ -103,8 +122,10 @@ TargetIsGone next _ tag = ⊥
 -- there
 abbrev pub DeletedIsGone : List ℕ → Request → Option Edit → StoreContents → Type 0
 DeletedIsGone root request edit next =
-    IfSome edit (λ e. method_of request.method ≡ Delete
-    → (target : Target) × TargetResult root request.target (Ok target) × TargetIsGone next target e.note.next)
+    IfSome edit (λ e.
+    method_of request.method ≡ Delete
+    → (target : Target) × TargetResult root request.target (Ok target)
+    × TargetIsGone next target e.note.next)
 
 -- ---- a PUT once more
 

@@ -9,26 +9,36 @@ use Rattle.doc_names.specs.declared.doc_id.DocId.{DocId}
 use Rattle.reply_text.specs.ReplyHeads.{plain}
 use Rattle.reply_text.specs.declared.media_types.MediaType.TheVariants as medias
 use Rattle.xcap_uri.specs.declared.target.Mode.{Mode}
-use Rattle.http_wire.specs.declared.request.Request.{Request}
 use Rattle.request_checks.specs.Methods.{for_method}
-use Rattle.request_checks.specs.declared.method.Method.{Method}
 use Rattle.patch_rules.specs.Notices.{gone_notice}
 use Rattle.patch_write.specs.Modes.{notice_of}
 use Rattle.store_core.specs.Since.{ChangesSince, Gone, Unknown, ReportedChanges, since}
-use Rattle.store_core.specs.Contents.{StoreContents}
 use Rattle.xcap_machine.specs.Answers.{Answer, found, unchanged}
+use Rattle.xcap_machine.specs.ReadRequests.{ReadRequest}
+use Rattle.xcap_machine.specs.Servers.{ServerState}
+
+-- a feed: the mode, the tag of the version that the client has, and the document
+pub record FeedQuery : Type 0 where
+  pub mode : Mode
+  pub tag : ℕ
+  pub id : DocId
 
 -- a diff document is sent, without a tag
-abbrev pub sends_notice : Tree → Method → Request → Answer
-sends_notice notice method request = unchanged (for_method method (found None medias.Diff (encode_utf8_all (document_print notice)) request.closes))
+abbrev pub sends_notice : Tree → ReadRequest → Answer
+sends_notice notice get =
+    let text = encode_utf8_all (document_print notice) in
+    unchanged (for_method get.method (found None medias.Diff text get.request.closes))
 
 -- the answer by the result of the since-query: the document is gone; the changes since the tag are
 -- no longer known; or the changes
-abbrev pub changes_since_answer : List ℕ → Mode → ℕ → DocId → ChangesSince → Method → Request → Answer
-changes_since_answer root mode tag id Gone method request = sends_notice (gone_notice root (id_text id) tag) method request
-changes_since_answer root mode tag id Unknown method request = unchanged (plain 410 request.closes)
-changes_since_answer root mode tag id (ReportedChanges ns) method request = sends_notice (notice_of mode root (id_text id) tag ns) method request
+abbrev pub changes_since_answer : List ℕ → FeedQuery → ChangesSince → ReadRequest → Answer
+changes_since_answer root feed Gone get =
+    sends_notice (gone_notice root (id_text feed.id) feed.tag) get
+changes_since_answer root feed Unknown get = unchanged (plain 410 get.request.closes)
+changes_since_answer root feed (ReportedChanges ns) get =
+    sends_notice (notice_of feed.mode root (id_text feed.id) feed.tag ns) get
 
 -- GET or HEAD of a feed
-abbrev pub ReadsFeed : List ℕ → StoreContents → Mode → ℕ → DocId → Method → Request → Answer → Type 0
-ReadsFeed root c mode tag id method request a = a ≡ changes_since_answer root mode tag id (since c id tag) method request
+abbrev pub ReadsFeed : ServerState → FeedQuery → ReadRequest → Answer → Type 0
+ReadsFeed server feed get a =
+    a ≡ changes_since_answer server.root feed (since server.content feed.id feed.tag) get

@@ -7,15 +7,15 @@ use Rattle.xml_tree.specs.Print.{document_print}
 use Rattle.doc_names.specs.declared.doc_id.DocId.{DocId}
 use Rattle.reply_text.specs.ReplyHeads.{plain}
 use Rattle.reply_text.specs.declared.media_types.MediaType.TheVariants as medias
-use Rattle.http_wire.specs.declared.request.Request.{Request}
 use Rattle.request_checks.specs.Methods.{for_method}
-use Rattle.request_checks.specs.declared.method.Method.{Method}
 use Rattle.store_core.specs.Contents.{StoreContents}
 use Rattle.list_resolve.specs.Documents.{flat_document}
 use Rattle.list_resolve.specs.Flat.{IsFlatList}
 use Rattle.list_resolve.specs.declared.fault.FlatFault.{FlatFault}
 use Rattle.list_resolve.specs.declared.fault.FlatFault.TheVariants.{NoService}
 use Rattle.xcap_machine.specs.Answers.{Answer, found, unchanged}
+use Rattle.xcap_machine.specs.ReadRequests.{ReadRequest}
+use Rattle.xcap_machine.specs.Servers.{ServerState}
 
 -- the document of a flat list, or why there is none
 abbrev pub document_of : Result (List (List ℕ)) FlatFault → Result Tree FlatFault
@@ -24,7 +24,9 @@ document_of (Err fault) = Err fault
 
 -- the document, or why there is none, for the service with this address in this document
 abbrev pub IsFlatDocument : List ℕ → StoreContents → DocId → List ℕ → Result Tree FlatFault → Type 0
-IsFlatDocument root c id service answer = (list : Result (List (List ℕ)) FlatFault) × IsFlatList c root id service list × (answer ≡ document_of list)
+IsFlatDocument root c id service answer =
+    (list : Result (List (List ℕ)) FlatFault) × IsFlatList c root id service list
+    × (answer ≡ document_of list)
 
 -- there is no such service; or there are too many references, or too many bytes in the document
 abbrev pub flat_status : FlatFault → ℕ
@@ -32,11 +34,14 @@ flat_status NoService = 404
 flat_status _ = 507
 
 -- the document is sent, without a tag
-abbrev pub sends_flat : Result Tree FlatFault → Method → Request → Answer
-sends_flat (Ok t) method request = unchanged (for_method method (found None medias.ResourceLists (encode_utf8_all (document_print t)) request.closes))
-sends_flat (Err fault) method request = unchanged (plain (flat_status fault) request.closes)
+abbrev pub sends_flat : Result Tree FlatFault → ReadRequest → Answer
+sends_flat (Ok t) get =
+    let text = encode_utf8_all (document_print t) in
+    unchanged (for_method get.method (found None medias.ResourceLists text get.request.closes))
+sends_flat (Err fault) get = unchanged (plain (flat_status fault) get.request.closes)
 
 -- GET or HEAD of a flat list
-abbrev pub ReadsFlat : List ℕ → StoreContents → DocId → List ℕ → Method → Request → Answer → Type 0
-ReadsFlat root c id service method request a =
-    (answer : Result Tree FlatFault) × IsFlatDocument root c id service answer × (a ≡ sends_flat answer method request)
+abbrev pub ReadsFlat : ServerState → DocId → List ℕ → ReadRequest → Answer → Type 0
+ReadsFlat server id service get a =
+    (answer : Result Tree FlatFault) × IsFlatDocument server.root server.content id service answer
+    × (a ≡ sends_flat answer get)

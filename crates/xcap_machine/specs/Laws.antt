@@ -26,7 +26,9 @@ ChangesNothing m next edit = (next ≡ m) × (edit ≡ None)
 
 -- the relation allows one reply, one state after it, and one edit or none
 abbrev pub AllowsOne : {Reply Next : Type 0} → (Reply → Next → Option Edit → Type 0) → Type 0
-AllowsOne {Reply} {Next} Is = (reply other : Reply) (next after : Next) (edit told : Option Edit) → Is reply next edit → Is other after told → (reply ≡ other) × (next ≡ after) × (edit ≡ told)
+AllowsOne {Reply} {Next} Is =
+    (reply other : Reply) (next after : Next) (edit told : Option Edit) → Is reply next edit
+    → Is other after told → (reply ≡ other) × (next ≡ after) × (edit ≡ told)
 
 -- a step of the machine from a state, on a request
 pub record HasStep (root : List ℕ) (m : State) (request : Request) : Type 0 where

@@ -4,12 +4,14 @@ pub mod Effects
 pub mod ElementFeeds
 pub mod Feeds
 pub mod FlatLists
+pub mod KeyAddresses
 pub mod Laws
 pub mod Machine
 pub mod NodeWrites
 pub mod ReadRequests
 pub mod Requests
 pub mod Resources
+pub mod Servers
 pub mod SubscriberVersions
 pub mod Subscribers
 pub mod Versions

@@ -26,13 +26,15 @@ answer_as reply edit = record { reply = reply; made = option_map told_as edit }
 
 -- The step of the machine of this root: in the state `m`, a request gets this reply, the machine
 -- is then in the state `next`, and watchers are notified of this edit, if a change was made.
-pub record Step (root : List ℕ) (m : State) (request : Request) (reply : SentReply) (next : State) (edit : Option Edit) : Type 0 where
+pub record Step (root : List ℕ) (m : State) (request : Request) (reply : SentReply) (next : State)
+    (edit : Option Edit) : Type 0 where
   pub answers : IsAnswer root (stock_of m) request (answer_as reply edit)
   pub goes_on : next ≡ after_answer m (option_map told_as edit)
 
 -- a step from a valid state to a valid state
 abbrev pub ValidStep : List ℕ → State → Request → SentReply → State → Option Edit → Type 0
-ValidStep root m request reply next edit = IsValidState m × Step root m request reply next edit × IsValidState next
+ValidStep root m request reply next edit =
+    IsValidState m × Step root m request reply next edit × IsValidState next
 
 -- ---- the step on store contents, on which alone an answer depends
 
@@ -43,6 +45,7 @@ content_after_answer c (Some made) = content_after c made.0 made.1.change
 
 -- On the contents `c`, a request gets this reply, watchers are notified of this edit, if a change
 -- was made, and the contents are then `next`.
-pub record Does (root : List ℕ) (c : StoreContents) (request : Request) (reply : SentReply) (next : StoreContents) (edit : Option Edit) : Type 0 where
+pub record Does (root : List ℕ) (c : StoreContents) (request : Request) (reply : SentReply)
+    (next : StoreContents) (edit : Option Edit) : Type 0 where
   pub answers : IsAnswer root c request (answer_as reply edit)
   pub goes_on : next ≡ content_after_answer c (option_map told_as edit)

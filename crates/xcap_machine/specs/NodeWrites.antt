@@ -2,13 +2,14 @@
 -- (PUT) and 8.4 (DELETE), with the conflicts of section 11 and the entity tags of section 8.5.
 -- Which change is made, or why there is none, is defined in `edit_rules`. The order of the tests
 -- is this server's own: the parent, the conditions, the media type, the body, and then the plan.
-use Rattle.std.specs.Prelude.{◌≡◌, ℕ, suc, ◌-◌, Bool, true, false, List, [], length, is_some, Some, Result, Ok, Err, MatchOption, MatchResult}
+use Rattle.std.specs.Prelude.{◌≡◌, ℕ, suc, ◌-◌, Bool, true, false, List, [], length, is_some, Some}
+use Rattle.std.specs.Prelude.{Result, Ok, Err, MatchOption, MatchResult}
 use Rattle.std.specs.Bool.{MatchBool}
 use Rattle.store_core.specs.Contents.{StoreContents}
 use Rattle.xml_tree.specs.Tree.{Tree}
-use Rattle.xml_tree.specs.Scopes.{scope_around, scope_at}
-use Rattle.xml_tree.specs.declared.names.Decl.{Decl}
-use Rattle.xml_tree.specs.Limits.{max_levels}
+use Rattle.xml_tree.specs.TreeScopes.{scope_around, scope_at}
+use Rattle.xml_names.specs.declared.names.Decl.{Decl}
+use Rattle.xml_names.specs.Limits.{max_levels}
 use Rattle.tree_text.specs.Faults.{BodyAnswer, TextAnswer}
 use Rattle.tree_text.specs.declared.fault.TextFault.{TextFault}
 use Rattle.tree_text.specs.declared.fault.ValueFault.{ValueFault}
@@ -24,7 +25,8 @@ use Rattle.edit_rules.specs.declared.spot.Spot.{Spot}
 use Rattle.edit_rules.specs.declared.spot.Spot.TheVariants.{Over, Under, Beside, Value}
 use Rattle.edit_rules.specs.declared.spot.NoParent.{NoParent}
 use Rattle.edit_rules.specs.declared.refusal.EditRefusal.{EditRefusal}
-use Rattle.edit_rules.specs.declared.refusal.EditRefusal.TheVariants.{NotFound, CannotInsert, CannotDelete, Faulty}
+use Rattle.edit_rules.specs.declared.refusal.EditRefusal.TheVariants.{NotFound, CannotInsert}
+use Rattle.edit_rules.specs.declared.refusal.EditRefusal.TheVariants.{CannotDelete, Faulty}
 use Rattle.edit_rules.specs.Attributes.{IsAttrPlan, IsWritable}
 use Rattle.edit_rules.specs.Deletions.{IsDeletePlan}
 use Rattle.edit_rules.specs.Puts.{IsPutPlan}
@@ -37,13 +39,16 @@ use Rattle.request_checks.specs.MediaTypes.{has_type}
 use Rattle.xcap_uri.specs.Ancestors.{ancestor_uri}
 use Rattle.xcap_machine.specs.Answers.{Answer, BehindConditions, unchanged, conflict, tagged}
 use Rattle.xcap_machine.specs.Resources.{version_of}
-use Rattle.xcap_machine.specs.DocumentWrites.{change_answer, fault_conflict, put_reply, missing_parent_answer, text_conflict}
+use Rattle.xcap_machine.specs.Servers.{ServerState}
+use Rattle.xcap_machine.specs.DocumentWrites.{change_answer, fault_conflict, put_reply}
+use Rattle.xcap_machine.specs.DocumentWrites.{missing_parent_answer, text_conflict}
 
 -- ---- the attribute that a selector ends in
 
 -- an attribute that the selector ends in is writable
 abbrev pub MayBeWritten : Selector → Type 0
-MayBeWritten selector = (uri local : List ℕ) → selector.end ≡ ends.Attribute uri local → IsWritable uri local
+MayBeWritten selector =
+    (uri local : List ℕ) → selector.end ≡ ends.Attribute uri local → IsWritable uri local
 
 -- ---- the answer to a plan
 
@@ -55,7 +60,8 @@ plan_refused CannotDelete closes = conflict conflicts.CannotDelete closes
 plan_refused (Faulty fault) closes = conflict (fault_conflict fault) closes
 
 -- the store is asked for a planned change, and the reply is made from its record
-abbrev pub plan_answer : StoreContents → DocId → Bool → (Note → SentReply) → Result Change EditRefusal → Answer
+abbrev pub plan_answer : StoreContents → DocId → Bool → (Note → SentReply)
+    → Result Change EditRefusal → Answer
 plan_answer c id closes reply (Err why) = unchanged (plan_refused why closes)
 plan_answer c id closes reply (Ok change) = change_answer c id change closes reply
 
@@ -83,47 +89,80 @@ abbrev pub value_conflict : ValueFault → ErrorBody
 value_conflict values.NotUtf8 = conflicts.NotUtf8
 value_conflict (values.NotValue place) = conflicts.NotXmlAttValue
 
--- a node of a document that is stored with this tree
-module _ (c : StoreContents) (id : DocId) (usage : Usage) (selector : Selector) (t : Tree) where
+-- a PUT or DELETE of a node: the document's name and usage, the selector, and the request
+pub record NodeWrite : Type 0 where
+  pub id : DocId
+  pub usage : Usage
+  pub selector : Selector
+  pub request : Request
+
+-- a PUT of a node of a document that is stored with this tree
+module _ (c : StoreContents) (put : NodeWrite) (t : Tree) where
   -- the answer to a planned PUT: the node is new, or replaces the old one
-  abbrev pub put_planned : Request → Result Change EditRefusal → Answer
-  put_planned request plan = plan_answer c id request.closes (put_reply (is_there t selector) request.closes) plan
+  abbrev pub put_planned : Result Change EditRefusal → Answer
+  put_planned plan =
+      let closes = put.request.closes in
+      plan_answer c put.id closes (put_reply (is_there t put.selector) closes) plan
 
   -- the answer to a body that is parsed as an element in the scope of the edit target, no higher
   -- than fits there; or has a fault
-  abbrev pub PutsElement : Spot → Request → Answer → Type 0
-  PutsElement spot request a =
-      (read : Result Tree TextFault) × TextAnswer (levels_for spot) (scope_for t spot) request.body read
-      × MatchResult read (λ e. (plan : Result Change EditRefusal) × IsPutPlan usage t selector.steps spot e plan × (a ≡ put_planned request plan))
-      (λ fault. a ≡ unchanged (conflict (text_conflict conflicts.NotXmlFrag fault) request.closes))
+  abbrev pub PutsElement : Spot → Answer → Type 0
+  PutsElement spot a =
+      let closes = put.request.closes in
+      (read : Result Tree TextFault)
+      × TextAnswer (levels_for spot) (scope_for t spot) put.request.body read
+      × MatchResult read
+      (λ e.
+      (plan : Result Change EditRefusal)
+      × IsPutPlan
+      (record { usage = put.usage; document = t; steps = put.selector.steps }) spot e plan
+      × (a ≡ put_planned plan))
+      (λ fault. a ≡ unchanged (conflict (text_conflict conflicts.NotXmlFrag fault) closes))
 
   -- the answer to a body that is the value of an attribute of the element at p; or has a fault
-  abbrev pub PutsValue : List ℕ → Request → Answer → Type 0
-  PutsValue p request a =
-      (read : Result (List ℕ) ValueFault) × BodyAnswer request.body read
-      × MatchResult read (λ value. (plan : Result Change EditRefusal) × IsAttrPlan usage t selector.steps selector.end p value plan × (a ≡ put_planned request plan))
-      (λ fault. a ≡ unchanged (conflict (value_conflict fault) request.closes))
+  abbrev pub PutsValue : List ℕ → Answer → Type 0
+  PutsValue p a =
+      (read : Result (List ℕ) ValueFault) × BodyAnswer put.request.body read
+      × MatchResult read
+      (λ value.
+      (plan : Result Change EditRefusal)
+      × IsAttrPlan
+      (record { usage = put.usage; document = t; steps = put.selector.steps }) put.selector.end p
+      value plan
+      × (a ≡ put_planned plan))
+      (λ fault. a ≡ unchanged (conflict (value_conflict fault) put.request.closes))
 
   -- by the edit target: of an attribute, or of an element
-  abbrev pub PutsAt : Spot → Request → Answer → Type 0
-  PutsAt (Value p) request a = PutsValue p request a
-  PutsAt spot request a = PutsElement spot request a
+  abbrev pub PutsAt : Spot → Answer → Type 0
+  PutsAt (Value p) a = PutsValue p a
+  PutsAt spot a = PutsElement spot a
 
   -- the body has the media type of elements or attributes
-  abbrev pub PutsFragment : Spot → Request → Answer → Type 0
-  PutsFragment spot request a = MatchBool (has_type (node_media selector.end) request.fields) (PutsAt spot request a) (a ≡ unchanged (plain 415 request.closes))
+  abbrev pub PutsFragment : Spot → Answer → Type 0
+  PutsFragment spot a =
+      MatchBool (has_type (node_media put.selector.end) put.request.fields)
+      (PutsAt spot a)
+      (a ≡ unchanged (plain 415 put.request.closes))
 
-  -- there is an edit target, or no parent, and then the closest ancestor is named; then the
-  -- conditions are tested, by the document's tag
-  abbrev pub PutsFrom : List ℕ → ℕ → Result Spot NoParent → Request → Answer → Type 0
-  PutsFrom root tag (Err none) request a = a ≡ unchanged (conflict (conflicts.NoParent (ancestor_uri root id t selector.steps)) request.closes)
-  PutsFrom root tag (Ok spot) request a = BehindConditions request (Some tag) (is_there t selector) false a (PutsFragment spot request a)
+-- a PUT of a node of a document that is stored with this tree and this tag: there is an edit
+-- target, or no parent, and then the closest ancestor is named; then the conditions are tested, by
+-- the document's tag
+abbrev pub PutsFrom : ServerState → NodeWrite → Tree × ℕ → Result Spot NoParent → Answer → Type 0
+PutsFrom server put held (Err none) a =
+    let uri = ancestor_uri server.root put.id held.0 put.selector.steps in
+    a ≡ unchanged (conflict (conflicts.NoParent uri) put.request.closes)
+PutsFrom server put held (Ok spot) a =
+    BehindConditions put.request
+    (record { tag = Some held.1; exists = is_there held.0 put.selector }) false a
+    (PutsFragment server.content put held.0 spot a)
 
 -- by whether the document of the node is stored
-abbrev pub PutsNode : List ℕ → StoreContents → DocId → Usage → Selector → Request → Answer → Type 0
-PutsNode root c id usage selector request a =
-    MatchOption (version_of c id) (a ≡ missing_parent_answer root id.auid id.home request)
-    (λ held. (spot : Result Spot NoParent) × IsSpot held.0 selector spot × PutsFrom c id usage selector held.0 root held.1 spot request a)
+abbrev pub PutsNode : ServerState → NodeWrite → Answer → Type 0
+PutsNode server put a =
+    MatchOption (version_of server.content put.id)
+    (a ≡ missing_parent_answer server.root put.id.auid put.id.home put.request)
+    (λ held. (spot : Result Spot NoParent) × IsSpot held.0 put.selector spot
+    × PutsFrom server put held spot a)
 
 -- ---- DELETE (RFC 4825, section 8.4)
 
@@ -131,16 +170,19 @@ PutsNode root c id usage selector request a =
 abbrev pub cut_reply : Bool → Note → SentReply
 cut_reply closes note = tagged 200 note.next closes
 
--- the node that the selector finds is removed
-abbrev pub CutsNode : StoreContents → DocId → Usage → Selector → Tree → Request → Answer → Type 0
-CutsNode c id usage selector t request a =
-    (plan : Result Change EditRefusal) × IsDeletePlan usage t selector plan × (a ≡ plan_answer c id request.closes (cut_reply request.closes) plan)
+-- the node that the selector finds in this tree is removed
+abbrev pub CutsNode : StoreContents → NodeWrite → Tree → Answer → Type 0
+CutsNode c cut t a =
+    let closes = cut.request.closes in
+    (plan : Result Change EditRefusal) × IsDeletePlan cut.usage t cut.selector plan
+    × (a ≡ plan_answer c cut.id closes (cut_reply closes) plan)
 
 -- by whether the document of the node is stored: where the node is there, the conditions are
 -- tested
-abbrev pub DeletesNode : StoreContents → DocId → Usage → Selector → Request → Answer → Type 0
-DeletesNode c id usage selector request a =
-    MatchOption (version_of c id) (a ≡ unchanged (plain 404 request.closes)) (λ held.
-    MatchBool (is_there held.0 selector)
-    (BehindConditions request (Some held.1) true false a (CutsNode c id usage selector held.0 request a))
-    (a ≡ unchanged (plain 404 request.closes)))
+abbrev pub DeletesNode : StoreContents → NodeWrite → Answer → Type 0
+DeletesNode c cut a =
+    MatchOption (version_of c cut.id) (a ≡ unchanged (plain 404 cut.request.closes)) (λ held.
+    MatchBool (is_there held.0 cut.selector)
+    (BehindConditions cut.request (record { tag = Some held.1; exists = true }) false a
+    (CutsNode c cut held.0 a))
+    (a ≡ unchanged (plain 404 cut.request.closes)))

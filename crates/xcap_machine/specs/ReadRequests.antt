@@ -15,27 +15,36 @@ use Rattle.reply_bodies.specs.Nodes.{encoded, found_text, node_media}
 use Rattle.xcap_machine.specs.Answers.{Answer, BehindConditions, found, unchanged}
 use Rattle.xcap_machine.specs.Resources.{IsResourceOf, Resource, absent, beyond_limit, there}
 
+-- a GET or HEAD: the method, and the request
+pub record ReadRequest : Type 0 where
+  pub method : Method
+  pub request : Request
+
 -- what is found in a document with this tag is sent, unless a condition stops the request
-abbrev pub SendsFound : Option (List ℕ) → ℕ → MediaType → Method → Request → Answer → Type 0
-SendsFound None tag media method request a = a ≡ unchanged (plain 404 request.closes)
-SendsFound (Some text) tag media method request a =
-    BehindConditions request (Some tag) true true a (a ≡ unchanged (for_method method (found (Some tag) media text request.closes)))
+abbrev pub SendsFound : Option (List ℕ) → ℕ → MediaType → ReadRequest → Answer → Type 0
+SendsFound None tag media get a = a ≡ unchanged (plain 404 get.request.closes)
+SendsFound (Some text) tag media get a =
+    BehindConditions get.request (record { tag = Some tag; exists = true }) true a
+    (a ≡ unchanged (for_method get.method (found (Some tag) media text get.request.closes)))
 
 -- a document is sent
-abbrev pub SendsDocument : Resource → MediaType → Method → Request → Answer → Type 0
-SendsDocument absent media method request a = a ≡ unchanged (plain 404 request.closes)
-SendsDocument beyond_limit media method request a = a ≡ unchanged (plain 507 request.closes)
-SendsDocument (there t tag) media method request a = SendsFound (Some (encode_utf8_all (document_print t))) tag media method request a
+abbrev pub SendsDocument : Resource → MediaType → ReadRequest → Answer → Type 0
+SendsDocument absent media get a = a ≡ unchanged (plain 404 get.request.closes)
+SendsDocument beyond_limit media get a = a ≡ unchanged (plain 507 get.request.closes)
+SendsDocument (there t tag) media get a =
+    SendsFound (Some (encode_utf8_all (document_print t))) tag media get a
 
 -- a node of a document is sent
-abbrev pub SendsNode : Resource → Selector → Method → Request → Answer → Type 0
-SendsNode absent selector method request a = a ≡ unchanged (plain 404 request.closes)
-SendsNode beyond_limit selector method request a = a ≡ unchanged (plain 507 request.closes)
-SendsNode (there t tag) selector method request a = SendsFound (encoded (found_text t selector)) tag (node_media selector.end) method request a
+abbrev pub SendsNode : Resource → Selector → ReadRequest → Answer → Type 0
+SendsNode absent selector get a = a ≡ unchanged (plain 404 get.request.closes)
+SendsNode beyond_limit selector get a = a ≡ unchanged (plain 507 get.request.closes)
+SendsNode (there t tag) selector get a =
+    SendsFound (encoded (found_text t selector)) tag (node_media selector.end) get a
 
 -- GET or HEAD of a document, and of a node of one
-abbrev pub ReadsDocument : StoreContents → DocId → Method → Request → Answer → Type 0
-ReadsDocument c id method request a = (r : Resource) × IsResourceOf c id r × SendsDocument r (document_media id.auid) method request a
+abbrev pub ReadsDocument : StoreContents → DocId → ReadRequest → Answer → Type 0
+ReadsDocument c id get a =
+    (r : Resource) × IsResourceOf c id r × SendsDocument r (document_media id.auid) get a
 
-abbrev pub ReadsNode : StoreContents → DocId → Selector → Method → Request → Answer → Type 0
-ReadsNode c id selector method request a = (r : Resource) × IsResourceOf c id r × SendsNode r selector method request a
+abbrev pub ReadsNode : StoreContents → DocId → Selector → ReadRequest → Answer → Type 0
+ReadsNode c id selector get a = (r : Resource) × IsResourceOf c id r × SendsNode r selector get a

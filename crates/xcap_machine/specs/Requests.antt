@@ -16,7 +16,8 @@ use Rattle.reply_text.specs.ReplyHeads.{plain}
 use Rattle.xcap_uri.specs.declared.fault.UriFault.{UriFault}
 use Rattle.xcap_uri.specs.declared.fault.UriFault.TheVariants.{OutsideRoot, UnknownAuid}
 use Rattle.xcap_uri.specs.declared.target.Target.{Target}
-use Rattle.xcap_uri.specs.declared.target.Target.TheVariants.{Document, Node, Deep, Feed, ElementFeed, Flat}
+use Rattle.xcap_uri.specs.declared.target.Target.TheVariants.{Document, Node, Deep, Feed}
+use Rattle.xcap_uri.specs.declared.target.Target.TheVariants.{ElementFeed, Flat}
 use Rattle.http_wire.specs.declared.request.Request.{Request}
 use Rattle.request_checks.specs.declared.method.Method.{Method}
 use Rattle.request_checks.specs.declared.method.Method.TheVariants.{Get, Head, Put, Delete, Other}
@@ -26,9 +27,11 @@ use Rattle.xcap_machine.specs.Answers.{Answer, unchanged, not_allowed}
 use Rattle.xcap_machine.specs.ElementFeeds.{ReadsElementFeed}
 use Rattle.xcap_machine.specs.Feeds.{ReadsFeed}
 use Rattle.xcap_machine.specs.FlatLists.{ReadsFlat}
-use Rattle.xcap_machine.specs.ReadRequests.{ReadsDocument, ReadsNode}
-use Rattle.xcap_machine.specs.DocumentWrites.{IfStored, PutsDocument, missing_parent_answer, DeletesDocument}
+use Rattle.xcap_machine.specs.ReadRequests.{ReadRequest, ReadsDocument, ReadsNode}
+use Rattle.xcap_machine.specs.DocumentWrites.{IfStored, PutsDocument, missing_parent_answer}
+use Rattle.xcap_machine.specs.DocumentWrites.{DeletesDocument}
 use Rattle.xcap_machine.specs.NodeWrites.{PutsNode, DeletesNode, MayBeWritten}
+use Rattle.xcap_machine.specs.Servers.{ServerState}
 
 -- ---- the target
 
@@ -66,24 +69,29 @@ IsWritableTarget _ = Unit {0}
 -- ---- by method
 
 -- GET and HEAD
-abbrev pub ReadsTarget : List ℕ → StoreContents → Target → Method → Request → Answer → Type 0
-ReadsTarget root c (Document id) method request a = ReadsDocument c id method request a
-ReadsTarget root c (Node id selector) method request a = ReadsNode c id selector method request a
-ReadsTarget root c (Deep auid home) method request a = a ≡ unchanged (plain 404 request.closes)
-ReadsTarget root c (Feed mode tag id) method request a = ReadsFeed root c mode tag id method request a
-ReadsTarget root c (ElementFeed tag id selector raw) method request a = ReadsElementFeed root c tag id selector raw method request a
-ReadsTarget root c (Flat id service) method request a = ReadsFlat root c id service method request a
+abbrev pub ReadsTarget : ServerState → Target → ReadRequest → Answer → Type 0
+ReadsTarget server (Document id) get a = ReadsDocument server.content id get a
+ReadsTarget server (Node id selector) get a = ReadsNode server.content id selector get a
+ReadsTarget server (Deep auid home) get a = a ≡ unchanged (plain 404 get.request.closes)
+ReadsTarget server (Feed mode tag id) get a =
+    ReadsFeed server (record { mode = mode; tag = tag; id = id }) get a
+ReadsTarget server (ElementFeed tag id selector raw) get a =
+    ReadsElementFeed server (record { tag = tag; id = id; selector = selector; raw = raw }) get a
+ReadsTarget server (Flat id service) get a = ReadsFlat server id service get a
 
 -- feeds and flat lists are read only, so they never come here
-abbrev pub Puts : List ℕ → StoreContents → Target → Usage → Request → Answer → Type 0
-Puts root c (Document id) usage request a = PutsDocument c id usage request a
-Puts root c (Node id selector) usage request a = PutsNode root c id usage selector request a
-Puts root c (Deep auid home) usage request a = a ≡ missing_parent_answer root auid home request
-Puts root c _ usage request a = ⊥
+abbrev pub Puts : ServerState → Target → Usage → Request → Answer → Type 0
+Puts server (Document id) usage request a = PutsDocument server.content id usage request a
+Puts server (Node id selector) usage request a =
+    PutsNode server (record { id = id; usage = usage; selector = selector; request = request }) a
+Puts server (Deep auid home) usage request a =
+    a ≡ missing_parent_answer server.root auid home request
+Puts server _ usage request a = ⊥
 
 abbrev pub Deletes : StoreContents → Target → Usage → Request → Answer → Type 0
 Deletes c (Document id) usage request a = DeletesDocument c id request a
-Deletes c (Node id selector) usage request a = DeletesNode c id usage selector request a
+Deletes c (Node id selector) usage request a =
+    DeletesNode c (record { id = id; usage = usage; selector = selector; request = request }) a
 Deletes c (Deep auid home) usage request a = a ≡ unchanged (plain 404 request.closes)
 Deletes c _ usage request a = ⊥
 
@@ -107,30 +115,39 @@ home_of (ElementFeed tag id selector raw) = id.home
 home_of (Flat id service) = id.home
 
 -- by the method, which the target allows
-abbrev pub ByMethod : List ℕ → StoreContents → Target → Method → Request → Answer → Type 0
-ByMethod root c target Get request a = ReadsTarget root c target Get request a
-ByMethod root c target Head request a = ReadsTarget root c target Head request a
-ByMethod root c target Put request a = IfStored (usage_of (auid_of target)) request a (λ usage. Puts root c target usage request a)
-ByMethod root c target Delete request a = IfStored (usage_of (auid_of target)) request a (λ usage. Deletes c target usage request a)
-ByMethod root c target Other request a = ⊥
+abbrev pub ByMethod : ServerState → Target → Method → Request → Answer → Type 0
+ByMethod server target Get request a =
+    ReadsTarget server target (record { method = Get; request = request }) a
+ByMethod server target Head request a =
+    ReadsTarget server target (record { method = Head; request = request }) a
+ByMethod server target Put request a =
+    IfStored (usage_of (auid_of target)) request a (λ usage. Puts server target usage request a)
+ByMethod server target Delete request a =
+    IfStored (usage_of (auid_of target)) request a
+    (λ usage. Deletes server.content target usage request a)
+ByMethod server target Other request a = ⊥
 
 -- whether the user may read or write there
-abbrev pub ByUser : List ℕ → StoreContents → Target → Method → Request → Answer → Type 0
-ByUser root c target method request a =
-    MatchBool (is_allowed (not (is_reading method)) (auid_of target) (home_of target) request.fields)
-    (ByMethod root c target method request a)
+abbrev pub ByUser : ServerState → Target → Method → Request → Answer → Type 0
+ByUser server target method request a =
+    MatchBool
+    (is_allowed (not (is_reading method)) (auid_of target) (home_of target) request.fields)
+    (ByMethod server target method request a)
     (a ≡ unchanged (plain 403 request.closes))
 
 -- whether the target allows the method
-abbrev pub ByTarget : List ℕ → StoreContents → Target → Method → Request → Answer → Type 0
-ByTarget root c target method request a =
+abbrev pub ByTarget : ServerState → Target → Method → Request → Answer → Type 0
+ByTarget server target method request a =
     MatchBool (takes target method)
-    (ByUser root c target method request a)
+    (ByUser server target method request a)
     (a ≡ unchanged (not_allowed (is_read_only target) request.closes))
 
 -- the answer to a request, under this root, on these store contents: by its target, or by the
 -- target's fault
 abbrev pub IsAnswer : List ℕ → StoreContents → Request → Answer → Type 0
 IsAnswer root c request a =
+    let server : ServerState = record { root = root; content = c } in
     (read : Result Target UriFault) × TargetResult root request.target read
-    × MatchResult read (λ target. ByTarget root c target (method_of request.method) request a) (λ fault. a ≡ unchanged (plain (fault_status fault) request.closes))
+    × MatchResult read
+    (λ target. ByTarget server target (method_of request.method) request a)
+    (λ fault. a ≡ unchanged (plain (fault_status fault) request.closes))

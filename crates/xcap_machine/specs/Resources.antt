@@ -1,6 +1,7 @@
 -- The resource of an address. RFC 4825, section 6: a document. Documents under `global` are
 -- computed (RFC 4825, section 12, and RFC 4826, sections 4.4.7 and 4.4.8).
-use Rattle.std.specs.Prelude.{◌≡◌, ℕ, ◌-◌, Bool, true, false, List, Option, option_map, nat_lt, if◌then◌else◌}
+use Rattle.std.specs.Prelude.{◌≡◌, ℕ, ◌-◌, Bool, true, false, List, Option, option_map, nat_lt}
+use Rattle.std.specs.Prelude.{if◌then◌else◌}
 use Rattle.std.specs.Option.{option_map_or}
 use Rattle.std.specs.Str.{bytes_eq}
 use Rattle.xml_tree.specs.Tree.{Tree}
@@ -17,7 +18,9 @@ use Rattle.store_core.specs.Indexes.{AreIndexTrees, index}
 
 -- the current tree and tag of the document with this name, if it is stored
 abbrev pub version_of : StoreContents → DocId → Option (Tree × ℕ)
-version_of c id = option_map {U = Tree × ℕ} (λ (h : StoredDocument). (h.tree, h.tag)) (document_in stored_name c.documents id)
+version_of c id =
+    option_map {U = Tree × ℕ} (λ (h : StoredDocument). (h.tree, h.tag))
+    (document_in stored_name c.documents id)
 
 -- nothing; a computed document that would be longer than the limit; or a document with its tag
 pub data Resource : Type 0 where
@@ -27,7 +30,8 @@ pub data Resource : Type 0 where
 
 -- the index of services of the stored documents
 abbrev pub IsIndexOfServices : StoreContents → Tree → Type 0
-IsIndexOfServices c root = (trees : List Tree) × AreIndexTrees c trees × (root ≡ index_of_documents trees)
+IsIndexOfServices c root =
+    (trees : List Tree) × AreIndexTrees c trees × (root ≡ index_of_documents trees)
 
 -- under `global` there are the index of services, whose tag is the last number given, and the
 -- capabilities, whose tag is 0
@@ -35,13 +39,16 @@ abbrev pub LeadsUnderGlobal : StoreContents → Auid → Bool → Resource → T
 LeadsUnderGlobal c ResourceLists is_index r = r ≡ absent
 LeadsUnderGlobal c RlsServices false r = r ≡ absent
 LeadsUnderGlobal c RlsServices true r =
-    (root : Tree) × IsIndexOfServices c root × (r ≡ (if nat_lt index_limit (document_len root) then beyond_limit else there root (c.next - 1)))
+    (root : Tree) × IsIndexOfServices c root
+    × (r
+    ≡ (if nat_lt index_limit (document_len root) then beyond_limit else there root (c.next - 1)))
 LeadsUnderGlobal c XcapCaps false r = r ≡ absent
 LeadsUnderGlobal c XcapCaps true r = r ≡ there capabilities 0
 
 abbrev pub LeadsFrom : StoreContents → DocId → Home → Resource → Type 0
 LeadsFrom c id Global r = LeadsUnderGlobal c id.auid (bytes_eq id.name index) r
-LeadsFrom c id (User xui) r = r ≡ option_map_or (λ held. there held.0 held.1) (version_of c id) absent
+LeadsFrom c id (User xui) r =
+    r ≡ option_map_or (λ held. there held.0 held.1) (version_of c id) absent
 
 -- the resource of a document's name
 abbrev pub IsResourceOf : StoreContents → DocId → Resource → Type 0

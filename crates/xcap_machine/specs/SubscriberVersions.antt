@@ -27,7 +27,8 @@ use Rattle.xcap_machine.specs.Subscribers.{answer_between, fetch_between, subscr
 
 -- the body is the text of a diff document, and a replica with contents `held` that applies it gets
 -- the answer and the new contents
-pub record Updates (id : DocId) (body : List ℕ) (held : ReplicaContents) (answer : CopyAnswer) (new : ReplicaContents) : Type 0 where
+pub record Updates (id : DocId) (body : List ℕ) (held : ReplicaContents) (answer : CopyAnswer)
+    (new : ReplicaContents) : Type 0 where
   pub notice : Tree
   pub is_read : TextAnswer most_notice_levels [] body (Ok notice)
   pub form : is_notice notice ≡ true
@@ -38,36 +39,45 @@ pub record Updates (id : DocId) (body : List ℕ) (held : ReplicaContents) (answ
 -- becomes a replica of the other; else it is asked to fetch that version, or
 -- learns that nothing changed
 abbrev pub UpdatesTo : Mode → DocId → List ℕ → Version → Version → Type 0
-UpdatesTo NoPatching id body from to = Updates id body (subscribed from) (fetch_between from to) (subscribed from)
-UpdatesTo _ id body from to = Updates id body (subscribed from) (answer_between from to) (subscribed to)
+UpdatesTo NoPatching id body from to =
+    Updates id body (subscribed from) (fetch_between from to) (subscribed from)
+UpdatesTo _ id body from to =
+    Updates id body (subscribed from) (answer_between from to) (subscribed to)
 
 -- the document has exactly one version with this tag, and the body brings a replica of it to the
 -- document's current version
-pub record UpdatesFrom (mode : Mode) (tag : ℕ) (id : DocId) (body : List ℕ) (d : Document) : Type 0 where
+pub record UpdatesFrom (mode : Mode) (tag : ℕ) (id : DocId) (body : List ℕ)
+    (d : Document) : Type 0 where
   pub from : Version
   pub number : ℕ
   pub is_version : slice_get (versions d) number ≡ Some from
   pub same_tag : from.tag ≡ tag
-  pub only : (other : Version) (k : ℕ) → slice_get (versions d) k ≡ Some other → other.tag ≡ tag → other ≡ from
+  pub only : (other : Version) (k : ℕ) → slice_get (versions d) k ≡ Some other → other.tag ≡ tag
+      → other ≡ from
   pub updates : UpdatesTo mode id body from d.now
 
 -- a document that is stored, and one that is gone, whose replica is empty afterwards
 abbrev pub UpdatesHeld : Mode → ℕ → DocId → List ℕ → Option Document → Type 0
 UpdatesHeld mode tag id body (Some d) = UpdatesFrom mode tag id body d
-UpdatesHeld mode tag id body None = (t : Tree) → Updates id body (Some (decimal tag, t)) Removed None
+UpdatesHeld mode tag id body None =
+    (t : Tree) → Updates id body (Some (decimal tag, t)) Removed None
 
 -- what holds of the reply to a GET of the feed of a document since a tag
-pub record SubscriberHolds (m : State) (mode : Mode) (tag : ℕ) (id : DocId) (reply : SentReply) : Type 0 where
-  pub updates : reply.status ≡ 200 → UpdatesHeld mode tag id reply.body (document_in document_name m.documents id)
+pub record SubscriberHolds (m : State) (mode : Mode) (tag : ℕ) (id : DocId)
+    (reply : SentReply) : Type 0 where
+  pub updates : reply.status ≡ 200
+      → UpdatesHeld mode tag id reply.body (document_in document_name m.documents id)
   pub unknown : reply.status ≡ 410 → since (stock_of m) id tag ≡ Unknown
 
 -- what holds of each reply in a state
 abbrev pub SubscribersHold : List ℕ → State → Request → SentReply → Type 0
 SubscribersHold root m request reply =
-    (mode : Mode) (tag : ℕ) (id : DocId) → TargetResult root request.target (Ok (Feed mode tag id)) → method_of request.method ≡ Get
+    (mode : Mode) (tag : ℕ) (id : DocId) → TargetResult root request.target (Ok (Feed mode tag id))
+    → method_of request.method ≡ Get
     → SubscriberHolds m mode tag id reply
 
 -- a step of the machine from a valid state to a valid one, whose reply keeps subscribers up to
 -- date
 abbrev pub FollowedStep : List ℕ → State → Request → SentReply → State → Option Edit → Type 0
-FollowedStep root m request reply next edit = ValidStep root m request reply next edit × SubscribersHold root m request reply
+FollowedStep root m request reply next edit =
+    ValidStep root m request reply next edit × SubscribersHold root m request reply

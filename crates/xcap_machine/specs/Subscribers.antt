@@ -13,15 +13,22 @@ use Rattle.store_core.specs.ValidStates.{IsValidState}
 use Rattle.store_core.specs.Since.{ReportedChanges, since}
 use Rattle.store_core.specs.State.{Document, State, Version, versions}
 
+-- a document, one of its versions, and change records
+pub record VersionNotes : Type 0 where
+  pub id : DocId
+  pub document : Document
+  pub from : Version
+  pub notes : List Note
+
 -- store contents represent a valid state in which the document has this version, and have these
 -- change records since the version's tag
-pub record TellsSince (c : StoreContents) (m : State) (id : DocId) (d : Document) (from : Version) (ns : List Note) : Type 0 where
+pub record TellsSince (c : StoreContents) (m : State) (v : VersionNotes) : Type 0 where
   pub kept : IsValidState m
   pub stands : Represents c m
-  pub there : document_in document_name m.documents id ≡ Some d
+  pub there : document_in document_name m.documents v.id ≡ Some v.document
   pub number : ℕ
-  pub is_version : slice_get (versions d) number ≡ Some from
-  pub told : since c id from.tag ≡ ReportedChanges ns
+  pub is_version : slice_get (versions v.document) number ≡ Some v.from
+  pub told : since c v.id v.from.tag ≡ ReportedChanges v.notes
 
 -- the replica of a version: its tag, in digits, and its tree
 abbrev pub subscribed : Version → ReplicaContents
@@ -38,6 +45,7 @@ fetch_between from to = if to.tag == from.tag then Same else Fetch (decimal to.t
 
 -- the text of a diff document is read back, and a replica with contents `held` that applies it
 -- gets the answer and the new contents
-pub record Brings (id : DocId) (notice : Tree) (held : ReplicaContents) (answer : CopyAnswer) (new : ReplicaContents) : Type 0 where
+pub record Brings (id : DocId) (notice : Tree) (held : ReplicaContents) (answer : CopyAnswer)
+    (new : ReplicaContents) : Type 0 where
   pub is_read : IsReadBack notice
   pub is_applied : Replays (is_name_of id) notice held (Ok (answer, new))

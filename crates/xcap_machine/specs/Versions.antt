@@ -12,7 +12,8 @@ use Rattle.xcap_machine.specs.Machine.{ValidStep}
 -- the machine gets from one state to another by any number of steps
 pub data ComesTo (root : List ℕ) : State → State → Type 0 where
   stays : (m : State) → ComesTo root m m
-  goes_on : (m n last : State) (request : Request) (reply : SentReply) (edit : Option Edit) → ValidStep root m request reply n edit → ComesTo root n last → ComesTo root m last
+  goes_on : (m n last : State) (request : Request) (reply : SentReply) (edit : Option Edit)
+      → ValidStep root m request reply n edit → ComesTo root n last → ComesTo root m last
 
 -- the document of this name, which is stored in the state, has the version
 pub record HasVersion (m : State) (id : DocId) (v : Version) : Type 0 where

@@ -1,2 +1,3 @@
 -- What private functions and proofs use. No clause of a public call needs it.
 pub mod Cases
+pub mod Records

@@ -1,16 +1,23 @@
 //! Laws of the machine, each the contract of a function that does nothing.
 ghost use Rattle.std.specs.Prelude.{◌≡◌, ℕ, ◌+◌, ◌≤◌, true, false, List, Option, Ok, IsSome};
 ghost use Rattle.http_wire.specs.declared.request.Request.{Request};
+ghost use Rattle.doc_names.specs.declared.doc_id.DocId.{DocId};
+ghost use Rattle.edit_ops.specs.Notes.{Note};
+ghost use Rattle.edit_ops.specs.declared.change.Change.{Change};
 ghost use Rattle.edit_ops.specs.declared.edit.Edit.{Edit};
 ghost use Rattle.reply_text.specs.ReplyHeads.{SentReply};
 ghost use Rattle.request_checks.specs.Methods.{method_of};
 ghost use Rattle.store_core.specs.Contents.{Represents, StoreContents};
 ghost use Rattle.store_core.specs.ValidStates.{IsValidState};
+ghost use Rattle.store_core.specs.DocumentChanges.{changing};
+ghost use Rattle.store_core.specs.Queries.{Asks};
 ghost use Rattle.store_core.specs.State.{State};
 ghost use Rattle.xcap_uri.specs.Targets.{TargetResult};
 ghost use Rattle.xcap_uri.specs.declared.target.Target.{Target};
 ghost use Rattle.xcap_machine.specs.Answers.{Answer};
-ghost use Rattle.xcap_machine.specs.Effects.{DeletedIsGone, KeyAddressesStay, PutIsThere, SecondPutLeavesTrees};
+ghost use Rattle.xcap_machine.specs.Effects.{DeletedIsGone, KeyAddressesStay, PutIsThere};
+ghost use Rattle.xcap_machine.specs.Effects.{SecondPutLeavesTrees};
+ghost use Rattle.xcap_machine.specs.KeyAddresses.{KeepsAddressesOf};
 ghost use Rattle.xcap_machine.specs.Machine.{Does, ValidStep, Step};
 ghost use Rattle.xcap_machine.specs.Requests.{IsAnswer, IsWritableTarget};
 ghost use Rattle.xcap_machine.specs.Laws.{AllowsOne, ChangesNothing, HasStep, tells_change};
@@ -98,6 +105,15 @@ pub fn a_second_put_leaves_every_tree()
         (reply : SentReply)
         (edit : Option Edit) (m : State) → IsValidState m → Represents c m
         → Does root c request reply next edit → SecondPutLeavesTrees root request edit next }
+{}
+
+/// A law: where contents represent a valid state, a change that the store makes preserves what the
+/// document's key addresses select. An address that selected an element selects it where the
+/// change moves it, if it still exists and no key on its path is written or removed.
+pub fn changes_that_are_made_leave_key_addresses()
+    ensures keeps_selected { (c : StoreContents) (m : State) (id : DocId) (change : Change)
+        (note : Note) (next : StoreContents) → Represents c m → IsValidState m → Asks c id change
+        → changing c id change ≡ Ok (note, next) → KeepsAddressesOf c id change next }
 {}
 
 /// A law: each change that the machine makes of a document that was stored, and still is,

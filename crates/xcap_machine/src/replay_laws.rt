@@ -6,13 +6,15 @@ ghost use Rattle.doc_names.specs.declared.doc_id.DocId.{DocId};
 ghost use Rattle.xcap_uri.specs.Naming.{is_encodable};
 ghost use Rattle.xcap_uri.specs.Roots.{is_root_text};
 ghost use Rattle.edit_ops.specs.Notes.{Note};
-ghost use Rattle.patch_rules.specs.Notices.{aggregate_notice, gone_notice, patching_notice, tags_notice};
+ghost use Rattle.patch_rules.specs.Notices.{aggregate_notice, gone_notice, patching_notice};
+ghost use Rattle.patch_rules.specs.Notices.{tags_notice};
 ghost use Rattle.patch_rules.specs.Replay.{Removed};
 ghost use Rattle.store_core.specs.Contents.{Represents, StoreContents};
 ghost use Rattle.store_core.specs.ValidStates.{IsValidState};
 ghost use Rattle.store_core.specs.Since.{ReportedChanges, since};
 ghost use Rattle.store_core.specs.State.{Document, State, Version};
-ghost use Rattle.xcap_machine.specs.Subscribers.{Brings, TellsSince, answer_between, fetch_between, subscribed};
+ghost use Rattle.xcap_machine.specs.Subscribers.{Brings, TellsSince, VersionNotes, answer_between};
+ghost use Rattle.xcap_machine.specs.Subscribers.{fetch_between, subscribed};
 
 use xcap_uri::roots_are_spelled_by_the_grammar;
 
@@ -21,7 +23,8 @@ use xcap_uri::roots_are_spelled_by_the_grammar;
 pub fn notes_are_told_since_a_version()
     ensures version_exists { (c : StoreContents) (m : State) (id : DocId) (tag : ℕ) (ns : List Note)
         → IsValidState m → Represents c m → since c id tag ≡ ReportedChanges ns
-        → (d : Document) × (from : Version) × (from.tag ≡ tag) × TellsSince c m id d from ns }
+        → (d : Document) × (from : Version) × (from.tag ≡ tag)
+        × TellsSince c m (record { id = id; document = d; from = from; notes = ns }) }
 {}
 
 /// A law: where the store has the change records since a version of a document, a subscriber with
@@ -30,21 +33,18 @@ pub fn notes_are_told_since_a_version()
 /// document asks for a fetch, unless the subscriber's version is the current one. Each diff
 /// document's text is read back as the same tree (RFC 5875, section 4.3).
 pub fn versions_are_replayed()
-    ensures step_by_step { (c : StoreContents) (m : State) (id : DocId) (d : Document)
-        (from : Version) (ns : List Note) (root : List ℕ)
-        → TellsSince c m id d from ns → is_root_text root ≡ true → is_encodable id ≡ true
-        → Brings id (patching_notice root (id_text id) from.tag ns) (subscribed from)
-        (answer_between from d.now) (subscribed d.now) }
-    ensures aggregated { (c : StoreContents) (m : State) (id : DocId) (d : Document)
-        (from : Version) (ns : List Note) (root : List ℕ)
-        → TellsSince c m id d from ns → is_root_text root ≡ true → is_encodable id ≡ true
-        → Brings id (aggregate_notice root (id_text id) from.tag ns) (subscribed from)
-        (answer_between from d.now) (subscribed d.now) }
-    ensures tags_alone { (c : StoreContents) (m : State) (id : DocId) (d : Document)
-        (from : Version) (ns : List Note) (root : List ℕ)
-        → TellsSince c m id d from ns → is_root_text root ≡ true → is_encodable id ≡ true
-        → Brings id (tags_notice root (id_text id) from.tag ns) (subscribed from)
-        (fetch_between from d.now) (subscribed from) }
+    ensures step_by_step { (c : StoreContents) (m : State) (v : VersionNotes) (root : List ℕ)
+        → TellsSince c m v → is_root_text root ≡ true → is_encodable v.id ≡ true
+        → Brings v.id (patching_notice root (id_text v.id) v.from.tag v.notes) (subscribed v.from)
+        (answer_between v.from v.document.now) (subscribed v.document.now) }
+    ensures aggregated { (c : StoreContents) (m : State) (v : VersionNotes) (root : List ℕ)
+        → TellsSince c m v → is_root_text root ≡ true → is_encodable v.id ≡ true
+        → Brings v.id (aggregate_notice root (id_text v.id) v.from.tag v.notes) (subscribed v.from)
+        (answer_between v.from v.document.now) (subscribed v.document.now) }
+    ensures tags_alone { (c : StoreContents) (m : State) (v : VersionNotes) (root : List ℕ)
+        → TellsSince c m v → is_root_text root ≡ true → is_encodable v.id ≡ true
+        → Brings v.id (tags_notice root (id_text v.id) v.from.tag v.notes) (subscribed v.from)
+        (fetch_between v.from v.document.now) (subscribed v.from) }
 {
     roots_are_spelled_by_the_grammar();
 }

@@ -16,6 +16,7 @@ use Rattle.xcap_machine.specs.Answers.{Answer, BehindConditions, unchanged}
 use Rattle.xcap_machine.specs.NodeWrites.{CutsNode, PutsFragment, is_there}
 use Rattle.xcap_machine.specs.Resources.{version_of}
 use Rattle.xcap_machine.specs.inner.Cases.{DeletesNodeOf, PutsNodeOf}
+use Rattle.xcap_machine.specs.inner.Records.{representation, server_of, write_of}
 use Rattle.xcap_machine.proofs.Cases.{at_true, stopped, unstopped}
 use Rattle.xcap_put.specs.Decisions.{Decides}
 use Rattle.xcap_put.specs.inner.Planning.{IsPlanFor, answer_by}
@@ -29,7 +30,7 @@ use Rattle.xcap_put.proofs.Planning.{Plans, plans_so, stopped_by}
 
 module _ (usage : Usage) (t : Tree) (request : Request) (tag : ℕ) (exists there : Bool) (known : exists ≡ there) (P : Content → DocId → Answer → Type 0) where
   abbrev pub BehindIt : Content → DocId → Answer → Type 0
-  BehindIt c id a = BehindConditions request (Some tag) there false a (P c id a)
+  BehindIt c id a = BehindConditions request (representation (Some tag) there) false a (P c id a)
 
   module _ (stop : Option SentReply) (is : IsStop request (Some tag) exists false stop) where
     is_its_stop : IsStop request (Some tag) there false stop
@@ -47,10 +48,10 @@ module _ (usage : Usage) (t : Tree) (request : Request) (tag : ℕ) (exists ther
 
 module _ (root : List ℕ) (id : DocId) (usage : Usage) (selector : Selector) (t : Tree) (tag : ℕ) (request : Request) where
   abbrev PutsIt : Content → Answer → Type 0
-  PutsIt c a = PutsNodeOf c id usage selector t root tag request a
+  PutsIt c a = PutsNodeOf (server_of root c) (write_of id usage selector request) (t, tag) a
 
   abbrev PutsThere : Spot → Content → DocId → Answer → Type 0
-  PutsThere spot c d a = BehindConditions request (Some tag) (is_there t selector) false a (PutsFragment c d usage selector t spot request a)
+  PutsThere spot c d a = BehindConditions request (representation (Some tag) (is_there t selector)) false a (PutsFragment c (write_of d usage selector request) t spot a)
 
   pub put_at_spot : {E : Type 0} (spot : Spot) → IsSpot t selector (Ok spot) → (plan : Result Plan E) → IfOk plan (Plans usage t request.closes (PutsThere spot)) → IfOk plan (IsPlanFor usage t id request.closes PutsIt)
   put_at_spot spot is (Ok plan) plans = let p = plans id in record { answers = λ c. (Ok spot, is, p.answers c); may_be_made = p.may_be_made }
@@ -60,12 +61,12 @@ module _ (root : List ℕ) (id : DocId) (usage : Usage) (selector : Selector) (t
 
 module _ (usage : Usage) (selector : Selector) (t : Tree) (tag : ℕ) (request : Request) where
   abbrev DeletesIt : Content → DocId → Answer → Type 0
-  DeletesIt c id a = DeletesNodeOf c id usage selector t tag request a
+  DeletesIt c id a = DeletesNodeOf c (write_of id usage selector request) (t, tag) a
 
   pub there : {E : Type 0} (plan : Result Plan E) → is_there t selector ≡ true
-      → IfOk plan (Plans usage t request.closes (λ c id a. BehindConditions request (Some tag) true false a (CutsNode c id usage selector t request a))) → IfOk plan (Plans usage t request.closes DeletesIt)
+      → IfOk plan (Plans usage t request.closes (λ c id a. BehindConditions request (representation (Some tag) true) false a (CutsNode c (write_of id usage selector request) t a))) → IfOk plan (Plans usage t request.closes DeletesIt)
   there plan is plans =
-      plans_so usage t request.closes (λ c id a. BehindConditions request (Some tag) true false a (CutsNode c id usage selector t request a)) DeletesIt (λ c id a so. at_true _ _ _ is so) plan plans
+      plans_so usage t request.closes (λ c id a. BehindConditions request (representation (Some tag) true) false a (CutsNode c (write_of id usage selector request) t a)) DeletesIt (λ c id a so. at_true _ _ _ is so) plan plans
 
 -- ---- the decision by a plan
 

@@ -1,6 +1,6 @@
 -- Plans of requests on nodes: their answers, and that their changes may be made.
 use Rattle.std.proofs.Common.{◌≡◌, ℕ, Bool, List, Option, Some, Result, Ok, Err, IfOk, IsTrue, refl, sym, subst}
-use Rattle.xml_tree.specs.Characters.{all_chars}
+use Rattle.xml_names.specs.Characters.{all_chars}
 use Rattle.xml_tree.specs.Tree.{Tree}
 use Rattle.doc_names.specs.Usages.{usage_of}
 use Rattle.doc_names.specs.declared.doc_id.DocId.{DocId}
@@ -70,7 +70,7 @@ module _ (usage : Usage) (t : Tree) (closes exists : Bool) (IsPlan : Result Chan
 -- ---- planned changes may be made
 
 module _ (usage : Usage) (t : Tree) (selector : Selector) (sound : IsSound usage t) where
-  pub put_may : (spot : Spot) (e : Tree) → IsSpotOf t selector spot → IsProperAt t spot e → HasRoomAt spot e → (change : Change) → IsPutPlan usage t selector.steps spot e (Ok change) → MayBeMade usage t change
+  pub put_may : (spot : Spot) (e : Tree) → IsSpotOf t selector spot → IsProperAt t spot e → HasRoomAt spot e → (change : Change) → IsPutPlan (record { usage = usage; document = t; steps = selector.steps }) spot e (Ok change) → MayBeMade usage t change
   put_may spot e is proper room change plan = record {
     leaves = put_leaves usage t selector spot e change plan is sound.proper sound.low proper room;
     faultless = (put_is usage t selector.steps spot e change plan).faultless;
@@ -79,14 +79,14 @@ module _ (usage : Usage) (t : Tree) (selector : Selector) (sound : IsSound usage
   pub delete_may : (change : Change) → IsDeletePlan usage t selector (Ok change) → MayBeMade usage t change
   delete_may change plan = record { leaves = delete_leaves usage t selector change plan sound.proper sound.low; faultless = (deleted_is usage t selector change plan).faultless }
 
-  value_may : (uri local p value : List ℕ) → IsWritable uri local → IsTrue (all_chars value) → (change : Change) → IsAttrPlan usage t selector.steps (ends.Attribute uri local) p value (Ok change) → MayBeMade usage t change
+  value_may : (uri local p value : List ℕ) → IsWritable uri local → IsTrue (all_chars value) → (change : Change) → IsAttrPlan (record { usage = usage; document = t; steps = selector.steps }) (ends.Attribute uri local) p value (Ok change) → MayBeMade usage t change
   value_may uri local p value writable chars change plan =
       let w = written_is usage t selector.steps uri local p value change plan in
       record { leaves = written_leaves usage t selector.steps uri local p value change w sound.proper sound.low writable chars; faultless = written_change usage t selector.steps uri local p value change w }
 
-  pub attr_may : (p value : List ℕ) → EndsInAttribute selector.end → MayBeWritten selector → IsTrue (all_chars value) → (change : Change) → IsAttrPlan usage t selector.steps selector.end p value (Ok change) → MayBeMade usage t change
+  pub attr_may : (p value : List ℕ) → EndsInAttribute selector.end → MayBeWritten selector → IsTrue (all_chars value) → (change : Change) → IsAttrPlan (record { usage = usage; document = t; steps = selector.steps }) selector.end p value (Ok change) → MayBeMade usage t change
   attr_may p value (uri, (local, is)) writable chars change plan =
-      value_may uri local p value (writable uri local is) chars change (subst (λ (end : End). IsAttrPlan usage t selector.steps end p value (Ok change)) is plan)
+      value_may uri local p value (writable uri local is) chars change (subst (λ (end : End). IsAttrPlan (record { usage = usage; document = t; steps = selector.steps }) end p value (Ok change)) is plan)
 
 -- ---- the store may be asked
 

@@ -12,7 +12,7 @@ use Rattle.reply_bodies.specs.Nodes.{found_text}
 use Rattle.edit_ops.specs.declared.change.Change.{Change}
 use Rattle.edit_ops.specs.declared.change.Change.TheVariants.{Remove, DropAttr}
 use Rattle.edit_rules.specs.Deletions.{FindsNothingAfter, IsDeletePlan, IsPlanFor, IsRemoval}
-use Rattle.edit_rules.specs.Plans.{IsTested, by_fault}
+use Rattle.edit_rules.specs.Plans.{by_fault, IsJudged, IsTested}
 use Rattle.edit_rules.specs.declared.refusal.EditRefusal.{EditRefusal}
 use Rattle.edit_rules.specs.declared.refusal.EditRefusal.TheVariants.{NotFound, CannotDelete, Faulty}
 use Rattle.http_wire.specs.declared.request.Request.{Request}
@@ -30,15 +30,15 @@ judged_never change (Some Invalid) is = cc
 judged_never change (Some Unformed) is = cc
 judged_never change (Some (Repeated clash)) is = cc
 
-tested_never : (lawful : Type 0) (u : Usage) (t : Tree) (change : Change) → IsTested CannotDelete lawful u t change (Err NotFound) → ⊥
+tested_never : (lawful : Type 0) (u : Usage) (t : Tree) (change : Change) → IsTested CannotDelete lawful (IsJudged u t change) (Err NotFound) → ⊥
 tested_never lawful u t change (inl h) = let z : ◌≡◌ {A = Result Change EditRefusal} (Err NotFound) (Err CannotDelete) = h.0 in cc
 tested_never lawful u t change (inr h) = judged_never change h.1.0 h.1.1.1
 
-removal_never : (u : Usage) (t : Tree) (selector : Selector) (p : List ℕ) → IsRemoval u t selector p (Err NotFound) → ⊥
+removal_never : (u : Usage) (t : Tree) (selector : Selector) (p : List ℕ) → IsRemoval (record { usage = u; document = t; selector = selector }) p (Err NotFound) → ⊥
 removal_never u t selector [] h = let z : ◌≡◌ {A = Result Change EditRefusal} (Err NotFound) (Err (Faulty Invalid)) = h in cc
 removal_never u t selector (n ∷ p) h = tested_never (FindsNothingAfter selector t (Remove (n ∷ p))) u t (Remove (n ∷ p)) h
 
-found_never : (u : Usage) (t : Tree) (selector : Selector) (p : List ℕ) (e : Tree) (end : End) → IsPlanFor u t selector p e end (Err NotFound) → ⊥
+found_never : (u : Usage) (t : Tree) (selector : Selector) (p : List ℕ) (e : Tree) (end : End) → IsPlanFor (record { usage = u; document = t; selector = selector }) p e end (Err NotFound) → ⊥
 found_never u t selector p e Element h = removal_never u t selector p h
 found_never u t selector p e (Attribute uri local) h = tested_never (FindsNothingAfter selector t (DropAttr p h.attr.name)) u t (DropAttr p h.attr.name) h.then
 found_never u t selector p e Namespaces h = h

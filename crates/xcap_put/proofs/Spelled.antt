@@ -4,9 +4,9 @@ use Rattle.store_core.specs.Contents.{StoreContents as Content}
 use Rattle.xml_tree.specs.Tree.{Tree}
 use Rattle.reply_bodies.specs.declared.conflicts.ErrorBody.TheVariants as conflicts
 use Rattle.tree_text.specs.Faults.{BodyAnswer, TextAnswer}
-use Rattle.xml_tree.specs.Memory.{Answered}
-use Rattle.xml_tree.specs.declared.read_error.ReadError.{ReadError}
-use Rattle.xml_tree.specs.declared.read_error.ReadError.TheVariants.{Fault}
+use Rattle.xml_names.specs.Memory.{Answered}
+use Rattle.xml_names.specs.declared.read_error.ReadError.{ReadError}
+use Rattle.xml_names.specs.declared.read_error.ReadError.TheVariants.{Fault}
 use Rattle.tree_text.specs.declared.fault.TextFault.{TextFault}
 use Rattle.tree_text.specs.declared.fault.ValueFault.{ValueFault}
 use Rattle.doc_names.specs.declared.doc_id.DocId.{DocId}
@@ -25,6 +25,7 @@ use Rattle.request_checks.specs.MediaTypes.{has_type}
 use Rattle.xcap_machine.specs.Answers.{Answer, conflict}
 use Rattle.xcap_machine.specs.NodeWrites.{CutsNode, PutsAt, PutsElement, PutsFragment, PutsValue, is_there, levels_for, scope_for, value_conflict}
 use Rattle.xcap_machine.specs.DocumentWrites.{text_conflict}
+use Rattle.xcap_machine.specs.inner.Records.{write_of}
 use Rattle.xcap_machine.proofs.Cases.{at_true}
 use Rattle.xcap_put.specs.inner.Planning.{IsPlanOf, MayBeMade}
 use Rattle.xcap_put.specs.declared.plan.Plan.{Plan}
@@ -44,17 +45,17 @@ module _ (usage : Usage) (selector : Selector) (t : Tree) (request : Request) wh
   -- ---- elements
 
   abbrev PutsOne : Spot → Content → DocId → Answer → Type 0
-  PutsOne spot c id a = PutsElement c id usage selector t spot request a
+  PutsOne spot c id a = PutsElement c (write_of id usage selector request) t spot a
 
   spelled_element : (spot : Spot) (bytes : List ℕ) (read : Result Tree TextFault) → bytes ≡ request.body → TextAnswer (levels_for spot) (scope_for t spot) bytes read → TextAnswer (levels_for spot) (scope_for t spot) request.body read
   spelled_element spot bytes read same spelled = subst (λ (b : List ℕ). TextAnswer (levels_for spot) (scope_for t spot) b read) same spelled
 
   pub element_puts : {E : Type 0} (spot : Spot) (e : Tree) (bytes : List ℕ) → bytes ≡ request.body → TextAnswer (levels_for spot) (scope_for t spot) bytes (Ok e)
-      → ((change : Change) → IsPutPlan usage t selector.steps spot e (Ok change) → MayBeMade usage t change) → (exists : Bool) → exists ≡ is_there t selector
-      → (r : Result Change EditRefusal) (plan : Result Plan E) → IsPutPlan usage t selector.steps spot e r → IfOk plan (IsPlanOf r exists closes) → IfOk plan (Plans usage t closes (PutsOne spot))
+      → ((change : Change) → IsPutPlan (record { usage = usage; document = t; steps = selector.steps }) spot e (Ok change) → MayBeMade usage t change) → (exists : Bool) → exists ≡ is_there t selector
+      → (r : Result Change EditRefusal) (plan : Result Plan E) → IsPutPlan (record { usage = usage; document = t; steps = selector.steps }) spot e r → IfOk plan (IsPlanOf r exists closes) → IfOk plan (Plans usage t closes (PutsOne spot))
   element_puts spot e bytes same spelled may exists known r plan words told =
-      plans_so usage t closes (Planned (IsPutPlan usage t selector.steps spot e) (is_there t selector) closes) (PutsOne spot) (λ c id a is. (Ok e, spelled_element spot bytes (Ok e) same spelled, is)) plan
-      (planned_put (IsPutPlan usage t selector.steps spot e) may exists known r plan words told)
+      plans_so usage t closes (Planned (IsPutPlan (record { usage = usage; document = t; steps = selector.steps }) spot e) (is_there t selector) closes) (PutsOne spot) (λ c id a is. (Ok e, spelled_element spot bytes (Ok e) same spelled, is)) plan
+      (planned_put (IsPutPlan (record { usage = usage; document = t; steps = selector.steps }) spot e) may exists known r plan words told)
 
   pub element_refused : {E : Type 0} (spot : Spot) (fault : TextFault) (error : ReadError TextFault) (bytes : List ℕ) → bytes ≡ request.body → error ≡ Fault fault → Answered (TextAnswer (levels_for spot) (scope_for t spot) bytes) (Err error)
       → (plan : Result Plan E) → IfOk plan (λ p. p ≡ Stops (conflict (text_conflict conflicts.NotXmlFrag fault) closes)) → IfOk plan (Plans usage t closes (PutsOne spot))
@@ -65,17 +66,17 @@ module _ (usage : Usage) (selector : Selector) (t : Tree) (request : Request) wh
   -- ---- attributes
 
   abbrev PutsIt : List ℕ → Content → DocId → Answer → Type 0
-  PutsIt p c id a = PutsValue c id usage selector t p request a
+  PutsIt p c id a = PutsValue c (write_of id usage selector request) t p a
 
   spelled_value : (bytes : List ℕ) (read : Result (List ℕ) ValueFault) → bytes ≡ request.body → BodyAnswer bytes read → BodyAnswer request.body read
   spelled_value bytes read same spelled = subst (λ (b : List ℕ). BodyAnswer b read) same spelled
 
   pub value_puts : {E : Type 0} (p value bytes : List ℕ) → bytes ≡ request.body → BodyAnswer bytes (Ok value)
-      → ((change : Change) → IsAttrPlan usage t selector.steps selector.end p value (Ok change) → MayBeMade usage t change) → (exists : Bool) → exists ≡ is_there t selector
-      → (r : Result Change EditRefusal) (plan : Result Plan E) → IsAttrPlan usage t selector.steps selector.end p value r → IfOk plan (IsPlanOf r exists closes) → IfOk plan (Plans usage t closes (PutsIt p))
+      → ((change : Change) → IsAttrPlan (record { usage = usage; document = t; steps = selector.steps }) selector.end p value (Ok change) → MayBeMade usage t change) → (exists : Bool) → exists ≡ is_there t selector
+      → (r : Result Change EditRefusal) (plan : Result Plan E) → IsAttrPlan (record { usage = usage; document = t; steps = selector.steps }) selector.end p value r → IfOk plan (IsPlanOf r exists closes) → IfOk plan (Plans usage t closes (PutsIt p))
   value_puts p value bytes same spelled may exists known r plan words told =
-      plans_so usage t closes (Planned (IsAttrPlan usage t selector.steps selector.end p value) (is_there t selector) closes) (PutsIt p) (λ c id a is. (Ok value, spelled_value bytes (Ok value) same spelled, is)) plan
-      (planned_put (IsAttrPlan usage t selector.steps selector.end p value) may exists known r plan words told)
+      plans_so usage t closes (Planned (IsAttrPlan (record { usage = usage; document = t; steps = selector.steps }) selector.end p value) (is_there t selector) closes) (PutsIt p) (λ c id a is. (Ok value, spelled_value bytes (Ok value) same spelled, is)) plan
+      (planned_put (IsAttrPlan (record { usage = usage; document = t; steps = selector.steps }) selector.end p value) may exists known r plan words told)
 
   pub value_refused : {E : Type 0} (p : List ℕ) (fault : ValueFault) (error : ReadError ValueFault) (bytes : List ℕ) → bytes ≡ request.body → error ≡ Fault fault → Answered (BodyAnswer bytes) (Err error)
       → (plan : Result Plan E) → IfOk plan (λ x. x ≡ Stops (conflict (value_conflict fault) closes)) → IfOk plan (Plans usage t closes (PutsIt p))
@@ -86,7 +87,7 @@ module _ (usage : Usage) (selector : Selector) (t : Tree) (request : Request) wh
   -- ---- by the edit target
 
   abbrev PutsHere : Spot → Content → DocId → Answer → Type 0
-  PutsHere spot c id a = PutsAt c id usage selector t spot request a
+  PutsHere spot c id a = PutsAt c (write_of id usage selector request) t spot a
 
   pub at_over : {E : Type 0} (spot : Spot) (plan : Result Plan E) (p : List ℕ) → spot ≡ Over p → IfOk plan (Plans usage t closes (PutsOne spot)) → IfOk plan (Plans usage t closes (PutsHere spot))
   at_over spot plan p is = subst (λ (s : Spot). IfOk plan (Plans usage t closes (PutsOne s)) → IfOk plan (Plans usage t closes (PutsHere s))) (sym is) (λ plans. plans)
@@ -103,7 +104,7 @@ module _ (usage : Usage) (selector : Selector) (t : Tree) (request : Request) wh
   -- ---- by the media type
 
   abbrev pub PutsThere : Spot → Content → DocId → Answer → Type 0
-  PutsThere spot c id a = PutsFragment c id usage selector t spot request a
+  PutsThere spot c id a = PutsFragment c (write_of id usage selector request) t spot a
 
   pub of_type : {E : Type 0} (spot : Spot) (plan : Result Plan E) → has_type (node_media selector.end) request.fields ≡ true → IfOk plan (Plans usage t closes (PutsHere spot)) → IfOk plan (Plans usage t closes (PutsThere spot))
   of_type spot plan is plans = plans_so usage t closes (PutsHere spot) (PutsThere spot) (λ c id a so. at_true _ _ _ is so) plan plans
@@ -111,7 +112,7 @@ module _ (usage : Usage) (selector : Selector) (t : Tree) (request : Request) wh
   -- ---- DELETE
 
   pub cuts : {E : Type 0} → ((change : Change) → IsDeletePlan usage t selector (Ok change) → MayBeMade usage t change) → (r : Result Change EditRefusal) (plan : Result Plan E) → IsDeletePlan usage t selector r → IfOk plan (IsPlanOf r true closes)
-      → IfOk plan (Plans usage t closes (λ c id a. CutsNode c id usage selector t request a))
+      → IfOk plan (Plans usage t closes (λ c id a. CutsNode c (write_of id usage selector request) t a))
   cuts may r plan words told =
-      plans_so usage t closes (Planned (IsDeletePlan usage t selector) true closes) (λ c id a. CutsNode c id usage selector t request a) (λ c id a is. is) plan
+      plans_so usage t closes (Planned (IsDeletePlan usage t selector) true closes) (λ c id a. CutsNode c (write_of id usage selector request) t a) (λ c id a is. is) plan
       (planned_so usage t closes true (IsDeletePlan usage t selector) may r plan words told)

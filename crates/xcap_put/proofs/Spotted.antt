@@ -3,7 +3,7 @@
 use Rattle.std.specs.Prelude.{slice_get, unwrap_or}
 use Rattle.std.proofs.Common.{◌≡◌, ℕ, suc, ◌<◌, ◌≤◌, ◌+◌, true, false, List, [], ◌∷◌, ◌++◌, length, length-append, Option, None, Some, IsSome, is_some, option_map, option_and_then, refl, sym, ap, subst, ◌∙◌, arith}
 use Rattle.xml_tree.specs.Edits.{parent_path}
-use Rattle.xml_tree.specs.Scopes.{scope_around, scope_at}
+use Rattle.xml_tree.specs.TreeScopes.{scope_around, scope_at}
 use Rattle.xml_tree.specs.Tree.{Tree, at, height, child_elements_of}
 use Rattle.xml_tree.proofs.PathLemmas.{front-snoc}
 use Rattle.xml_tree.proofs.PlaceLaws.{at-append, height-at}

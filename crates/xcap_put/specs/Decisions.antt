@@ -9,7 +9,8 @@ use Rattle.xcap_put.specs.declared.decision.Decision.TheVariants.{Stays, Changes
 -- the answer of a decision
 abbrev pub answer_of : Decision → Answer
 answer_of (Stays reply) = unchanged reply
-answer_of (Changes reply prepared) = record { reply = reply; made = Some (prepared.doc, prepared.note) }
+answer_of (Changes reply prepared) =
+    record { reply = reply; made = Some (prepared.doc, prepared.note) }
 
 -- the store has reserved the memory of the change
 abbrev pub IsReadyFor : Stored → Decision → Type 0

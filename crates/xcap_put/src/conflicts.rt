@@ -9,7 +9,8 @@ use reply_bodies::{ErrorBody, error_document};
 use reply_text::{MediaType, Reply};
 use std::alloc::Global;
 use usage_docs::{Clash, Fault};
-use xml_tree::{Text, print_path};
+use xml_names::Text;
+use xml_tree::print_path;
 
 /// The reply with an error document.
 pub(crate) fn conflict(alloc: Global, body: &ErrorBody, closes: bool) -> Result<Reply, NoMemory>

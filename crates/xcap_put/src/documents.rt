@@ -7,7 +7,9 @@ ghost use Rattle.store_core.specs.Queries.{Asks, MayBe};
 ghost use Rattle.store_core.specs.ValidStates.{IsUserDocument};
 ghost use Rattle.request_checks.specs.MediaTypes.{document_media};
 ghost use Rattle.xcap_machine.specs.Resources.{version_of};
-ghost use Rattle.xcap_machine.specs.DocumentWrites.{DeletesDocument, PutsBody, PutsDocument, change_answer, deleted_reply, put_answer, put_change};
+ghost use Rattle.xcap_machine.specs.DocumentWrites.{DeletesDocument, PutsBody, PutsDocument};
+ghost use Rattle.xcap_machine.specs.DocumentWrites.{change_answer, deleted_reply, put_answer};
+ghost use Rattle.xcap_machine.specs.DocumentWrites.{put_change};
 ghost use Rattle.xcap_machine.specs.inner.Cases.{version_tag};
 ghost use Rattle.xcap_put.specs.Decisions.{Decides};
 

@@ -1,13 +1,13 @@
 //! The body of a PUT of a node (RFC 4825, sections 8.2.3 and 8.2.4).
 ghost use Rattle.std.specs.Prelude.{◌≡◌, ◌≤◌, IfOk, IsSome};
-ghost use Rattle.xml_tree.specs.Limits.{max_levels};
-ghost use Rattle.xml_tree.specs.Scopes.{scope_around, scope_at};
+ghost use Rattle.xml_names.specs.Limits.{max_levels};
+ghost use Rattle.xml_tree.specs.TreeScopes.{scope_around, scope_at};
 ghost use Rattle.xml_tree.specs.Tree.{at, height};
 ghost use Rattle.reply_bodies.specs.declared.conflicts.ErrorBody.TheVariants as conflicts;
 ghost use Rattle.doc_names.specs.declared.doc_id.DocId.{DocId as TheDocId};
 ghost use Rattle.node_select.specs.declared.selector.End.TheVariants as ends;
 ghost use Rattle.tree_text.specs.Faults.{TextAnswer};
-ghost use Rattle.xml_tree.specs.Memory.{Answered};
+ghost use Rattle.xml_names.specs.Memory.{Answered};
 ghost use Rattle.edit_rules.specs.Puts.{HasRoomAt, IsProperAt};
 ghost use Rattle.edit_rules.specs.Spots.{IsSpotOf};
 ghost use Rattle.edit_rules.specs.declared.spot.Spot.TheVariants.{Value};
@@ -15,7 +15,9 @@ ghost use Rattle.store_core.specs.ValidStates.{IsSound};
 ghost use Rattle.xcap_machine.specs.Answers.{conflict};
 ghost use Rattle.xcap_machine.specs.DocumentWrites.{text_conflict};
 ghost use Rattle.xcap_put.specs.declared.plan.Plan.TheVariants.{Stops};
-ghost use Rattle.xcap_machine.specs.NodeWrites.{MayBeWritten, PutsAt, PutsElement, PutsFragment, PutsValue, is_there, levels_for, scope_for, value_conflict};
+ghost use Rattle.xcap_machine.specs.NodeWrites.{MayBeWritten, PutsAt, PutsElement, PutsFragment};
+ghost use Rattle.xcap_machine.specs.NodeWrites.{PutsValue, is_there, levels_for, scope_for};
+ghost use Rattle.xcap_machine.specs.NodeWrites.{value_conflict};
 ghost use Rattle.xcap_put.specs.inner.Planning.{IsPlanFor, LeadsSomewhere};
 
 use crate::NoMemory;
@@ -31,7 +33,8 @@ use reply_text::Reply;
 use request_checks::has_type;
 use std::alloc::Global;
 use tree_text::{TextFault, ValueFault, read_att_value, read_fragment};
-use xml_tree::{Element, MAX_LEVELS, Path, ReadError, Scope};
+use xml_names::{MAX_LEVELS, ReadError};
+use xml_tree::{Element, Path, Scope};
 
 // ---- elements
 
@@ -125,7 +128,9 @@ fn put_element(
     requires exists_iff { exists ≡ is_there tree.now selector.now }
     ensures plans_put { IfOk result
         (λ plan. (id : TheDocId) → IsPlanFor usage tree.now id request.now.closes
-        (λ c a. PutsElement c id usage selector.now tree.now spot.now request.now a) plan) }
+        (λ c a. PutsElement c
+        (record { id = id; usage = usage; selector = selector.now; request = request.now })
+        tree.now spot.now a) plan) }
 {
     match read_element(alloc, tree, spot, request.body.as_slice()) {
         Ok(element) => {
@@ -176,7 +181,9 @@ fn put_value(
     requires exists_iff { exists ≡ is_there tree.now selector.now }
     ensures plans_put { IfOk result
         (λ plan. (id : TheDocId) → IsPlanFor usage tree.now id request.now.closes
-        (λ c a. PutsValue c id usage selector.now tree.now path.now request.now a) plan) }
+        (λ c a. PutsValue c
+        (record { id = id; usage = usage; selector = selector.now; request = request.now })
+        tree.now path.now a) plan) }
 {
     match read_att_value(alloc, request.body.as_slice()) {
         Ok(value) => {
@@ -206,7 +213,9 @@ fn put_body(
     requires exists_iff { exists ≡ is_there tree.now selector.now }
     ensures plans_put { IfOk result
         (λ plan. (id : TheDocId) → IsPlanFor usage tree.now id request.now.closes
-        (λ c a. PutsAt c id usage selector.now tree.now spot.now request.now a) plan) }
+        (λ c a. PutsAt c
+        (record { id = id; usage = usage; selector = selector.now; request = request.now })
+        tree.now spot.now a) plan) }
 {
     match spot {
         Spot::Value(path) => put_value(alloc, usage, tree, selector, path, exists, request),
@@ -237,7 +246,9 @@ pub(crate) fn put_fragment(
     requires exists_iff { exists ≡ is_there tree.now selector.now }
     ensures plans_put { IfOk result
         (λ plan. (id : TheDocId) → IsPlanFor usage tree.now id request.now.closes
-        (λ c a. PutsFragment c id usage selector.now tree.now spot.now request.now a) plan) }
+        (λ c a. PutsFragment c
+        (record { id = id; usage = usage; selector = selector.now; request = request.now })
+        tree.now spot.now a) plan) }
 {
     if !has_type(request, node_media(&selector.end)) {
         return Ok(Plan::Stops(Reply::fixed(415, request.closes)));

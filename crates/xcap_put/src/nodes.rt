@@ -1,5 +1,6 @@
 //! PUT and DELETE of nodes (RFC 4825, sections 8.2 and 8.4).
-ghost use Rattle.std.specs.Prelude.{◌≡◌, ◌≢◌, Err, IfOk, IfSome, MatchOption, Some, false, option_map, true};
+ghost use Rattle.std.specs.Prelude.{◌≡◌, ◌≢◌, Err, IfOk, IfSome, MatchOption, Some, false};
+ghost use Rattle.std.specs.Prelude.{option_map, true};
 ghost use Rattle.doc_names.specs.Usages.{usage_of};
 ghost use Rattle.doc_names.specs.declared.doc_id.DocId.{DocId as TheDocId};
 ghost use Rattle.node_select.specs.declared.selector.End.TheVariants as ends;
@@ -7,7 +8,8 @@ ghost use Rattle.edit_rules.specs.Spots.{IsSpotOf};
 ghost use Rattle.edit_rules.specs.declared.refusal.EditRefusal.TheVariants as refusals;
 ghost use Rattle.store_core.specs.ValidStates.{IsSound};
 ghost use Rattle.xcap_machine.specs.Answers.{BehindConditions, unchanged};
-ghost use Rattle.xcap_machine.specs.NodeWrites.{DeletesNode, PutsFragment, PutsNode, MayBeWritten, is_there};
+ghost use Rattle.xcap_machine.specs.NodeWrites.{DeletesNode, PutsFragment, PutsNode, MayBeWritten};
+ghost use Rattle.xcap_machine.specs.NodeWrites.{is_there};
 ghost use Rattle.xcap_machine.specs.Resources.{version_of};
 ghost use Rattle.xcap_machine.specs.DocumentWrites.{missing_parent_answer};
 ghost use Rattle.xcap_machine.specs.inner.Cases.{DeletesNodeOf, PutsNodeOf};
@@ -71,8 +73,11 @@ fn plan_at(
     requires valid_spot { IsSpotOf tree.now selector.now spot.now }
     ensures plans_put { IfOk result
         (λ plan. (id : TheDocId) → IsPlanFor usage tree.now id request.now.closes
-        (λ c a. BehindConditions request.now (Some tag) (is_there tree.now selector.now) false a
-        (PutsFragment c id usage selector.now tree.now spot.now request.now a)) plan) }
+        (λ c a. BehindConditions request.now
+        (record { tag = Some tag; exists = is_there tree.now selector.now }) false a
+        (PutsFragment c
+        (record { id = id; usage = usage; selector = selector.now; request = request.now })
+        tree.now spot.now a)) plan) }
 {
     let exists = is_there(alloc, tree, selector, spot);
     match condition_reply(alloc, request, Some(tag), exists, false)? {
@@ -96,8 +101,9 @@ fn plan_put_in(
     requires writable { MayBeWritten selector.now }
     ensures plans_put { IfOk result
         (λ plan. IsPlanFor usage held.entry.0.now doc.now request.now.closes
-        (λ c a. PutsNodeOf c doc.now usage selector.now held.entry.0.now root.now held.entry.1
-        request.now a) plan) }
+        (λ c a. PutsNodeOf (record { root = root.now; content = c })
+        (record { id = doc.now; usage = usage; selector = selector.now; request = request.now })
+        (held.entry.0.now, held.entry.1) a) plan) }
 {
     let (tree, tag) = held;
     match put_spot(alloc, tree, selector) {
@@ -133,7 +139,8 @@ pub fn put_node(
     requires selects_node { selector.now.end ≡ ends.Namespaces → ⊥ }
     requires writable { MayBeWritten selector.now }
     ensures decides_put { IfOk result
-        (λ d. Decides (PutsNode root.now store.old.content doc usage selector.now request.now)
+        (λ d. Decides (PutsNode (record { root = root.now; content = store.old.content })
+        (record { id = doc; usage = usage; selector = selector.now; request = request.now }))
         store.new d) }
     ensures contents_unchanged { store.new.content ≡ store.old.content }
 {
@@ -220,8 +227,9 @@ fn plan_delete_in(
     requires selects_node { selector.now.end ≡ ends.Namespaces → ⊥ }
     ensures plans_removal { IfOk result
         (λ plan. (id : TheDocId) → IsPlanFor usage held.entry.0.now id request.now.closes
-        (λ c a. DeletesNodeOf c id usage selector.now held.entry.0.now held.entry.1 request.now a)
-        plan) }
+        (λ c a. DeletesNodeOf c
+        (record { id = id; usage = usage; selector = selector.now; request = request.now })
+        (held.entry.0.now, held.entry.1) a) plan) }
 {
     let (tree, tag) = held;
     let Some(plan) = plan_node_removal(alloc, usage, tree, selector, request)? else {
@@ -258,8 +266,9 @@ pub fn delete_node(
     requires usage_of_doc { usage_of doc.auid ≡ Some usage }
     requires selects_node { selector.now.end ≡ ends.Namespaces → ⊥ }
     ensures decides_removal { IfOk result
-        (λ d. Decides (DeletesNode store.old.content doc usage selector.now request.now) store.new
-        d) }
+        (λ d. Decides (DeletesNode store.old.content
+        (record { id = doc; usage = usage; selector = selector.now; request = request.now }))
+        store.new d) }
     ensures contents_unchanged { store.new.content ≡ store.old.content }
 {
     match version_of(store, &doc, usage) {

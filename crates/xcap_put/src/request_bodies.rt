@@ -1,6 +1,6 @@
 //! The body of a PUT of a document (RFC 4825, section 8.2.2).
 ghost use Rattle.std.specs.Prelude.{◌≡◌, ◌≤◌, [], IfOk, Ok};
-ghost use Rattle.xml_tree.specs.Limits.{max_levels};
+ghost use Rattle.xml_names.specs.Limits.{max_levels};
 ghost use Rattle.xml_tree.specs.Proper.{ProperIn};
 ghost use Rattle.xml_tree.specs.Tree.{height};
 ghost use Rattle.reply_bodies.specs.declared.conflicts.ErrorBody.TheVariants as conflicts;
@@ -19,7 +19,8 @@ use request_checks::has_type;
 use std::alloc::Global;
 use tree_text::{TextFault, read_document};
 use usage_docs::first_fault;
-use xml_tree::{Element, MAX_LEVELS, ReadError};
+use xml_names::{MAX_LEVELS, ReadError};
+use xml_tree::Element;
 
 /// The body of a PUT, as it was read.
 #[derive(Drop)]

@@ -10,7 +10,7 @@ use Rattle.store_core.specs.Contents.{StoreContents as Content}
 use Rattle.xcap_put.specs.Decisions.{Decides, answer_of}
 use Rattle.xcap_put.specs.declared.decision.Decision.{Decision}
 use Rattle.http_serve.specs.declared.machine.MachineReply.{MachineReply}
-use Rattle.xcap_server.specs.Servers.{ServerState}
+use Rattle.xcap_machine.specs.Servers.{ServerState}
 use Rattle.xcap_server.specs.inner.Servers.{AnswersRequest}
 
 pub answered_so : (old new : ServerState) (request : Request) (s : Stored) (d : Decision) (a : MachineReply Edit) → s.content ≡ old.content → Decides (IsAnswer old.root old.content request) s d

@@ -38,7 +38,7 @@ use Rattle.edit_journal.specs.Ports.{ServesLogged}
 use Rattle.edit_journal.proofs.Balancing.{holds_after, holds_so}
 use Rattle.xcap_server.specs.LoggedServers.{AnswersLogged, Logs, ServesPortLogged, with_answer}
 use Rattle.xcap_server.specs.ReplayedRequests.{Redoing}
-use Rattle.xcap_server.specs.Servers.{ServerState}
+use Rattle.xcap_machine.specs.Servers.{ServerState}
 use Rattle.xcap_server.specs.inner.Servers.{AnswersRequest, CarriesOut}
 use Rattle.xcap_server.proofs.Answering.{answered_so}
 use Rattle.xcap_server.proofs.Reclosed.{makes_too}

@@ -39,6 +39,7 @@ use Rattle.xcap_machine.specs.Resources.{version_of}
 use Rattle.xcap_machine.specs.NodeWrites.{CutsNode, PutsAt, PutsElement, PutsFragment, PutsFrom, cut_reply, is_there, plan_answer}
 use Rattle.xcap_machine.specs.DocumentWrites.{IfStored, PutsBody, PutsDocument, PutsSpelled, change_answer, deleted_reply, put_answer, put_change, put_reply}
 use Rattle.xcap_machine.specs.inner.Cases.{DeletesDocumentIn, DeletesNodeIn, PutsElementText, PutsNodeIn, PutsValueText, IsAnswered, PutsText, by_judgement, version_tag, Behind}
+use Rattle.xcap_machine.specs.inner.Records.{representation, server_of, write_of}
 use Rattle.xcap_machine.proofs.Accepted.{stopped_never}
 use Rattle.xcap_machine.proofs.Changed.{as_the_store, told_by_store}
 
@@ -60,13 +61,13 @@ module _ (made : Made) (request : Request) (closes : Bool) where
     when false P Q reply reply' so is = never reply is
 
     module _ (tag : Option ℕ) (exists : Bool) (P : Type 0) (Q : Answer → Type 0) (so : P → Makes Q) where
-      by_outcome : (o : Outcome) → HasOutcome request.fields tag exists false o → Behind (stopped_by o tag request.closes) a P → Makes (λ b. BehindConditions other tag exists false b (Q b))
+      by_outcome : (o : Outcome) → HasOutcome request.fields tag exists false o → Behind (stopped_by o tag request.closes) a P → Makes (λ b. BehindConditions other (representation tag exists) false b (Q b))
       by_outcome Unreadable has is = never _ is
       by_outcome Go has is = let m = so is in (m.0, (None, (Go, has, refl), m.1), m.2)
       by_outcome NotModified has is = never _ is
       by_outcome Failed has is = never _ is
 
-      behind : BehindConditions request tag exists false a P → Makes (λ b. BehindConditions other tag exists false b (Q b))
+      behind : BehindConditions request (representation tag exists) false a P → Makes (λ b. BehindConditions other (representation tag exists) false b (Q b))
       behind is = by_outcome is.1.0 is.1.1 (subst (λ (stop : Option SentReply). Behind stop a P) is.1.2 is.2)
 
     module _ (c : StoreContents) (id : DocId) (reply reply' : Note → SentReply) where
@@ -109,34 +110,34 @@ module _ (made : Made) (request : Request) (closes : Bool) where
         planned : (plan : Result Change EditRefusal) → a ≡ plan_answer c id request.closes (put_reply (is_there t selector) request.closes) plan → Makes (λ b. b ≡ plan_answer c id closes (put_reply (is_there t selector) closes) plan)
         planned = by_plan c id (put_reply (is_there t selector) request.closes) (put_reply (is_there t selector) closes)
 
-        element_text : (spot : Spot) (read : Result Tree TextFault) → PutsElementText c id usage selector t spot read request a → Makes (λ b. PutsElementText c id usage selector t spot read other b)
+        element_text : (spot : Spot) (read : Result Tree TextFault) → PutsElementText c (write_of id usage selector request) t spot read a → Makes (λ b. PutsElementText c (write_of id usage selector other) t spot read b)
         element_text spot (Err fault) is = never _ is
         element_text spot (Ok e) is = let m = planned is.0 is.2 in (m.0, (is.0, is.1, m.1), m.2)
 
-        element : (spot : Spot) → PutsElement c id usage selector t spot request a → Makes (λ b. PutsElement c id usage selector t spot other b)
+        element : (spot : Spot) → PutsElement c (write_of id usage selector request) t spot a → Makes (λ b. PutsElement c (write_of id usage selector other) t spot b)
         element spot is = let m = element_text spot is.0 is.2 in (m.0, (is.0, is.1, m.1), m.2)
 
-        value_text : (p : List ℕ) (read : Result (List ℕ) ValueFault) → PutsValueText c id usage selector t p read request a → Makes (λ b. PutsValueText c id usage selector t p read other b)
+        value_text : (p : List ℕ) (read : Result (List ℕ) ValueFault) → PutsValueText c (write_of id usage selector request) t p read a → Makes (λ b. PutsValueText c (write_of id usage selector other) t p read b)
         value_text p (Err fault) is = never _ is
         value_text p (Ok value) is = let m = planned is.0 is.2 in (m.0, (is.0, is.1, m.1), m.2)
 
-        at_spot : (spot : Spot) → PutsAt c id usage selector t spot request a → Makes (λ b. PutsAt c id usage selector t spot other b)
+        at_spot : (spot : Spot) → PutsAt c (write_of id usage selector request) t spot a → Makes (λ b. PutsAt c (write_of id usage selector other) t spot b)
         at_spot (Over p) is = element (Over p) is
         at_spot (Under q) is = element (Under q) is
         at_spot Beside is = element Beside is
         at_spot (Value p) is = let m = value_text p is.0 is.2 in (m.0, (is.0, is.1, m.1), m.2)
 
-        fragment : (spot : Spot) → PutsFragment c id usage selector t spot request a → Makes (λ b. PutsFragment c id usage selector t spot other b)
+        fragment : (spot : Spot) → PutsFragment c (write_of id usage selector request) t spot a → Makes (λ b. PutsFragment c (write_of id usage selector other) t spot b)
         fragment spot =
-            when (has_type (node_media selector.end) request.fields) (PutsAt c id usage selector t spot request a) (λ b. PutsAt c id usage selector t spot other b)
+            when (has_type (node_media selector.end) request.fields) (PutsAt c (write_of id usage selector request) t spot a) (λ b. PutsAt c (write_of id usage selector other) t spot b)
             (plain 415 request.closes) (plain 415 closes) (at_spot spot)
 
-        from_spot : (root : List ℕ) (tag : ℕ) (spot : Result Spot NoParent) → PutsFrom c id usage selector t root tag spot request a → Makes (λ b. PutsFrom c id usage selector t root tag spot other b)
+        from_spot : (root : List ℕ) (tag : ℕ) (spot : Result Spot NoParent) → PutsFrom (server_of root c) (write_of id usage selector request) (t, tag) spot a → Makes (λ b. PutsFrom (server_of root c) (write_of id usage selector other) (t, tag) spot b)
         from_spot root tag (Err none) is = never _ is
         from_spot root tag (Ok spot) is =
-            behind (Some tag) (is_there t selector) (PutsFragment c id usage selector t spot request a) (λ b. PutsFragment c id usage selector t spot other b) (fragment spot) is
+            behind (Some tag) (is_there t selector) (PutsFragment c (write_of id usage selector request) t spot a) (λ b. PutsFragment c (write_of id usage selector other) t spot b) (fragment spot) is
 
-      node_put : (root : List ℕ) (usage : Usage) (selector : Selector) (version : Option (Tree × ℕ)) → PutsNodeIn root c id usage selector version request a → Makes (λ b. PutsNodeIn root c id usage selector version other b)
+      node_put : (root : List ℕ) (usage : Usage) (selector : Selector) (version : Option (Tree × ℕ)) → PutsNodeIn (server_of root c) (write_of id usage selector request) version a → Makes (λ b. PutsNodeIn (server_of root c) (write_of id usage selector other) version b)
       node_put root usage selector None is = never _ is
       node_put root usage selector (Some (t, tag)) is = let m = from_spot usage selector t root tag is.0 is.2 in (m.0, (is.0, is.1, m.1), m.2)
 
@@ -148,20 +149,20 @@ module _ (made : Made) (request : Request) (closes : Bool) where
           behind (Some tag) true (a ≡ change_answer c id RemoveDocument request.closes (deleted_reply request.closes)) (λ b. b ≡ change_answer c id RemoveDocument closes (deleted_reply closes))
           (by_change c id (deleted_reply request.closes) (deleted_reply closes) RemoveDocument) is
 
-      cut : (usage : Usage) (selector : Selector) (t : Tree) → CutsNode c id usage selector t request a → Makes (λ b. CutsNode c id usage selector t other b)
+      cut : (usage : Usage) (selector : Selector) (t : Tree) → CutsNode c (write_of id usage selector request) t a → Makes (λ b. CutsNode c (write_of id usage selector other) t b)
       cut usage selector t is = let m = by_plan c id (cut_reply request.closes) (cut_reply closes) is.0 is.2 in (m.0, (is.0, is.1, m.1), m.2)
 
-      node_deleted : (usage : Usage) (selector : Selector) (version : Option (Tree × ℕ)) → DeletesNodeIn c id usage selector version request a → Makes (λ b. DeletesNodeIn c id usage selector version other b)
+      node_deleted : (usage : Usage) (selector : Selector) (version : Option (Tree × ℕ)) → DeletesNodeIn c (write_of id usage selector request) version a → Makes (λ b. DeletesNodeIn c (write_of id usage selector other) version b)
       node_deleted usage selector None is = never _ is
       node_deleted usage selector (Some (t, tag)) is =
-          when (is_there t selector) (BehindConditions request (Some tag) true false a (CutsNode c id usage selector t request a)) (λ b. BehindConditions other (Some tag) true false b (CutsNode c id usage selector t other b))
+          when (is_there t selector) (BehindConditions request (representation (Some tag) true) false a (CutsNode c (write_of id usage selector request) t a)) (λ b. BehindConditions other (representation (Some tag) true) false b (CutsNode c (write_of id usage selector other) t b))
           (plain 404 request.closes) (plain 404 closes)
-          (behind (Some tag) true (CutsNode c id usage selector t request a) (λ b. CutsNode c id usage selector t other b) (cut usage selector t)) is
+          (behind (Some tag) true (CutsNode c (write_of id usage selector request) t a) (λ b. CutsNode c (write_of id usage selector other) t b) (cut usage selector t)) is
 
     -- ---- all in order
 
     module _ (root : List ℕ) (c : StoreContents) where
-      target_put : (target : Target) (usage : Usage) → Puts root c target usage request a → Makes (λ b. Puts root c target usage other b)
+      target_put : (target : Target) (usage : Usage) → Puts (server_of root c) target usage request a → Makes (λ b. Puts (server_of root c) target usage other b)
       target_put (Document id) usage is = document_put c id usage is
       target_put (Node id selector) usage is = node_put c id root usage selector (version_of c id) is
       target_put (Deep auid home) usage is = never _ is
@@ -181,21 +182,21 @@ module _ (made : Made) (request : Request) (closes : Bool) where
       in_usage None P Q so is = never _ is
       in_usage (Some usage) P Q so is = so usage is
 
-      by_method : (target : Target) (method : Method) → is_reading method ≡ false → ByMethod root c target method request a → Makes (λ b. ByMethod root c target method other b)
+      by_method : (target : Target) (method : Method) → is_reading method ≡ false → ByMethod (server_of root c) target method request a → Makes (λ b. ByMethod (server_of root c) target method other b)
       by_method target Get writes is = let no : ⊥ = cc in absurd no
       by_method target Head writes is = let no : ⊥ = cc in absurd no
-      by_method target Put writes is = in_usage (usage_of (auid_of target)) (λ usage. Puts root c target usage request a) (λ usage b. Puts root c target usage other b) (target_put target) is
+      by_method target Put writes is = in_usage (usage_of (auid_of target)) (λ usage. Puts (server_of root c) target usage request a) (λ usage b. Puts (server_of root c) target usage other b) (target_put target) is
       by_method target Delete writes is = in_usage (usage_of (auid_of target)) (λ usage. Deletes c target usage request a) (λ usage b. Deletes c target usage other b) (target_deleted target) is
       by_method target Other writes is = absurd is
 
-      by_user : (target : Target) (method : Method) → is_reading method ≡ false → ByUser root c target method request a → Makes (λ b. ByUser root c target method other b)
+      by_user : (target : Target) (method : Method) → is_reading method ≡ false → ByUser (server_of root c) target method request a → Makes (λ b. ByUser (server_of root c) target method other b)
       by_user target method writes =
-          when (is_allowed (not (is_reading method)) (auid_of target) (home_of target) request.fields) (ByMethod root c target method request a) (λ b. ByMethod root c target method other b)
+          when (is_allowed (not (is_reading method)) (auid_of target) (home_of target) request.fields) (ByMethod (server_of root c) target method request a) (λ b. ByMethod (server_of root c) target method other b)
           (plain 403 request.closes) (plain 403 closes) (by_method target method writes)
 
-      by_target : (target : Target) (method : Method) → is_reading method ≡ false → ByTarget root c target method request a → Makes (λ b. ByTarget root c target method other b)
+      by_target : (target : Target) (method : Method) → is_reading method ≡ false → ByTarget (server_of root c) target method request a → Makes (λ b. ByTarget (server_of root c) target method other b)
       by_target target method writes =
-          when (takes target method) (ByUser root c target method request a) (λ b. ByUser root c target method other b) _ _ (by_user target method writes)
+          when (takes target method) (ByUser (server_of root c) target method request a) (λ b. ByUser (server_of root c) target method other b) _ _ (by_user target method writes)
 
       answered_so : (read : Result Target UriFault) → is_reading (method_of request.method) ≡ false → IsAnswered root c read request a → Makes (λ b. IsAnswered root c read other b)
       answered_so (Err fault) writes is = never _ is

@@ -24,7 +24,7 @@ use Rattle.edit_journal.specs.LoggedRequests.{Accepts}
 use Rattle.xcap_machine.specs.SubscriberVersions.{FollowedStep}
 use Rattle.xcap_server.specs.LoggedServers.{Logs}
 use Rattle.xcap_server.specs.ReplayedRequests.{Redoing}
-use Rattle.xcap_server.specs.Servers.{ServerState}
+use Rattle.xcap_machine.specs.Servers.{ServerState}
 use Rattle.xcap_server.proofs.Logged.{redoing_more}
 use Rattle.xcap_server.proofs.Reclosed.{makes_too}
 use Rattle.edit_journal.proofs.Broken.{first_of_first}

@@ -18,7 +18,7 @@ use Rattle.xcap_machine.specs.Machine.{answer_as, told_as}
 use Rattle.xcap_machine.specs.Requests.{IsAnswer}
 use Rattle.xcap_machine.proofs.OneAnswer.{one_answer}
 use Rattle.xcap_server.specs.ReplayedRequests.{Redoing, Refuses, ResultsFrom}
-use Rattle.xcap_server.specs.Servers.{ServerState}
+use Rattle.xcap_machine.specs.Servers.{ServerState}
 use Rattle.xcap_server.specs.RestartedServers.{RefusesNone, RepresentsAgain}
 use Rattle.xcap_server.proofs.Ways.{one_way, over}
 

@@ -23,7 +23,7 @@ use Rattle.http_serve.specs.Ports.{ServesPort}
 use Rattle.http_serve.specs.ReplyBytes.{InBytes}
 use Rattle.http_serve.proofs.Simulations.{line_by, port_by}
 use Rattle.xcap_uri.specs.Roots.{IsRoot, authority_of, path_of}
-use Rattle.xcap_server.specs.Servers.{ServerState}
+use Rattle.xcap_machine.specs.Servers.{ServerState}
 use Rattle.xcap_server.specs.inner.Servers.{AnswersRequest}
 
 -- a server of this root, whose contents represent a valid state

@@ -10,14 +10,15 @@ use Rattle.store_core.specs.State.{State, first_state}
 use Rattle.xcap_machine.specs.Answers.{unchanged}
 use Rattle.xcap_machine.specs.Machine.{ValidStep}
 use Rattle.xcap_machine.specs.Requests.{IsAnswer}
-use Rattle.xcap_server.specs.Servers.{ServerState}
+use Rattle.xcap_machine.specs.Servers.{ServerState}
 
 -- from one state to the other, the machine of this root makes a change at each of the requests in
 -- turn
 abbrev pub Redoing : List ℕ → State → List Request → State → Type 0
 Redoing root m [] n = n ≡ m
 Redoing root m (request ∷ requests) n =
-    (reply : SentReply) × (mid : State) × (edit : Edit) × ValidStep root m request reply mid (Some edit) × Redoing root mid requests n
+    (reply : SentReply) × (mid : State) × (edit : Edit)
+    × ValidStep root m request reply mid (Some edit) × Redoing root mid requests n
 
 -- The server's contents are the result of these requests, each of which makes a change, from the
 -- state on that has no documents and the next number 1.
@@ -29,4 +30,5 @@ pub record ResultsFrom (server : ServerState) (requests : List Request) : Type 0
 
 -- the request makes no change on the server's contents
 abbrev pub Refuses : ServerState → Request → Type 0
-Refuses server request = (reply : SentReply) × IsAnswer server.root server.content request (unchanged reply)
+Refuses server request =
+    (reply : SentReply) × IsAnswer server.root server.content request (unchanged reply)

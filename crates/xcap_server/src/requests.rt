@@ -1,6 +1,7 @@
 // Decides a request on the stored documents (RFC 4825, section 8): the first line that applies
 // decides. Each function is one line, or calls the next. Nothing is changed here.
-ghost use Rattle.std.specs.Prelude.{◌≡◌, ◌≢◌, ℕ, not, true, false, List, None, Some, IsOk, IsTrue, IfOk, MatchOption};
+ghost use Rattle.std.specs.Prelude.{◌≡◌, ◌≢◌, not, true, false, None, Some, IsOk, IsTrue, IfOk};
+ghost use Rattle.std.specs.Prelude.{MatchOption};
 ghost use Rattle.doc_names.specs.Usages.{usage_of};
 ghost use Rattle.reply_text.specs.Statuses.{is_status};
 ghost use Rattle.reply_text.specs.ReplyHeads.{plain};
@@ -8,10 +9,12 @@ ghost use Rattle.xcap_uri.specs.Targets.{IsReadableTarget, under_root};
 ghost use Rattle.request_checks.specs.Methods.{is_reading};
 ghost use Rattle.request_checks.specs.Rights.{is_allowed};
 ghost use Rattle.request_checks.specs.declared.method.Method.TheVariants as methods;
-ghost use Rattle.store_core.specs.Contents.{StoreContents};
 ghost use Rattle.store_core.specs.ValidStates.{IsUserDocument};
 ghost use Rattle.xcap_machine.specs.Answers.{unchanged};
-ghost use Rattle.xcap_machine.specs.Requests.{ByMethod, ByTarget, Deletes, IsAnswer, IsWritableTarget, Puts, auid_of, fault_status, home_of, takes, ReadsTarget};
+ghost use Rattle.xcap_machine.specs.Servers.{ServerState};
+ghost use Rattle.xcap_machine.specs.Requests.{ByMethod, ByTarget, Deletes, IsAnswer};
+ghost use Rattle.xcap_machine.specs.Requests.{IsWritableTarget, Puts, auid_of, fault_status};
+ghost use Rattle.xcap_machine.specs.Requests.{home_of, takes, ReadsTarget};
 ghost use Rattle.xcap_put.specs.Decisions.{Decides};
 
 use crate::targets::{auid_of, home_of, is_read_only, takes};
@@ -27,7 +30,7 @@ use xcap_put::{
     Decision, delete_document, delete_node, missing_parent_reply, put_document, put_node,
 };
 use xcap_uri::{Root, Target, UriFault, read_target};
-use xml_tree::ReadError;
+use xml_names::ReadError;
 
 // A reply without tag and body, and no change.
 fn plain(status: u16, request: &Request) -> Decision
@@ -50,8 +53,8 @@ fn get_target(
     request: &Request,
 ) -> Result<Reply, AllocError>
     ensures machine_reply { IfOk result
-        (λ reply. ReadsTarget root.now store.old.content target.now method request.now
-        (unchanged reply)) }
+        (λ reply. ReadsTarget (record { root = root.now; content = store.old.content })
+        target.now (record { method = method; request = request.now }) (unchanged reply)) }
     ensures contents_unchanged { store.new.content ≡ store.old.content }
 {
     match target {
@@ -101,7 +104,8 @@ fn put_target(
     requires usage_of_doc { usage_of (auid_of target) ≡ Some usage }
     requires method_taken { takes target methods.Put ≡ true }
     ensures machine_decision { IfOk result
-        (λ d. Decides (Puts root.now store.old.content target usage request.now) store.new d) }
+        (λ d. Decides (Puts (record { root = root.now; content = store.old.content })
+        target usage request.now) store.new d) }
     ensures contents_unchanged { store.new.content ≡ store.old.content }
 {
     match target {
@@ -152,7 +156,8 @@ fn decide_write(
     requires writing_method { is_reading method ≡ false }
     requires method_taken { takes target method ≡ true }
     ensures machine_decision { IfOk result
-        (λ d. Decides (ByMethod root.now store.old.content target method request.now) store.new d) }
+        (λ d. Decides (ByMethod (record { root = root.now; content = store.old.content })
+        target method request.now) store.new d) }
     ensures contents_unchanged { store.new.content ≡ store.old.content }
 {
     let Some(usage) = auid_of(&target).stored_usage() else {
@@ -178,8 +183,8 @@ fn decide_read(
 ) -> Result<Decision, AllocError>
     requires reading_method { is_reading method ≡ true }
     ensures machine_decision { IfOk result
-        (λ d. Decides (ByMethod root.now store.old.content target.now method request.now) store.new
-        d) }
+        (λ d. Decides (ByMethod (record { root = root.now; content = store.old.content })
+        target.now method request.now) store.new d) }
     ensures contents_unchanged { store.new.content ≡ store.old.content }
 {
     let reply = get_target(alloc, root, store, target, method, request)?;
@@ -199,7 +204,8 @@ fn decide_method(
     requires user_document { is_reading method ≡ false → IsUserDocument (home_of target) }
     requires method_taken { takes target method ≡ true }
     ensures machine_decision { IfOk result
-        (λ d. Decides (ByMethod root.now store.old.content target method request.now) store.new d) }
+        (λ d. Decides (ByMethod (record { root = root.now; content = store.old.content })
+        target method request.now) store.new d) }
     ensures contents_unchanged { store.new.content ≡ store.old.content }
 {
     if method.reads() {
@@ -227,8 +233,8 @@ fn access_refusal(target: &Target, method: Method, request: &Request) -> Option<
         ((takes target.now method ≡ true)
         × (is_allowed (not (is_reading method)) (auid_of target.now)
         (home_of target.now) request.now.fields ≡ true))
-        (λ reply. (root : List ℕ) (c : StoreContents)
-        → ByTarget root c target.now method request.now (unchanged reply)) }
+        (λ reply. (server : ServerState)
+        → ByTarget server target.now method request.now (unchanged reply)) }
 {
     if !takes(target, method) {
         return Some(Reply::method(is_read_only(target), request.closes));
@@ -250,7 +256,8 @@ fn decide_target(
     requires readable { IsReadableTarget target }
     requires writable { IsWritableTarget target }
     ensures machine_decision { IfOk result
-        (λ d. Decides (ByTarget root.now store.old.content target method request.now) store.new d) }
+        (λ d. Decides (ByTarget (record { root = root.now; content = store.old.content })
+        target method request.now) store.new d) }
     ensures contents_unchanged { store.new.content ≡ store.old.content }
 {
     match access_refusal(&target, method, request) {

@@ -12,7 +12,7 @@ ghost use Rattle.edit_journal.specs.PrefixRestarts.{EndsBehind};
 ghost use Rattle.store_core.specs.State.{State, first_state};
 ghost use Rattle.xcap_server.specs.LoggedServers.{Logs};
 ghost use Rattle.xcap_server.specs.ReplayedRequests.{Redoing, Refuses, ResultsFrom};
-ghost use Rattle.xcap_server.specs.Servers.{ServerState};
+ghost use Rattle.xcap_machine.specs.Servers.{ServerState};
 ghost use Rattle.xcap_server.specs.RestartedServers.{RefusesNone, RepresentsAgain};
 
 /// A law: where the machine of a root makes a change at each of these requests, one after the

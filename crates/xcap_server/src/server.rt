@@ -4,7 +4,8 @@ ghost use Rattle.xcap_uri.specs.Targets.{under_root};
 ghost use Rattle.store_core.specs.State.{State};
 ghost use Rattle.store_core.specs.Contents.{Represents};
 ghost use Rattle.store_core.specs.ValidStates.{IsValidState};
-ghost use Rattle.xcap_machine.specs.Effects.{DeletedIsGone, KeyAddressesStay, PutIsThere, SecondPutLeavesTrees};
+ghost use Rattle.xcap_machine.specs.Effects.{DeletedIsGone, KeyAddressesStay, PutIsThere};
+ghost use Rattle.xcap_machine.specs.Effects.{SecondPutLeavesTrees};
 ghost use Rattle.xcap_machine.specs.Machine.{ValidStep};
 ghost use Rattle.xcap_machine.specs.SubscriberVersions.{FollowedStep, SubscribersHold};
 ghost use Rattle.http_serve.specs.Connections.{ServesStream};
@@ -33,7 +34,7 @@ pub struct Server {
 }
 
 impl Model for Server {
-    ghost use Rattle.xcap_server.specs.Servers.{ServerState};
+    ghost use Rattle.xcap_machine.specs.Servers.{ServerState};
     ghost use Rattle.std.specs.Coded.{codes};
     ghost use Rattle.xml_tree.specs.inner.Codes.{tree_code};
     ghost use Rattle.doc_names.specs.contracts.doc_id.DocId as d;

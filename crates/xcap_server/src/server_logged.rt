@@ -1,7 +1,7 @@
 //! The server with a log, to which accepted requests are added before their changes are made.
 ghost use Rattle.std.specs.Prelude.{◌≡◌, ◌≤◌, ◌-◌, ◌*◌, List, IfOk, OnErr};
 ghost use Rattle.http_wire.specs.declared.request.Request.{Request as TheRequest};
-ghost use Rattle.xml_tree.specs.Limits.{u64_max};
+ghost use Rattle.xml_names.specs.Limits.{u64_max};
 ghost use Rattle.edit_journal.specs.Journals.{IsJournalProgress};
 ghost use Rattle.edit_journal.specs.Limits.{max_record_bytes};
 ghost use Rattle.edit_journal.specs.Logs.{Fits};
@@ -12,7 +12,8 @@ ghost use Rattle.store_core.specs.Contents.{Represents};
 ghost use Rattle.store_core.specs.ValidStates.{IsValidState};
 ghost use Rattle.store_core.specs.State.{State};
 ghost use Rattle.xcap_machine.specs.SubscriberVersions.{FollowedStep};
-ghost use Rattle.xcap_server.specs.LoggedServers.{AnswersLogged, Logs, ServesPortLogged, with_answer};
+ghost use Rattle.xcap_server.specs.LoggedServers.{AnswersLogged, Logs, ServesPortLogged};
+ghost use Rattle.xcap_server.specs.LoggedServers.{with_answer};
 
 use crate::server::Server;
 use edit_journal::{Journal, JournalLog, LoggedMachine, serve_streams_logged};

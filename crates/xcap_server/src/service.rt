@@ -28,7 +28,7 @@ pub(crate) struct Service {
 }
 
 impl Model for Service {
-    ghost use Rattle.xcap_server.specs.Servers.{ServerState};
+    ghost use Rattle.xcap_machine.specs.Servers.{ServerState};
     ghost use Rattle.std.specs.Coded.{codes};
     ghost use Rattle.xml_tree.specs.inner.Codes.{tree_code};
     ghost use Rattle.doc_names.specs.contracts.doc_id.DocId as d;

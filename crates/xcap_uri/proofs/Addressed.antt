@@ -5,7 +5,7 @@ use Rattle.std.proofs.lemmas.Str.{IsUtf8-from_is_utf8, scalars-chars}
 use Rattle.std.specs.List.{list_all}
 use Rattle.std.specs.Str.{all_scalars, is_utf8}
 use Rattle.percent_encoding.specs.Percent.{percent_decode}
-use Rattle.xml_tree.specs.declared.names.Decl.{Decl}
+use Rattle.xml_names.specs.declared.names.Decl.{Decl}
 use Rattle.doc_names.specs.declared.doc_id.DocId.{DocId}
 use Rattle.doc_names.specs.declared.doc_id.Home.TheVariants.{User}
 use Rattle.node_select.specs.declared.fault.SelectorFault.{SelectorFault}

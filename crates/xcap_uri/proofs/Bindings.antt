@@ -1,8 +1,8 @@
 -- Queries read item by item, and URIs character by character.
 use Rattle.std.proofs.Common.{◌≡◌, ℕ, zero, suc, ◌+◌, ◌-◌, ◌<◌, List, [], ◌∷◌, ◌++◌, length, Result, Ok, Err, refl, ap, ◌∙◌, sym, append_assoc, ◌⊎◌, inl, inr, arith}
 use Rattle.xml_grammar.specs.Reading.{after_front}
-use Rattle.xml_tree.specs.declared.names.Decl.{Decl}
-use Rattle.xml_tree.specs.declared.read_error.ReadError.TheVariants.{NoMemory}
+use Rattle.xml_names.specs.declared.names.Decl.{Decl}
+use Rattle.xml_names.specs.declared.read_error.ReadError.TheVariants.{NoMemory}
 use Rattle.xcap_uri.specs.readers.Steps.{UriError, ◌>>=◌}
 use Rattle.xcap_uri.specs.Queries.{is_blank}
 use Rattle.xcap_uri.specs.readers.Queries.{Read, item_read, items_read}

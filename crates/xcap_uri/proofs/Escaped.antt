@@ -4,7 +4,7 @@ use Rattle.std.proofs.lemmas.Bool.{and_from, and_parts, and_left, cond-true, con
 use Rattle.std.proofs.lemmas.Str.{IsUtf8-from_is_utf8, is_utf8-from_IsUtf8}
 use Rattle.std.specs.Str.{IsUtf8, chars}
 use Rattle.percent_encoding.specs.Percent.{percent_decode}
-use Rattle.xml_tree.specs.declared.read_error.ReadError.TheVariants.{Fault}
+use Rattle.xml_names.specs.declared.read_error.ReadError.TheVariants.{Fault}
 use Rattle.xcap_uri.specs.declared.fault.UriFault.TheVariants.{BadEscape}
 use Rattle.xcap_uri.specs.Escapes.{has_whole_escapes}
 use Rattle.xcap_uri.specs.readers.Escapes.{text_read, stands_for_text}

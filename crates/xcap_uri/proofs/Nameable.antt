@@ -4,12 +4,12 @@ use Rattle.std.proofs.lemmas.Bool.{or_parts}
 use Rattle.std.specs.Cmp.Lexicographic.{bytes_decides}
 use Rattle.std.specs.List.{list_any, join_with_byte as joined}
 use Rattle.std.specs.Str.{bytes_eq}
-use Rattle.xml_tree.specs.declared.names.Decl.{Decl}
+use Rattle.xml_names.specs.declared.names.Decl.{Decl}
 use Rattle.doc_names.specs.declared.doc_id.Auid.{Auid}
 use Rattle.doc_names.specs.declared.doc_id.Home.{Home}
 use Rattle.doc_names.specs.declared.doc_id.Home.TheVariants.{Global, User}
 use Rattle.doc_names.specs.declared.doc_id.DocId.{DocId}
-use Rattle.xml_tree.specs.declared.read_error.ReadError.TheVariants.{Fault, NoMemory}
+use Rattle.xml_names.specs.declared.read_error.ReadError.TheVariants.{Fault, NoMemory}
 use Rattle.xcap_uri.specs.declared.fault.UriFault.TheVariants.{BadShape}
 use Rattle.xcap_uri.specs.declared.shape.Shape.{Shape}
 use Rattle.xcap_uri.specs.declared.shape.Shape.TheVariants.{Document, Node, Deep, Feed, ElementFeed, Flat}

@@ -2,7 +2,7 @@
 use Rattle.std.proofs.Common.{◌≡◌, ℕ, Bool, true, false, not, ◌==◌, nat_eq, List, [], ◌∷◌, ◌++◌, Option, None, Some, unwrap_or, length, suc, ◌<◌, ◌≤◌, refl, sym, ap, ◌∙◌, arith}
 use Rattle.std.proofs.lemmas.Bool.{eqb-true, eq-eqb}
 use Rattle.std.specs.List.{list_all, onto_first as with_first}
-use Rattle.tree_text.specs.Faults.{is_other}
+use Rattle.xml_tokens.specs.Tokens.{is_other}
 use Rattle.xml_grammar.specs.Reading.{after_front}
 use Rattle.xml_grammar.specs.Rules.{AllPass}
 use Rattle.xcap_uri.specs.Delimiters.{rest_after_front, front_before, rest_after, behind_first, pieces}

@@ -1,9 +1,9 @@
 -- Reading a query finds bindings, or reports `BadQuery`.
 use Rattle.std.proofs.Common.{◌≡◌, ℕ, zero, suc, ◌+◌, ◌-◌, Bool, true, false, cond, List, [], ◌∷◌, ◌&&◌, ◌==◌, codes, length, Option, None, Some, Result, Ok, Err, refl, subst, ◌↔◌}
 use Rattle.xml_grammar.specs.Reading.{head_is, after_front}
-use Rattle.xml_tree.specs.Characters.{is_name_start, is_space}
-use Rattle.xml_tree.specs.declared.names.Decl.{Decl}
-use Rattle.xml_tree.specs.declared.read_error.ReadError.TheVariants.{Fault}
+use Rattle.xml_names.specs.Characters.{is_name_start, is_space}
+use Rattle.xml_names.specs.declared.names.Decl.{Decl}
+use Rattle.xml_names.specs.declared.read_error.ReadError.TheVariants.{Fault}
 use Rattle.xcap_uri.specs.Delimiters.{rest_after_front}
 use Rattle.xcap_uri.specs.readers.Steps.{UriError, ◌>>=◌}
 use Rattle.xcap_uri.specs.Queries.{is_bracket_or_caret, is_blank, IsQuery}

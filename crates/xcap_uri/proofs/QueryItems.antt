@@ -8,10 +8,10 @@ use Rattle.std.specs.List.{list_all}
 use Rattle.std.specs.Str.{bytes_eq}
 use Rattle.xml_grammar.specs.Reading.{head_is, front_of, after_front}
 use Rattle.xml_grammar.specs.Rules.{AllPass}
-use Rattle.xml_tree.specs.Characters.{is_name, is_name_start, is_name_char, is_space}
-use Rattle.xml_tree.specs.declared.names.Decl.{Decl}
-use Rattle.xml_tree.specs.declared.read_error.ReadError.TheVariants.{Fault}
-use Rattle.tree_text.proofs.ReadParts.{space_no_name}
+use Rattle.xml_names.specs.Characters.{is_name, is_name_start, is_name_char, is_space}
+use Rattle.xml_names.specs.declared.names.Decl.{Decl}
+use Rattle.xml_names.specs.declared.read_error.ReadError.TheVariants.{Fault}
+use Rattle.xml_tokens.proofs.NameFronts.{space_no_name}
 use Rattle.xcap_uri.specs.Delimiters.{rest_after_front}
 use Rattle.xcap_uri.specs.readers.Steps.{UriError, ◌>>=◌}
 use Rattle.xcap_uri.specs.Queries.{is_bracket_or_caret, is_blank, SpellsUri, ends, plain, escaped, nested, IsItem, AreItems, IsQuery}

@@ -1,7 +1,7 @@
 -- The URI of an item is what its spelling stands for.
 use Rattle.std.proofs.Common.{◌≡◌, ◌≢◌, ℕ, zero, suc, ◌+◌, ◌-◌, true, false, ◌==◌, List, [], ◌∷◌, ◌++◌, Result, Ok, Err, refl, ap, ◌∙◌, sym, subst, append_assoc, arith}
 use Rattle.std.proofs.lemmas.Bool.{cond-true, cond-false, eqb-true, eqb-false, true≢false}
-use Rattle.xml_tree.specs.declared.read_error.ReadError.TheVariants.{Fault}
+use Rattle.xml_names.specs.declared.read_error.ReadError.TheVariants.{Fault}
 use Rattle.xcap_uri.specs.readers.Steps.{UriError}
 use Rattle.xcap_uri.specs.Queries.{is_bracket_or_caret, SpellsUri, ends, plain, escaped, nested}
 use Rattle.xcap_uri.specs.readers.Queries.{Read, uri_chars, with_char}

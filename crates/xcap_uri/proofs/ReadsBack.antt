@@ -7,7 +7,7 @@ use Rattle.std.specs.Cmp.Lexicographic.{bytes_decides}
 use Rattle.std.specs.Fmt.{digit_glyph}
 use Rattle.std.specs.List.{list_all}
 use Rattle.std.specs.Str.{bytes_eq, chars, IsUtf8, IsAscii}
-use Rattle.tree_text.specs.Faults.{is_other}
+use Rattle.xml_tokens.specs.Tokens.{is_other}
 use Rattle.xml_grammar.specs.Rules.{AllPass}
 use Rattle.percent_encoding.specs.Percent.{percent_decode, percent_encode_byte}
 use Rattle.doc_names.specs.declared.doc_id.Auid.{Auid}

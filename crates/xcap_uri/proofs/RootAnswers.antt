@@ -6,7 +6,7 @@ use Rattle.std.specs.Cmp.Lexicographic.{bytes_decides}
 use Rattle.std.specs.List.{list_all, join_with_byte as joined}
 use Rattle.std.specs.Option.{option_or}
 use Rattle.std.specs.Str.{bytes_eq}
-use Rattle.tree_text.specs.Faults.{is_other}
+use Rattle.xml_tokens.specs.Tokens.{is_other}
 use Rattle.xml_grammar.specs.Reading.{after_front}
 use Rattle.xml_grammar.specs.Rules.{AllPass}
 use Rattle.xcap_uri.specs.Delimiters.{rest_after_front, front_before, rest_after, pieces}

@@ -5,7 +5,7 @@ use Rattle.std.specs.Str.{bytes_eq, chars}
 use Rattle.std.specs.List.{join_with_byte as joined}
 use Rattle.percent_encoding.specs.Percent.{percent_decode}
 use Rattle.doc_names.specs.Ids.{separator}
-use Rattle.xml_tree.specs.declared.read_error.ReadError.TheVariants.{Fault}
+use Rattle.xml_names.specs.declared.read_error.ReadError.TheVariants.{Fault}
 use Rattle.xcap_uri.specs.Delimiters.{pieces}
 use Rattle.xcap_uri.specs.Escapes.{StandsFor, StandForOptional}
 use Rattle.xcap_uri.specs.readers.Steps.{UriError, ◌>>=◌}

@@ -4,7 +4,7 @@ use Rattle.std.proofs.lemmas.Bool.{eqb-true}
 use Rattle.std.proofs.lemmas.List.{append-nil}
 use Rattle.std.specs.Str.{bytes_eq}
 use Rattle.std.specs.List.{onto_first as with_first, join_with_byte as joined}
-use Rattle.xml_tree.specs.declared.read_error.ReadError.TheVariants.{NoMemory}
+use Rattle.xml_names.specs.declared.read_error.ReadError.TheVariants.{NoMemory}
 use Rattle.xcap_uri.specs.Delimiters.{front_before, rest_after, pieces}
 use Rattle.xcap_uri.specs.readers.Escapes.{text_read}
 use Rattle.xcap_uri.specs.readers.Steps.{UriError, ◌>>=◌}

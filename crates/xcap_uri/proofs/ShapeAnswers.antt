@@ -12,7 +12,7 @@ use Rattle.doc_names.specs.declared.doc_id.DocId.{DocId}
 use Rattle.doc_names.specs.declared.usages.Usage.{Usage}
 use Rattle.doc_names.specs.declared.usages.Usage.TheVariants as usages
 use Rattle.doc_names.specs.Usages.{usage_of}
-use Rattle.xml_tree.specs.declared.read_error.ReadError.TheVariants.{Fault}
+use Rattle.xml_names.specs.declared.read_error.ReadError.TheVariants.{Fault}
 use Rattle.xcap_uri.specs.readers.Steps.{UriError}
 use Rattle.xcap_uri.specs.Shapes.{auid_word, mode_word, doc_of, in_home, in_feed, Names, names_document, names_node, names_deep, names_feed, names_element_feed, names_flat, BeginRightly, AreNamed, tag_spelled as tag_of}
 use Rattle.xcap_uri.specs.readers.Shapes as reader

@@ -1,8 +1,8 @@
 -- What each character of a URI is, by what follows it.
 use Rattle.std.proofs.Common.{◌≡◌, ◌≢◌, ℕ, ◌+◌, ◌-◌, ◌≤◌, true, List, [], ◌∷◌, Ok, Err, length, get_or, take, drop, refl, ap, ◌∙◌, sym, arith}
 use Rattle.std.proofs.lemmas.Bool.{cond-true, ne_eqb}
-use Rattle.tree_text.proofs.RunLemmas.{rest_of_drop}
-use Rattle.xml_tree.specs.declared.read_error.ReadError.TheVariants.{Fault}
+use Rattle.xml_tokens.proofs.RunLemmas.{rest_of_drop}
+use Rattle.xml_names.specs.declared.read_error.ReadError.TheVariants.{Fault}
 use Rattle.xcap_uri.specs.Queries.{is_bracket_or_caret}
 use Rattle.xcap_uri.specs.readers.Queries.{uri_chars, with_char}
 use Rattle.xcap_uri.specs.declared.fault.UriFault.TheVariants.{BadQuery}

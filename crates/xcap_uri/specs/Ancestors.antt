@@ -18,15 +18,18 @@ use Rattle.doc_names.specs.Escapes.{escaped_part}
 -- the URI of a home: the root, the AUID, and `global` or `users` and the user
 abbrev pub home_uri : List ℕ → Auid → Home → List ℕ
 home_uri root auid Global = root ++ (codes "/" ++ (auid_text auid ++ codes "/global"))
-home_uri root auid (User xui) = root ++ (codes "/" ++ (auid_text auid ++ (codes "/users/" ++ escaped_part xui)))
+home_uri root auid (User xui) =
+    root ++ (codes "/" ++ (auid_text auid ++ (codes "/users/" ++ escaped_part xui)))
 
 -- a character of a node selector in a URI: `[` (91) and `]` (93) are escaped
 abbrev pub bracket_escape : ℕ → List ℕ
-bracket_escape c = if nat_eq c 91 then codes "%5B" else (if nat_eq c 93 then codes "%5D" else c ∷ [])
+bracket_escape c =
+    if nat_eq c 91 then codes "%5B" else (if nat_eq c 93 then codes "%5D" else c ∷ [])
 
 -- the URI of the closest ancestor of a node that doesn't exist: of the element that the longest
 -- prefix of the steps selects, or of the document where not even the first step selects the root
 abbrev pub ancestor_uri : List ℕ → DocId → Tree → List Step → List ℕ
 ancestor_uri root id t steps =
     (root ++ (codes "/" ++ id_text id))
-    ++ option_map_or (λ p. codes "/~~/" ++ flat_map bracket_escape (path_text p)) (selected_in (take (longest_in steps t) steps) t) []
+    ++ option_map_or (λ p. codes "/~~/" ++ flat_map bracket_escape (path_text p))
+    (selected_in (take (longest_in steps t) steps) t) []

@@ -1,7 +1,7 @@
 -- Texts cut at a character: the front, the rest, all pieces.
 use Rattle.std.specs.Prelude.{ℕ, ◌==◌, nat_eq, List, [], ◌∷◌, Option, None, Some, if◌then◌else◌}
 use Rattle.std.specs.List.{onto_first}
-use Rattle.tree_text.specs.Faults.{is_other}
+use Rattle.xml_tokens.specs.Tokens.{is_other}
 use Rattle.xml_grammar.specs.Reading.{front_of, after_front}
 
 abbrev pub behind_first : List ℕ → Option (List ℕ)

@@ -1,5 +1,6 @@
 -- Escapes of octets in addresses. RFC 3986, section 2.1.
-use Rattle.std.specs.Prelude.{◌≡◌, ℕ, Bool, true, not, ◌&&◌, ◌==◌, List, [], ◌∷◌, Option, None, Some, if◌then◌else◌, chars}
+use Rattle.std.specs.Prelude.{◌≡◌, ℕ, Bool, true, not, ◌&&◌, ◌==◌, List, [], ◌∷◌, Option, None}
+use Rattle.std.specs.Prelude.{Some, if◌then◌else◌, chars}
 use Rattle.std.specs.Char.{is_ascii_hexdigit}
 use Rattle.std.specs.Str.{is_utf8}
 use Rattle.percent_encoding.specs.Percent.{percent_decode}
@@ -10,7 +11,8 @@ has_whole_escapes [] = true
 has_whole_escapes (b ∷ []) = not (b == 37)
 has_whole_escapes (b ∷ c ∷ []) = not (b == 37) && not (c == 37)
 has_whole_escapes (b ∷ high ∷ low ∷ rest) =
-    if b == 37 then is_ascii_hexdigit high && (is_ascii_hexdigit low && has_whole_escapes rest) else has_whole_escapes (high ∷ low ∷ rest)
+    if b == 37 then is_ascii_hexdigit high && (is_ascii_hexdigit low && has_whole_escapes rest)
+    else has_whole_escapes (high ∷ low ∷ rest)
 
 -- a part of an address decodes to this text: its escapes are complete, and the decoded octets are
 -- UTF-8

@@ -1,5 +1,6 @@
 -- Printed names of documents, read back. RFC 4825, section 6.2; RFC 3986, sections 2.1 and 3.3.
-use Rattle.std.specs.Prelude.{ℕ, Bool, true, false, ◌&&◌, codes, encode_utf8_all, List, [], ◌∷◌, ◌++◌, Option, None, Some}
+use Rattle.std.specs.Prelude.{ℕ, Bool, true, false, ◌&&◌, codes, encode_utf8_all, List, [], ◌∷◌}
+use Rattle.std.specs.Prelude.{◌++◌, Option, None, Some}
 use Rattle.std.specs.Str.{all_scalars, bytes_eq}
 use Rattle.percent_encoding.specs.Percent.{percent_decode}
 use Rattle.doc_names.specs.Usages.{auid_text}
@@ -18,7 +19,8 @@ abbrev pub are_parts : List (List ℕ) → Option (List ℕ) → Bool
 are_parts [] None = true
 are_parts [] (Some address) = false
 are_parts (octets ∷ all) None = false
-are_parts (octets ∷ all) (Some address) = is_part octets (front_before 47 address) && are_parts all (rest_after 47 address)
+are_parts (octets ∷ all) (Some address) =
+    is_part octets (front_before 47 address) && are_parts all (rest_after 47 address)
 
 -- the decoded parts of a home's name: `global`, or `users` and the user
 abbrev pub home_parts : Home → List (List ℕ)
@@ -28,7 +30,9 @@ home_parts (User xui) = codes "users" ∷ encode_utf8_all xui ∷ []
 -- a text is the name of a document, its parts decoded: the AUID, the home, and the document's own
 -- name
 abbrev pub is_name_of : DocId → List ℕ → Bool
-is_name_of doc name = are_parts (auid_text doc.auid ∷ (home_parts doc.home ++ encode_utf8_all doc.name ∷ [])) (Some (encode_utf8_all name))
+is_name_of doc name =
+    are_parts (auid_text doc.auid ∷ (home_parts doc.home ++ encode_utf8_all doc.name ∷ []))
+    (Some (encode_utf8_all name))
 
 -- ---- names that UTF-8 can write
 

@@ -1,8 +1,9 @@
 -- Numerals, as etags and counts are written.
-use Rattle.std.specs.Prelude.{ℕ, Bool, false, ◌&&◌, nat_le, List, [], ◌∷◌, Option, None, Some, if◌then◌else◌}
+use Rattle.std.specs.Prelude.{ℕ, Bool, false, ◌&&◌, nat_le, List, [], ◌∷◌, Option, None, Some}
+use Rattle.std.specs.Prelude.{if◌then◌else◌}
 use Rattle.std.specs.List.{list_all}
 use Rattle.std.specs.Char.{is_ascii_digit}
-use Rattle.xml_tree.specs.Limits.{u64_max}
+use Rattle.xml_names.specs.Limits.{u64_max}
 use Rattle.xml_grammar.specs.Digits.{decimal_digits}
 use Rattle.xml_grammar.specs.Rules.{number_from}
 
@@ -15,4 +16,7 @@ begins_with_digit (c ∷ cs) = is_ascii_digit c && nat_le 49 c
 -- zero
 abbrev pub numeral_of : List ℕ → Option ℕ
 numeral_of octets =
-    if begins_with_digit octets && (list_all is_ascii_digit octets && nat_le (number_from decimal_digits 0 octets) u64_max) then Some (number_from decimal_digits 0 octets) else None
+    if begins_with_digit octets
+    && (list_all is_ascii_digit octets && nat_le (number_from decimal_digits 0 octets) u64_max)
+    then Some (number_from decimal_digits 0 octets)
+    else None

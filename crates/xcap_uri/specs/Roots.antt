@@ -7,7 +7,9 @@
 --
 -- with at most `MAX_ROOT_LEN` octets. Neither an authority nor a segment has a `/`, so a text
 -- is a root by its pieces between slashes.
-use Rattle.std.specs.Prelude.{◌≡◌, ◌⊎◌, ◌≤◌, ℕ, Bool, true, false, ◌&&◌, ◌||◌, ◌==◌, nat_le, List, [], ◌∷◌, ◌++◌, codes, length, drop, flat_map, if◌then◌else◌, Option, Some, None}
+use Rattle.std.specs.Prelude.{◌≡◌, ◌⊎◌, ◌≤◌, ℕ, Bool, true, false, ◌&&◌, ◌||◌, ◌==◌, nat_le, List}
+use Rattle.std.specs.Prelude.{[], ◌∷◌, ◌++◌, codes, length, drop, flat_map, if◌then◌else◌, Option}
+use Rattle.std.specs.Prelude.{Some, None}
 use Rattle.std.specs.List.{list_any, list_all}
 use Rattle.std.specs.Char.{is_ascii_alphanumeric}
 use Rattle.std.specs.Str.{bytes_eq}
@@ -54,7 +56,9 @@ is_scheme piece = bytes_eq piece (codes "http:") || bytes_eq piece (codes "https
 
 -- the scheme, nothing between the two slashes after it, the authority, and the segments
 abbrev pub are_root_parts : List (List ℕ) → Bool
-are_root_parts (scheme ∷ [] ∷ authority ∷ segments) = is_scheme scheme && is_some_of is_authority_char authority && list_all (is_some_of is_segment_char) segments
+are_root_parts (scheme ∷ [] ∷ authority ∷ segments) =
+    is_scheme scheme && is_some_of is_authority_char authority
+    && list_all (is_some_of is_segment_char) segments
 are_root_parts _ = false
 
 -- the text is a root

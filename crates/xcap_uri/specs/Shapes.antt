@@ -1,7 +1,8 @@
 -- What the segments of an address name. The document selectors are those of RFC 4825, section 6.2;
 -- the addresses under `~feed` and `~flat` are this server's own. The segments are those before the
 -- separator, decoded; the selector is the text after the separator, if there is one.
-use Rattle.std.specs.Prelude.{◌≡◌, ◌≢◌, ◌⊎◌, ℕ, List, [], ◌∷◌, ◌++◌, encode_utf8_all, Option, None, Some, chars, codes}
+use Rattle.std.specs.Prelude.{◌≡◌, ◌≢◌, ◌⊎◌, ℕ, List, [], ◌∷◌, ◌++◌, encode_utf8_all, Option, None}
+use Rattle.std.specs.Prelude.{Some, chars, codes}
 use Rattle.doc_names.specs.declared.doc_id.Auid.{Auid}
 use Rattle.doc_names.specs.declared.doc_id.Auid.TheVariants.{RlsServices}
 use Rattle.doc_names.specs.declared.doc_id.Home.{Home}
@@ -14,7 +15,8 @@ use Rattle.xcap_uri.specs.Words.{global, users, feed, flat, element_word}
 use Rattle.xcap_uri.specs.declared.target.Mode.{Mode}
 use Rattle.xcap_uri.specs.declared.target.Mode.TheVariants.{NoPatching, XcapPatching, Aggregate}
 use Rattle.xcap_uri.specs.declared.shape.Shape.{Shape}
-use Rattle.xcap_uri.specs.declared.shape.Shape.TheVariants.{Document, Node, Deep, Feed, ElementFeed, Flat}
+use Rattle.xcap_uri.specs.declared.shape.Shape.TheVariants.{Document, Node, Deep, Feed, ElementFeed}
+use Rattle.xcap_uri.specs.declared.shape.Shape.TheVariants.{Flat}
 
 -- ---- the words
 
@@ -54,27 +56,41 @@ in_feed mode digits auid xui name = feed ∷ mode ∷ digits ∷ auid_word auid 
 -- segments, and the text of a selector, name a shape, which is called as the target that it means
 pub data Names (segments : List (List ℕ)) (selector : Option (List ℕ)) : Shape → Type 0 where
   -- an AUID, a home and a name: a document
-  names_document : (auid : Auid) (home : Home) (name : List ℕ) → segments ≡ in_home auid home (name ∷ []) → selector ≡ None → Names segments selector (Document (doc_of auid home name))
+  names_document : (auid : Auid) (home : Home) (name : List ℕ)
+      → segments ≡ in_home auid home (name ∷ []) → selector ≡ None
+      → Names segments selector (Document (doc_of auid home name))
   -- likewise with a selector, which isn't empty: a node of the document
-  names_node : (auid : Auid) (home : Home) (name text : List ℕ) → segments ≡ in_home auid home (name ∷ []) → selector ≡ Some text → text ≢ [] → Names segments selector (Node (doc_of auid home name) text)
+  names_node : (auid : Auid) (home : Home) (name text : List ℕ)
+      → segments ≡ in_home auid home (name ∷ []) → selector ≡ Some text → text ≢ []
+      → Names segments selector (Node (doc_of auid home name) text)
   -- with further segments: what would be below a document; its selector isn't looked at
-  names_deep : (auid : Auid) (home : Home) (name next : List ℕ) (more : List (List ℕ)) → segments ≡ in_home auid home (name ∷ next ∷ more) → Names segments selector (Deep auid home)
+  names_deep : (auid : Auid) (home : Home) (name next : List ℕ) (more : List (List ℕ))
+      → segments ≡ in_home auid home (name ∷ next ∷ more) → Names segments selector (Deep auid home)
   -- the feed of a document of a stored AUID has a mode, and no selector
-  names_feed : (mode : Mode) (tag : ℕ) (digits : List ℕ) (auid : Auid) (usage : Usage) (xui name : List ℕ) → segments ≡ in_feed (mode_word mode) digits auid xui name
-      → tag_spelled digits ≡ Some tag → usage_of auid ≡ Some usage → selector ≡ None → Names segments selector (Feed mode tag (doc_of auid (User xui) name))
+  names_feed : (mode : Mode) (tag : ℕ) (digits : List ℕ) (auid : Auid) (usage : Usage)
+      (xui name : List ℕ)
+      → segments ≡ in_feed (mode_word mode) digits auid xui name
+      → tag_spelled digits ≡ Some tag → usage_of auid ≡ Some usage → selector ≡ None
+      → Names segments selector (Feed mode tag (doc_of auid (User xui) name))
   -- the feed of an element has `element` in place of the mode, and a selector, which isn't empty
-  names_element_feed : (tag : ℕ) (digits : List ℕ) (auid : Auid) (usage : Usage) (xui name text : List ℕ) → segments ≡ in_feed element_word digits auid xui name
-      → tag_spelled digits ≡ Some tag → usage_of auid ≡ Some usage → selector ≡ Some text → text ≢ [] → Names segments selector (ElementFeed tag (doc_of auid (User xui) name) text)
+  names_element_feed : (tag : ℕ) (digits : List ℕ) (auid : Auid) (usage : Usage)
+      (xui name text : List ℕ)
+      → segments ≡ in_feed element_word digits auid xui name
+      → tag_spelled digits ≡ Some tag → usage_of auid ≡ Some usage → selector ≡ Some text
+      → text ≢ [] → Names segments selector (ElementFeed tag (doc_of auid (User xui) name) text)
   -- `~flat`, a user, a name and the address of a service, without selector: the flat list of that
   -- service
-  names_flat : (xui name service : List ℕ) → segments ≡ flat ∷ xui ∷ name ∷ service ∷ [] → selector ≡ None → Names segments selector (Flat (doc_of RlsServices (User xui) name) service)
+  names_flat : (xui name service : List ℕ) → segments ≡ flat ∷ xui ∷ name ∷ service ∷ []
+      → selector ≡ None
+      → Names segments selector (Flat (doc_of RlsServices (User xui) name) service)
 
 -- ---- how they begin
 
 -- the first segment is `~feed`, `~flat` or an AUID
 abbrev pub BeginRightly : List (List ℕ) → Type 0
 BeginRightly [] = ⊥
-BeginRightly (first ∷ rest) = (first ≡ feed) ⊎ ((first ≡ flat) ⊎ ((auid : Auid) × (first ≡ auid_word auid)))
+BeginRightly (first ∷ rest) =
+    (first ≡ feed) ⊎ ((first ≡ flat) ⊎ ((auid : Auid) × (first ≡ auid_word auid)))
 
 -- no segment is empty
 abbrev pub AreNamed : List (List ℕ) → Type 0

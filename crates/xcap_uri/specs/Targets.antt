@@ -1,8 +1,10 @@
 -- Targets of requests: what an address means, or the first of its faults. RFC 4825, section 6.
-use Rattle.std.specs.Prelude.{◌≡◌, ◌≢◌, ℕ, Bool, true, false, List, [], ◌∷◌, ◌++◌, encode_utf8_all, Option, None, Some, option_and_then, Result, Ok, Err, if◌then◌else◌, chars}
+use Rattle.std.specs.Prelude.{◌≡◌, ◌≢◌, ℕ, Bool, true, false, List, [], ◌∷◌, ◌++◌, encode_utf8_all}
+use Rattle.std.specs.Prelude.{Option, None, Some, option_and_then, Result, Ok, Err, if◌then◌else◌}
+use Rattle.std.specs.Prelude.{chars}
 use Rattle.std.specs.Option.{option_or}
 use Rattle.std.specs.List.{join_with_byte}
-use Rattle.xml_tree.specs.declared.names.Decl.{Decl}
+use Rattle.xml_names.specs.declared.names.Decl.{Decl}
 use Rattle.node_select.specs.Faults.{IsSelectorAnswer}
 use Rattle.node_select.specs.declared.fault.SelectorFault.{SelectorFault}
 use Rattle.node_select.specs.declared.fault.SelectorFault.TheVariants as selectors
@@ -21,11 +23,14 @@ use Rattle.xcap_uri.specs.Queries.{IsQuery}
 use Rattle.xcap_uri.specs.Roots.{slash, path_of}
 use Rattle.xcap_uri.specs.Shapes.{Names, BeginRightly, AreNamed}
 use Rattle.xcap_uri.specs.declared.fault.UriFault.{UriFault}
-use Rattle.xcap_uri.specs.declared.fault.UriFault.TheVariants.{OutsideRoot, UnknownAuid, BadShape, BadEscape, BadQuery, UnboundPrefix, BadSelector}
+use Rattle.xcap_uri.specs.declared.fault.UriFault.TheVariants.{OutsideRoot, UnknownAuid, BadShape}
+use Rattle.xcap_uri.specs.declared.fault.UriFault.TheVariants.{BadEscape, BadQuery, UnboundPrefix}
+use Rattle.xcap_uri.specs.declared.fault.UriFault.TheVariants.{BadSelector}
 use Rattle.xcap_uri.specs.declared.shape.Shape.{Shape}
 use Rattle.xcap_uri.specs.declared.shape.Shape.TheVariants as shapes
 use Rattle.xcap_uri.specs.declared.target.Target.{Target}
-use Rattle.xcap_uri.specs.declared.target.Target.TheVariants.{Document, Node, Deep, Feed, ElementFeed, Flat}
+use Rattle.xcap_uri.specs.declared.target.Target.TheVariants.{Document, Node, Deep, Feed}
+use Rattle.xcap_uri.specs.declared.target.Target.TheVariants.{ElementFeed, Flat}
 
 -- `?`
 abbrev pub question : ℕ
@@ -35,7 +40,8 @@ question = 63
 
 -- what comes after a front and a slash
 abbrev pub rest_under : List ℕ → List ℕ → Option (List ℕ)
-rest_under front target = option_and_then (rest_after_front (slash ∷ [])) (rest_after_front front target)
+rest_under front target =
+    option_and_then (rest_after_front (slash ∷ [])) (rest_after_front front target)
 
 -- what comes after the whole root or the root's path, and a slash
 abbrev pub under_root : List ℕ → List ℕ → Option (List ℕ)
@@ -47,8 +53,10 @@ under_root root target = option_or (rest_under root target) (rest_under (path_of
 -- separator; where there is one, this comes after it
 abbrev pub AreSegments : List (List ℕ) → List (List ℕ) → Option (List ℕ) → Type 0
 AreSegments [] texts selector = (texts ≡ []) × (selector ≡ None)
-AreSegments (segment ∷ segments) [] selector = StandsFor segment separator × (selector ≡ Some (join_with_byte slash segments))
-AreSegments (segment ∷ segments) (text ∷ texts) selector = StandsFor segment text × (text ≢ separator) × AreSegments segments texts selector
+AreSegments (segment ∷ segments) [] selector =
+    StandsFor segment separator × (selector ≡ Some (join_with_byte slash segments))
+AreSegments (segment ∷ segments) (text ∷ texts) selector =
+    StandsFor segment text × (text ≢ separator) × AreSegments segments texts selector
 
 -- a path is cut at its slashes
 abbrev pub IsPath : List ℕ → List (List ℕ) × Option (List ℕ) → Type 0
@@ -73,7 +81,8 @@ target_fault (selectors.UnboundPrefix place) = UnboundPrefix
 -- the result for the text of a selector, with these bindings; unprefixed elements are in the
 -- namespace of the AUID
 abbrev pub IsPartAnswer : List Decl → Auid → List ℕ → Result Selector SelectorFault → Type 0
-IsPartAnswer bindings auid text = IsSelectorAnswer bindings (chars (namespace_of auid)) (encode_utf8_all text)
+IsPartAnswer bindings auid text =
+    IsSelectorAnswer bindings (chars (namespace_of auid)) (encode_utf8_all text)
 
 -- the node of a document, or the selector's fault
 abbrev pub node_of : DocId → Result Selector SelectorFault → Result Target UriFault
@@ -86,23 +95,30 @@ is_element ends.Element = true
 is_element _ = false
 
 -- the feed of an element, or the selector's fault
-abbrev pub element_feed_of : ℕ → DocId → List ℕ → Result Selector SelectorFault → Result Target UriFault
-element_feed_of tag doc raw (Ok selector) = if is_element selector.end then Ok (ElementFeed tag doc selector raw) else Err BadSelector
+abbrev pub element_feed_of : ℕ → DocId → List ℕ → Result Selector SelectorFault
+    → Result Target UriFault
+element_feed_of tag doc raw (Ok selector) =
+    if is_element selector.end then Ok (ElementFeed tag doc selector raw) else Err BadSelector
 element_feed_of tag doc raw (Err fault) = Err (target_fault fault)
 
 -- what a shape means, with these bindings and the text after the separator
 abbrev pub Means : List Decl → List ℕ → Shape → Result Target UriFault → Type 0
 Means bindings raw (shapes.Document doc) answer = answer ≡ Ok (Document doc)
-Means bindings raw (shapes.Node doc text) answer = (read : Result Selector SelectorFault) × IsPartAnswer bindings doc.auid text read × (answer ≡ node_of doc read)
+Means bindings raw (shapes.Node doc text) answer =
+    (read : Result Selector SelectorFault) × IsPartAnswer bindings doc.auid text read
+    × (answer ≡ node_of doc read)
 Means bindings raw (shapes.Deep auid home) answer = answer ≡ Ok (Deep auid home)
 Means bindings raw (shapes.Feed mode tag doc) answer = answer ≡ Ok (Feed mode tag doc)
-Means bindings raw (shapes.ElementFeed tag doc text) answer = (read : Result Selector SelectorFault) × IsPartAnswer bindings doc.auid text read × (answer ≡ element_feed_of tag doc raw read)
+Means bindings raw (shapes.ElementFeed tag doc text) answer =
+    (read : Result Selector SelectorFault) × IsPartAnswer bindings doc.auid text read
+    × (answer ≡ element_feed_of tag doc raw read)
 Means bindings raw (shapes.Flat doc service) answer = answer ≡ Ok (Flat doc service)
 
 -- ---- all in order
 
 -- segments, with the selector and the query: what they name, then the bindings, then the meaning
-abbrev pub NamedAnswer : List (List ℕ) → Option (List ℕ) → Option (List ℕ) → List ℕ → Result Target UriFault → Type 0
+abbrev pub NamedAnswer : List (List ℕ) → Option (List ℕ) → Option (List ℕ) → List ℕ
+    → Result Target UriFault → Type 0
 NamedAnswer segments selector query raw =
     Given (AreNamed segments) BadShape
     (Given (BeginRightly segments) UnknownAuid

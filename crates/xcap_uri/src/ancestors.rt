@@ -1,6 +1,7 @@
 //! The URIs in an error document for a missing parent (RFC 4825, section 11).
-ghost use Rattle.std.specs.Prelude.{◌≡◌, ◌≤◌, ℕ, List, [], ◌∷◌, ◌++◌, IfOk, OnOk, chars, codes, flat_map, take};
-ghost use Rattle.xml_tree.specs.Limits.{max_levels};
+ghost use Rattle.std.specs.Prelude.{◌≡◌, ◌≤◌, ℕ, List, [], ◌∷◌, ◌++◌, IfOk, OnOk, chars, codes};
+ghost use Rattle.std.specs.Prelude.{flat_map, take};
+ghost use Rattle.xml_names.specs.Limits.{max_levels};
 ghost use Rattle.xml_tree.specs.Tree.{height};
 ghost use Rattle.xml_tree.specs.PathTexts.{path_text};
 ghost use Rattle.node_select.specs.Selection.{longest_in, selected_in};
@@ -11,8 +12,9 @@ use crate::root::Root;
 use doc_names::{Auid, DocId, Home, print_doc_id};
 use node_select::{Selector, longest_match, select_steps};
 use std::alloc::Global;
-use tree_text::no_text;
-use xml_tree::{Element, NoMemory, Path, Text, print_path};
+use xml_names::{NoMemory, Text};
+use xml_tokens::no_text;
+use xml_tree::{Element, Path, print_path};
 
 // The root, a slash and this path.
 fn uri_under(alloc: Global, root: &Root, path: &str) -> Result<Text, NoMemory>

@@ -1,12 +1,12 @@
 //! Cuts octets at the delimiters of an address's parts (RFC 3986, section 3).
 ghost use Rattle.std.specs.Prelude.{◌≡◌, option_map};
-ghost use Rattle.tree_text.specs.Faults.{is_other};
+ghost use Rattle.xml_tokens.specs.Tokens.{is_other};
 ghost use Rattle.xcap_uri.specs.Delimiters.{rest_after_front, front_before, rest_after};
-ghost use Rattle.tree_text.specs.readers.Runs.{run_len};
+ghost use Rattle.xml_tokens.specs.readers.Runs.{run_len};
 ghost use Rattle.xml_grammar.specs.Reading.{after_front};
 
 // The number of octets before the first `stop`.
-#[tactic(auto, using(tree_text::proofs::RunLemmas::run_more, tree_text::proofs::RunLemmas::run_done))]
+#[tactic(auto, using(xml_tokens::proofs::RunLemmas::run_more, xml_tokens::proofs::RunLemmas::run_done))]
 fn len_before(text: &[u8], stop: u8) -> usize
     ensures exact { result ≡ run_len (is_other stop) text.now }
 {

@@ -7,7 +7,7 @@ ghost use Rattle.xcap_uri.specs.readers.Escapes.{optional_text_read, text_read};
 use crate::fault::UriFault;
 use percent_encoding::{DecodeError, percent_decode};
 use std::alloc::Global;
-use xml_tree::{ReadError, Text};
+use xml_names::{ReadError, Text};
 
 /// Whether each `%` is followed by two hexadecimal digits.
 pub fn has_whole_escapes(part: &[u8]) -> bool

@@ -4,7 +4,7 @@ ghost use Rattle.xcap_uri.specs.readers.Targets.{error_of};
 
 use node_select::SelectorFault;
 use thiserror::Error;
-use xml_tree::ReadError;
+use xml_names::ReadError;
 
 /// Why a target is refused. Of several faults the first in this order is reported: `OutsideRoot`,
 /// `BadEscape`, then `BadShape` or `UnknownAuid`, then `BadQuery`, then `BadSelector` or

@@ -1,7 +1,7 @@
 //! Laws of targets; nothing here runs.
 ghost use Rattle.std.specs.Prelude.{◌≡◌, ◌↔◌, ◌++◌, ◌∷◌, ℕ, true, List, Option, Result, All, Ok};
-ghost use Rattle.xml_tree.specs.declared.names.Decl.{Decl};
-ghost use Rattle.xml_tree.specs.Memory.{Answered};
+ghost use Rattle.xml_names.specs.declared.names.Decl.{Decl};
+ghost use Rattle.xml_names.specs.Memory.{Answered};
 ghost use Rattle.doc_names.specs.Ids.{IsAddressable, id_text};
 ghost use Rattle.xcap_uri.specs.Queries.{IsQuery};
 ghost use Rattle.xcap_uri.specs.Roots.{IsRoot, authority_of, path_of, slash, is_root_text};
@@ -15,7 +15,7 @@ ghost use Rattle.xcap_uri.specs.readers.Targets.{target_read};
 
 use crate::root::Root;
 use doc_names::{DocId, Home};
-use xml_tree::Text;
+use xml_names::Text;
 
 // Octets are small numbers.
 fn are_octets(octets: &[u8])

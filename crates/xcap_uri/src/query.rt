@@ -3,19 +3,21 @@
 ghost use Rattle.std.specs.Prelude.{◌≡◌, ◌<◌, ◌+◌, ◌^◌, ◌∷◌, length, option_map};
 ghost use Rattle.std.specs.Str.{bytes_eq};
 ghost use Rattle.xml_grammar.specs.Reading.{after_front, head_is};
-ghost use Rattle.xml_tree.specs.Characters.{is_name_char, is_name_start, is_space};
-ghost use Rattle.tree_text.specs.readers.Runs.{run_len};
+ghost use Rattle.xml_names.specs.Characters.{is_name_char, is_name_start, is_space};
+ghost use Rattle.xml_tokens.specs.readers.Runs.{run_len};
 ghost use Rattle.xcap_uri.specs.Delimiters.{rest_after_front};
 ghost use Rattle.xcap_uri.specs.inner.Results.{Gives, StatedOr};
 ghost use Rattle.xcap_uri.specs.Queries.{is_blank, is_bracket_or_caret};
-ghost use Rattle.xcap_uri.specs.readers.Queries.{bindings_read, equals_past, is_reserved, item_read, optional_bindings_read, prefix_read, free_prefix_read, uri_chars, uri_read};
+ghost use Rattle.xcap_uri.specs.readers.Queries.{bindings_read, equals_past, is_reserved};
+ghost use Rattle.xcap_uri.specs.readers.Queries.{item_read, optional_bindings_read, prefix_read};
+ghost use Rattle.xcap_uri.specs.readers.Queries.{free_prefix_read, uri_chars, uri_read};
 ghost use Rattle.xcap_uri.specs.readers.UriSteps.{IsShorter, StepsTo, item_in};
 
 use crate::fault::UriFault;
 use node_select::Bindings;
 use std::alloc::Global;
-use tree_text::{chars_of_text, no_text, text_of};
-use xml_tree::{ReadError, Text, is_name_char, is_name_start, is_space};
+use xml_names::{ReadError, Text, is_name_char, is_name_start, is_space};
+use xml_tokens::{chars_of_text, no_text, text_of};
 
 // The next step in the URI of an item.
 enum UriStep<'a> {
@@ -36,7 +38,7 @@ struct Item<'a> {
 }
 
 // The number of leading white space characters.
-#[tactic(auto, using(tree_text::proofs::RunLemmas::run_more, tree_text::proofs::RunLemmas::run_done))]
+#[tactic(auto, using(xml_tokens::proofs::RunLemmas::run_more, xml_tokens::proofs::RunLemmas::run_done))]
 fn space_len(text: &[char]) -> usize
     ensures exact { result ≡ run_len is_space text.now }
 {
@@ -51,7 +53,7 @@ fn space_len(text: &[char]) -> usize
 }
 
 // The number of leading spaces.
-#[tactic(auto, using(tree_text::proofs::RunLemmas::run_more, tree_text::proofs::RunLemmas::run_done))]
+#[tactic(auto, using(xml_tokens::proofs::RunLemmas::run_more, xml_tokens::proofs::RunLemmas::run_done))]
 fn blank_len(text: &[char]) -> usize
     ensures exact { result ≡ run_len is_blank text.now }
 {
@@ -66,7 +68,7 @@ fn blank_len(text: &[char]) -> usize
 }
 
 // The number of leading name characters.
-#[tactic(auto, using(tree_text::proofs::RunLemmas::run_more, tree_text::proofs::RunLemmas::run_done))]
+#[tactic(auto, using(xml_tokens::proofs::RunLemmas::run_more, xml_tokens::proofs::RunLemmas::run_done))]
 fn name_len(text: &[char]) -> usize
     ensures exact { result ≡ run_len is_name_char text.now }
 {

@@ -2,14 +2,15 @@
 ghost use Rattle.std.specs.Prelude.{◌≡◌, true, IfOk, chars, option_map, Some};
 ghost use Rattle.std.specs.List.{list_all};
 ghost use Rattle.xcap_uri.specs.Delimiters.{pieces};
-ghost use Rattle.xcap_uri.specs.Roots.{authority_of, is_authority_char, is_segment_char, is_some_of, path_of, root_of, slash, is_root_text};
+ghost use Rattle.xcap_uri.specs.Roots.{authority_of, is_authority_char, is_segment_char};
+ghost use Rattle.xcap_uri.specs.Roots.{is_some_of, path_of, root_of, slash, is_root_text};
 ghost use Rattle.xcap_uri.specs.readers.Roots.{are_authority_and_segments, behind_scheme};
 
 use crate::delimiters::{after, cut, cut_before};
 use std::alloc::{AllocError, Global};
 use std::marker::Model;
-use tree_text::no_text;
-use xml_tree::Text;
+use xml_names::Text;
+use xml_tokens::no_text;
 
 /// The greatest number of octets of a root.
 const MAX_ROOT_LEN: usize = 256;
@@ -30,7 +31,9 @@ impl Model for Root {
 
     ghost view = { λ r. r.text };
 
-    ghost invariant = { λ r. (is_root_text r.text ≡ true) × (r.authority ≡ authority_of r.text) × (r.path ≡ path_of r.text) };
+    ghost invariant = { λ r.
+        (is_root_text r.text ≡ true) × (r.authority ≡ authority_of r.text)
+        × (r.path ≡ path_of r.text) };
 }
 
 impl Root {

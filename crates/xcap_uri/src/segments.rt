@@ -10,7 +10,7 @@ use crate::delimiters::cut;
 use crate::escapes::read_part;
 use crate::fault::UriFault;
 use std::alloc::Global;
-use xml_tree::{ReadError, Text};
+use xml_names::{ReadError, Text};
 
 // Whether it is the separator `~~`, after which comes the node selector.
 fn is_separator(segment: &Text) -> bool

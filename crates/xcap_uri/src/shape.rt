@@ -3,7 +3,10 @@
 ghost use Rattle.std.specs.Prelude.{◌≡◌};
 ghost use Rattle.std.specs.List.{list_any};
 ghost use Rattle.xcap_uri.specs.Shapes.{doc_of, tag_spelled};
-ghost use Rattle.xcap_uri.specs.readers.Shapes.{auid_of, document, document_feed, either_feed, element_feed, feed_shape, flat_shape, in_home, in_usage, is_empty, mode_of, named, of_usage, of_user, shape_of, stored_auid_of, stored_doc};
+ghost use Rattle.xcap_uri.specs.readers.Shapes.{auid_of, document, document_feed, either_feed};
+ghost use Rattle.xcap_uri.specs.readers.Shapes.{element_feed, feed_shape, flat_shape, in_home};
+ghost use Rattle.xcap_uri.specs.readers.Shapes.{in_usage, is_empty, mode_of, named, of_usage};
+ghost use Rattle.xcap_uri.specs.readers.Shapes.{of_user, shape_of, stored_auid_of, stored_doc};
 
 use crate::fault::UriFault;
 use crate::numerals::numeral;
@@ -11,8 +14,8 @@ use crate::target::Mode;
 use doc_names::{Auid, DocId, Home};
 use std::alloc::Global;
 use std::mem;
-use tree_text::no_text;
-use xml_tree::{ReadError, Text};
+use xml_names::{ReadError, Text};
+use xml_tokens::no_text;
 
 /// What the segments of an address name. The variants are those of `Target`, with the selector as
 /// a text that isn't parsed yet.

@@ -3,9 +3,11 @@ ghost use Rattle.std.specs.Prelude.{◌≡◌, ◌++◌, None, Err, option_map, 
 ghost use Rattle.doc_names.specs.Escapes.{escaped, is_visible};
 ghost use Rattle.xcap_uri.specs.Roots.{path_of};
 ghost use Rattle.xcap_uri.specs.inner.Results.{StatedOr};
-ghost use Rattle.xml_tree.specs.Memory.{Answered};
-ghost use Rattle.xcap_uri.specs.Targets.{IsReadableTarget, TargetResult, raw_text, rest_under, under_root, with_query};
-ghost use Rattle.xcap_uri.specs.readers.Targets.{about_element, part_read, rest_read, target_of, target_read};
+ghost use Rattle.xml_names.specs.Memory.{Answered};
+ghost use Rattle.xcap_uri.specs.Targets.{IsReadableTarget, TargetResult, raw_text, rest_under};
+ghost use Rattle.xcap_uri.specs.Targets.{under_root, with_query};
+ghost use Rattle.xcap_uri.specs.readers.Targets.{about_element, part_read, rest_read, target_of};
+ghost use Rattle.xcap_uri.specs.readers.Targets.{target_read};
 
 use crate::delimiters::{after, cut};
 use crate::escapes::read_optional_part;
@@ -17,8 +19,8 @@ use crate::shape::{Shape, shape_of};
 use doc_names::{Auid, DocId, Home, push_visible};
 use node_select::{Bindings, End, Selector, read_selector};
 use std::alloc::{AllocError, Global};
-use tree_text::no_text;
-use xml_tree::{ReadError, Text};
+use xml_names::{ReadError, Text};
+use xml_tokens::no_text;
 
 /// The diff processing of a feed (RFC 5875, section 4.3).
 #[derive(Clone, Copy, PartialEq, Eq)]

@@ -1,6 +1,7 @@
 -- What a whole text is by a rule: it spells a value, it breaks off, or it has a first fault.
 -- Exactly one of the three holds.
-use Rattle.std.specs.Prelude.{◌≡◌, ℕ, ◌<◌, ◌≤◌, Bool, true, List, ◌++◌, ◌⊎◌, length, Result, Ok, Err}
+use Rattle.std.specs.Prelude.{◌≡◌, ℕ, ◌<◌, ◌≤◌, Bool, true, List, ◌++◌, ◌⊎◌, length, Result, Ok}
+use Rattle.std.specs.Prelude.{Err}
 use Rattle.xml_grammar.specs.Rules.{Begin, Mark, Rule}
 use Rattle.xml_grammar.specs.Reading.{Stop, Syntax, Faulty}
 
@@ -11,7 +12,8 @@ pub record Faults (Kind : Type 0) : Type 0 where
   pub rank : Kind → ℕ
 
 -- Some prefix of the text marks the place before `left` with this kind.
-pub record IsSaid {Kind A : Type 0} (r : Rule Kind A) (text : List ℕ) (kind : Kind) (left : List ℕ) : Type 0 where
+pub record IsSaid {Kind A : Type 0} (r : Rule Kind A) (text : List ℕ) (kind : Kind)
+    (left : List ℕ) : Type 0 where
   pub before : List ℕ
   pub seen : List ℕ
   pub unseen : List ℕ
@@ -21,17 +23,20 @@ pub record IsSaid {Kind A : Type 0} (r : Rule Kind A) (text : List ℕ) (kind : 
 
 -- No place is marked with a fault.
 abbrev pub IsCalm : {Kind A : Type 0} → Faults Kind → Rule Kind A → List ℕ → Type 0
-IsCalm {Kind} {A} faults r text = (kind : Kind) (left : List ℕ) → faults.is_fault kind ≡ true → IsSaid r text kind left → ⊥
+IsCalm {Kind} {A} faults r text =
+    (kind : Kind) (left : List ℕ) → faults.is_fault kind ≡ true → IsSaid r text kind left → ⊥
 
 -- The text spells this value and no other, without a fault.
-pub record IsSpelled {Kind A : Type 0} (faults : Faults Kind) (r : Rule Kind A) (text : List ℕ) (value : A) : Type 0 where
+pub record IsSpelled {Kind A : Type 0} (faults : Faults Kind) (r : Rule Kind A) (text : List ℕ)
+    (value : A) : Type 0 where
   pub spelled : r.Spells text value
   pub unique : (other : A) → r.Spells text other → other ≡ value
   pub calm : IsCalm faults r text
 
 -- The longest beginning of the text ends before `left`; the text spells nothing, and no place is
 -- marked with a fault.
-pub record BreaksOff {Kind A : Type 0} (faults : Faults Kind) (r : Rule Kind A) (text left : List ℕ) : Type 0 where
+pub record BreaksOff {Kind A : Type 0} (faults : Faults Kind) (r : Rule Kind A)
+    (text left : List ℕ) : Type 0 where
   pub beginning : List ℕ
   pub joined : text ≡ beginning ++ left
   pub begun : r.Meets Begin beginning
@@ -42,14 +47,19 @@ pub record BreaksOff {Kind A : Type 0} (faults : Faults Kind) (r : Rule Kind A) 
 -- The place before `left` is marked with this fault; any other fault marks a later place, or the
 -- same place with no lesser rank. Some beginning goes beyond that place, so a text that also
 -- breaks off does so later.
-pub record IsFirstFault {Kind A : Type 0} (faults : Faults Kind) (r : Rule Kind A) (text : List ℕ) (kind : Kind) (left : List ℕ) : Type 0 where
+pub record IsFirstFault {Kind A : Type 0} (faults : Faults Kind) (r : Rule Kind A) (text : List ℕ)
+    (kind : Kind) (left : List ℕ) : Type 0 where
   pub said : IsSaid r text kind left
   pub is_fault : faults.is_fault kind ≡ true
-  pub first : (other : Kind) (place : List ℕ) → faults.is_fault other ≡ true → IsSaid r text other place → (length place < length left) ⊎ ((place ≡ left) × (faults.rank kind ≤ faults.rank other))
-  pub beyond : (v : List ℕ) × (w : List ℕ) × (text ≡ v ++ w) × r.Meets Begin v × (length w < length left)
+  pub first : (other : Kind) (place : List ℕ) → faults.is_fault other ≡ true
+      → IsSaid r text other place
+      → (length place < length left) ⊎ ((place ≡ left) × (faults.rank kind ≤ faults.rank other))
+  pub beyond : (v : List ℕ) × (w : List ℕ)
+      × (text ≡ v ++ w) × r.Meets Begin v × (length w < length left)
 
 -- The result of reading the whole text.
-abbrev pub Answers : {Kind A : Type 0} → Faults Kind → Rule Kind A → List ℕ → Result A (Stop Kind) → Type 0
+abbrev pub Answers : {Kind A : Type 0} → Faults Kind → Rule Kind A → List ℕ → Result A (Stop Kind)
+    → Type 0
 Answers faults r text (Ok value) = IsSpelled faults r text value
 Answers faults r text (Err (Syntax left)) = BreaksOff faults r text left
 Answers faults r text (Err (Faulty kind left)) = IsFirstFault faults r text kind left

@@ -15,4 +15,9 @@ decimal_digits = record { base = 10; is_digit = is_ascii_digit; value = λ c. c 
 -- the digits from `0` (48) to `9` (57), from `A` (65) to `F` (70), which are worth 55 less, and
 -- from `a` (97) on, worth 87 less
 abbrev pub hexadecimal : Digits
-hexadecimal = record { base = 16; is_digit = is_ascii_hexdigit; value = λ c. if nat_le c 57 then c - 48 else if nat_le c 70 then c - 55 else c - 87 }
+hexadecimal =
+    record {
+      base = 16;
+      is_digit = is_ascii_hexdigit;
+      value = λ c. if nat_le c 57 then c - 48 else if nat_le c 70 then c - 55 else c - 87;
+    }

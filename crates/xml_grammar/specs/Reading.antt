@@ -1,7 +1,8 @@
 -- Reading a text from left to right: why reading stops, tests of what comes next, and the reading
 -- functions that small public calls equal. Reading functions for the other ways to make a rule
 -- are in `readers`.
-use Rattle.std.specs.Prelude.{ℕ, Bool, true, false, List, [], ◌∷◌, Result, Ok, Err, if◌then◌else◌, nat_eq}
+use Rattle.std.specs.Prelude.{ℕ, Bool, true, false, List, [], ◌∷◌, Result, Ok, Err, if◌then◌else◌}
+use Rattle.std.specs.Prelude.{nat_eq}
 
 -- Why reading stops, with the rest of the text at that place.
 pub data Stop (Kind : Type 0) : Type 0 where
@@ -14,7 +15,8 @@ Reader Kind A = List ℕ → Result (A × List ℕ) (Stop Kind)
 
 -- the next step, unless reading stopped
 infixl 10 ◌>>=◌
-abbrev pub ◌>>=◌ : {Kind A B : Type 0} → Result A (Stop Kind) → (A → Result B (Stop Kind)) → Result B (Stop Kind)
+abbrev pub ◌>>=◌ : {Kind A B : Type 0} → Result A (Stop Kind) → (A → Result B (Stop Kind))
+    → Result B (Stop Kind)
 (Ok x) >>= f = f x
 (Err e) >>= f = Err e
 
@@ -56,7 +58,8 @@ read_run p text = Ok (front_of p text, after_front p text)
 
 -- # Rules made of others
 
-abbrev pub read_sequence : {Kind A B : Type 0} → Reader Kind A → (A → Reader Kind B) → Reader Kind (A × B)
+abbrev pub read_sequence : {Kind A B : Type 0} → Reader Kind A → (A → Reader Kind B)
+    → Reader Kind (A × B)
 read_sequence p q text = p text >>= λ x. q x.0 x.1 >>= λ y. Ok ((x.0, y.0), y.1)
 
 abbrev pub read_valued : {Kind A B : Type 0} → (A → B) → Reader Kind A → Reader Kind B

@@ -18,13 +18,15 @@
 --
 -- Besides its beginnings a rule has marks: a prefix of a text may mark a place in it with a kind,
 -- for example that a tag is too deep.
-use Rattle.std.specs.Prelude.{◌≡◌, ℕ, ◌+◌, ◌*◌, ◌<◌, ◌≤◌, Bool, true, List, [], ◌∷◌, ◌++◌, ◌⊎◌, length, Option, Some, None}
+use Rattle.std.specs.Prelude.{◌≡◌, ℕ, ◌+◌, ◌*◌, ◌<◌, ◌≤◌, Bool, true, List, [], ◌∷◌, ◌++◌, ◌⊎◌}
+use Rattle.std.specs.Prelude.{length, Option, Some, None}
 use Rattle.xml_grammar.specs.Digits.{Digits}
 
 -- An event at the end of a prefix of a text.
 pub data Event (Kind : Type 0) : Type 0 where
   Begin : Event Kind  -- the prefix is a beginning
-  Mark : (kind : Kind) → (back : ℕ) → Event Kind  -- the prefix marks the place this many characters back
+  -- the prefix marks the place this many characters back
+  Mark : (kind : Kind) → (back : ℕ) → Event Kind
 
 -- A rule: which texts it spells, as which values, and the events at the end of a text that breaks
 -- off in it.
@@ -53,7 +55,8 @@ never = record { Spells = λ text a. ⊥; Meets = λ e text. ⊥ }
 
 -- The empty text, with this value.
 abbrev pub empty : {Kind A : Type 0} → A → Rule Kind A
-empty value = record { Spells = λ text a. (text ≡ []) × (a ≡ value); Meets = breaks (λ text. text ≡ []) }
+empty value =
+    record { Spells = λ text a. (text ≡ []) × (a ≡ value); Meets = breaks (λ text. text ≡ []) }
 
 -- One character of a class.
 abbrev pub one : {Kind : Type 0} → (ℕ → Bool) → Rule Kind ℕ
@@ -107,7 +110,9 @@ up_to p w = record {
 -- digits whose number never exceeds the greatest, after digits of value n
 abbrev pub IsNumberSoFar : Digits → ℕ → ℕ → List ℕ → Type 0
 IsNumberSoFar d most n [] = Unit {0}
-IsNumberSoFar d most n (c ∷ cs) = (d.is_digit c ≡ true) × (n * d.base + d.value c ≤ most) × IsNumberSoFar d most (n * d.base + d.value c) cs
+IsNumberSoFar d most n (c ∷ cs) =
+    (d.is_digit c ≡ true) × (n * d.base + d.value c ≤ most)
+    × IsNumberSoFar d most (n * d.base + d.value c) cs
 
 -- the value of digits that follow digits of value n
 abbrev pub number_from : Digits → ℕ → List ℕ → ℕ
@@ -118,7 +123,8 @@ number_from d n (c ∷ cs) = number_from d (n * d.base + d.value c) cs
 -- the whole number.
 abbrev pub number : {Kind : Type 0} → Digits → ℕ → (ℕ → Bool) → Rule Kind ℕ
 number d most p = record {
-  Spells = λ text n. IsNumberSoFar d most 0 text × (0 < length text) × (n ≡ number_from d 0 text) × (p n ≡ true);
+  Spells = λ text n.
+      IsNumberSoFar d most 0 text × (0 < length text) × (n ≡ number_from d 0 text) × (p n ≡ true);
   Meets = breaks (IsNumberSoFar d most 0);
 }
 
@@ -128,7 +134,8 @@ number d most p = record {
 abbrev pub sequence : {Kind A B : Type 0} → Rule Kind A → (A → Rule Kind B) → Rule Kind (A × B)
 sequence {Kind} {A} {B} r s = record {
   Spells = λ text x. Split text (λ u. r.Spells u x.0) (λ v. (s x.0).Spells v x.1);
-  Meets = λ e text. r.Meets e text ⊎ ((a : A) × Split text (λ u. r.Spells u a) (λ v. (s a).Meets e v));
+  Meets = λ e text.
+      r.Meets e text ⊎ ((a : A) × Split text (λ u. r.Spells u a) (λ v. (s a).Meets e v));
 }
 
 -- Either of two rules.
@@ -181,9 +188,11 @@ atomic {Kind} {A} r = record {
 -- # Rules with marks
 
 -- the events of the marked rule
-abbrev pub MarkedMeets : {Kind A : Type 0} → Kind → (List ℕ → Type 0) → Rule Kind A → Event Kind → List ℕ → Type 0
+abbrev pub MarkedMeets : {Kind A : Type 0} → Kind → (List ℕ → Type 0) → Rule Kind A → Event Kind
+    → List ℕ → Type 0
 MarkedMeets kind P r Begin text = r.Meets Begin text
-MarkedMeets kind P r (Mark k back) text = ((k ≡ kind) × (back ≡ length text) × P text) ⊎ r.Meets (Mark k back) text
+MarkedMeets kind P r (Mark k back) text =
+    ((k ≡ kind) × (back ≡ length text) × P text) ⊎ r.Meets (Mark k back) text
 
 -- The texts of the rule; a prefix that satisfies the predicate marks its own first place with
 -- this kind.
@@ -194,9 +203,11 @@ marked kind P r = record {
 }
 
 -- the events of the judged rule
-abbrev pub JudgedMeets : {Kind A : Type 0} → (A → Kind → ℕ → Type 0) → Rule Kind A → Event Kind → List ℕ → Type 0
+abbrev pub JudgedMeets : {Kind A : Type 0} → (A → Kind → ℕ → Type 0) → Rule Kind A → Event Kind
+    → List ℕ → Type 0
 JudgedMeets Says r Begin text = r.Meets Begin text
-JudgedMeets {Kind} {A} Says r (Mark k back) text = ((a : A) × r.Spells text a × Says a k back) ⊎ r.Meets (Mark k back) text
+JudgedMeets {Kind} {A} Says r (Mark k back) text =
+    ((a : A) × r.Spells text a × Says a k back) ⊎ r.Meets (Mark k back) text
 
 -- The texts of the rule; a whole text marks places in it with kinds, by its value, each a number
 -- of characters before its end.
@@ -209,7 +220,8 @@ judged Says r = record {
 -- the events of the trap
 abbrev pub TrapMeets : {Kind : Type 0} → Kind → List ℕ → List ℕ → Event Kind → List ℕ → Type 0
 TrapMeets kind seen rest Begin text = (more : List ℕ) × (seen ≡ text ++ more)
-TrapMeets kind seen rest (Mark k back) text = (k ≡ kind) × (back ≡ length text) × (text ≡ seen ++ rest)
+TrapMeets kind seen rest (Mark k back) text =
+    (k ≡ kind) × (back ≡ length text) × (text ≡ seen ++ rest)
 
 -- A word that is known and refused. Only prefixes of its first part are beginnings; the whole
 -- word marks its own first place with this kind.
@@ -244,4 +256,5 @@ keeping_second r s = valued (λ x. x.1) (sequence r (λ _. s))
 
 -- A pair of equal quotes and the text between them, whose rule may depend on the quote.
 abbrev pub quoted : {Kind A : Type 0} → (ℕ → Bool) → (ℕ → Rule Kind A) → Rule Kind A
-quoted is_quote inside = valued (λ x. x.1) (sequence (one is_quote) (λ q. keeping_first (inside q) (word (q ∷ []))))
+quoted is_quote inside =
+    valued (λ x. x.1) (sequence (one is_quote) (λ q. keeping_first (inside q) (word (q ∷ []))))

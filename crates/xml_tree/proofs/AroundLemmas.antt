@@ -1,9 +1,9 @@
 -- The declarations in force inside an element: its own, or the ones around it.
 use Rattle.std.proofs.Common.{◌≡◌, ℕ, List, [], ◌∷◌, ◌++◌, sym, ap, ◌∙◌, append-nil, append_assoc}
 use Rattle.std.specs.Option.{option_or}
-use Rattle.xml_tree.specs.declared.names.Decl.{Decl}
-use Rattle.xml_tree.specs.Scopes.{declared, joined}
-use Rattle.xml_tree.proofs.ScopeLemmas.{declared-append}
+use Rattle.xml_names.specs.declared.names.Decl.{Decl}
+use Rattle.xml_names.specs.Scopes.{declared, joined}
+use Rattle.xml_names.proofs.ScopeLemmas.{declared-append}
 
 joined_inside : (c : List (List Decl)) (ds : List Decl) → joined (c ++ ds ∷ []) ≡ joined c ++ ds
 joined_inside [] ds = append-nil ds

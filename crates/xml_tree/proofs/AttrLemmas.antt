@@ -1,7 +1,7 @@
 -- The first item that passes a test, by its place.
 use Rattle.std.proofs.Common.{◌≡◌, ℕ, zero, suc, ◌<◌, List, [], ◌∷◌, ◌++◌, length, get_or, remove, slice_set, Some, None, Bool, true, false, refl, ap, ◌∙◌, arith, if◌then◌else◌}
 use Rattle.std.specs.List.{slice_get, find}
-use Rattle.xml_tree.specs.Attributes.{change_first, remove_first, change_item}
+use Rattle.xml_names.specs.Attributes.{change_first, remove_first, change_item}
 use Rattle.xml_tree.specs.inner.Attributes.{first_place}
 
 -- what holds for both results of a test

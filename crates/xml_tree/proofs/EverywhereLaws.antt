@@ -1,13 +1,13 @@
 -- What holds everywhere in a tree, in its parts, in changed trees, and in the scope of a place.
 use Rattle.std.proofs.Common.{◌≡◌, ◌≤◌, ℕ, zero, suc, List, [], ◌∷◌, ◌++◌, length, Option, Some, None, option_map, option_and_then, unwrap_or, refl, sym, ap, ◌∙◌, subst, append_assoc, append-nil, arith}
 use Rattle.std.specs.List.{AllByRecursion, slice_get}
-use Rattle.xml_tree.specs.declared.names.Decl.{Decl}
+use Rattle.xml_names.specs.declared.names.Decl.{Decl}
 use Rattle.xml_tree.specs.declared.tree.Node.{Node}
 use Rattle.xml_tree.specs.declared.tree.Node.TheVariants.{Elem, Chars, Comment}
 use Rattle.xml_tree.specs.Tree.{Content, last, more, comment_node, Tree, tree_of, at, child_elements, child_elements_of}
 use Rattle.xml_tree.specs.Edits.{with_text_before, change, change_at, cut, parent_path, put}
 use Rattle.xml_tree.specs.Nodes.{content_of}
-use Rattle.xml_tree.specs.Scopes.{scope_around, scope_at}
+use Rattle.xml_tree.specs.TreeScopes.{scope_around, scope_at}
 use Rattle.xml_tree.specs.Proper.{Part, Everywhere, Letters, OfNode, Throughout}
 
 -- ---- the scopes of places

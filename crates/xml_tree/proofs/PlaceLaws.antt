@@ -2,7 +2,7 @@
 use Rattle.std.proofs.Common.{◌≡◌, ◌≢◌, inl, inr, ℕ, zero, suc, ◌+◌, ◌≤◌, List, [], ◌∷◌, ◌++◌, length, insert, remove, Option, Some, None, IsSome, option_map, option_and_then, refl, sym, ap, ◌∙◌, arith}
 use Rattle.std.specs.List.{slice_get, filter_map}
 use Rattle.xml_tree.specs.Tree.{Content, last, more, comment_node, more_of, Tree, tree_of, child_elements, child_elements_of, at, height, content_height}
-use Rattle.xml_tree.specs.Attributes.{change_item}
+use Rattle.xml_names.specs.Attributes.{change_item}
 use Rattle.xml_tree.specs.Edits.{put, cut, change, with_elem, with_text, with_comment, change_at, put_over}
 use Rattle.xml_tree.specs.Nodes.{nodes_of, text_node, elem_of}
 use Rattle.xml_tree.specs.declared.tree.Node.{Node}

@@ -3,13 +3,14 @@ use Rattle.std.proofs.Common.{◌≡◌, ℕ, zero, suc, ◌+◌, ◌≤◌, Boo
 use Rattle.std.specs.List.{slice_get, find}
 use Rattle.std.specs.Cmp.Lexicographic.{bytes_decides}
 use Rattle.xml_tree.specs.Tree.{Content, last, more, comment_node, more_of, Tree, tree_of, child_elements, child_elements_of, at}
-use Rattle.xml_tree.specs.Attributes.{with_new_value, with_attr, without_attr, is_written_so as is_named}
+use Rattle.xml_names.specs.Attributes.{with_new_value, with_attr, without_attr, is_written_so as is_named}
 use Rattle.xml_tree.specs.Edits.{with_text_before, change, change_at, change_child, cut, put}
-use Rattle.xml_tree.specs.Print.{byte_len, is_empty, opening, print, print_attr, print_comment, print_content, print_name, print_text}
-use Rattle.xml_tree.specs.declared.names.Name.{Name}
-use Rattle.xml_tree.specs.declared.names.Attr.{Attr}
+use Rattle.xml_names.specs.Markup.{byte_len, opening, print_attr, print_comment, print_name, print_text}
+use Rattle.xml_tree.specs.Print.{is_empty, print, print_content}
+use Rattle.xml_names.specs.declared.names.Name.{Name}
+use Rattle.xml_names.specs.declared.names.Attr.{Attr}
 use Rattle.xml_tree.proofs.AttrLemmas.{tested}
-use Rattle.xml_tree.proofs.PrintLengths.{byte_len-append, byte_len-attr, byte_len-closing, byte_len-opening}
+use Rattle.xml_names.proofs.PrintLengths.{byte_len-append, byte_len-attr, byte_len-closing, byte_len-opening}
 use Rattle.xml_tree.proofs.PrintedNodes.{byte_len-bare, byte_len-whole, print-before}
 
 -- ---- the print of a content, part by part

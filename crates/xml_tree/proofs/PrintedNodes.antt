@@ -6,10 +6,11 @@ use Rattle.xml_tree.specs.Edits.{with_text_before}
 use Rattle.xml_tree.specs.Nodes.{content_of, AreNormal}
 use Rattle.xml_tree.specs.declared.tree.Node.{Node}
 use Rattle.xml_tree.specs.declared.tree.Node.TheVariants.{Elem, Chars, Comment}
-use Rattle.xml_tree.specs.Print.{byte_len, closing, ending, is_empty, opening, print, print_comment, print_content, print_text, text_escape}
+use Rattle.xml_names.specs.Markup.{byte_len, closing, opening, print_comment, print_text, text_escape}
+use Rattle.xml_tree.specs.Print.{ending, is_empty, print, print_content}
 use Rattle.xml_tree.specs.inner.Print.{print_node}
-use Rattle.xml_tree.proofs.ScopeLemmas.{drop_item}
-use Rattle.xml_tree.proofs.PrintLengths.{byte_len-append, ascii}
+use Rattle.xml_names.proofs.ScopeLemmas.{drop_item}
+use Rattle.xml_names.proofs.PrintLengths.{byte_len-append, ascii}
 
 pub print-before : (t : List ℕ) (c : Content) → print_content (with_text_before t c) ≡ print_text t ++ print_content c
 print-before t (last u) = flat_map-append text_escape t u

@@ -2,12 +2,12 @@
 use Rattle.std.proofs.Common.{◌≡◌, ◌≤◌, ℕ, zero, suc, List, [], ◌∷◌, ◌++◌, length, take, drop, Option, Some, None, option_and_then, refl, sym, ap, ◌∙◌, subst, append_assoc}
 use Rattle.std.proofs.Math.Seq.{take-nil, drop-nil}
 use Rattle.std.specs.List.{AllByRecursion, slice_get}
-use Rattle.xml_tree.specs.declared.names.Decl.{Decl}
+use Rattle.xml_names.specs.declared.names.Decl.{Decl}
 use Rattle.xml_tree.specs.declared.tree.Node.{Node}
 use Rattle.xml_tree.specs.Tree.{Content, last, more, comment_node, Tree, tree_of, at, child_elements, child_elements_of}
 use Rattle.xml_tree.specs.Edits.{change, change_at, cut, cut_out, own_number, parent_path, put, put_in, put_kid, put_over}
 use Rattle.xml_tree.specs.Nodes.{exchanged, exchange_nodes, nodes_of}
-use Rattle.xml_tree.specs.Scopes.{scope_around, scope_at}
+use Rattle.xml_tree.specs.TreeScopes.{scope_around, scope_at}
 use Rattle.xml_tree.specs.Proper.{Part, Everywhere, OfNode, Throughout}
 use Rattle.xml_tree.proofs.EverywhereLaws.{scope_around-below, scope_at-around, inside, Throughout-change_at, Everywhere-put, put-Everywhere, Everywhere-cut, Everywhere-content_of, nodes-Everywhere}
 use Rattle.xml_tree.proofs.Places.{content_of-nodes_of}

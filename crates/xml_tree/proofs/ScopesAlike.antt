@@ -2,15 +2,15 @@
 use Rattle.std.proofs.Common.{◌≡◌, ℕ, Bool, true, false, List, [], ◌∷◌, ◌++◌, map, Option, Some, None, IsSome, bytes_eq, refl, sym, ap, ◌∙◌, subst, append_assoc, append-nil, if◌then◌else◌}
 use Rattle.std.specs.List.{AllByRecursion, IsDistinct}
 use Rattle.std.specs.Option.{option_or}
-use Rattle.xml_tree.specs.declared.names.Name.{Name}
-use Rattle.xml_tree.specs.declared.names.Decl.{Decl}
-use Rattle.xml_tree.specs.declared.names.Attr.{Attr}
+use Rattle.xml_names.specs.declared.names.Name.{Name}
+use Rattle.xml_names.specs.declared.names.Decl.{Decl}
+use Rattle.xml_names.specs.declared.names.Attr.{Attr}
 use Rattle.xml_tree.specs.Tree.{Content, last, more, comment_node, Tree}
-use Rattle.xml_tree.specs.Expanded.{attr_name, same_expanded}
-use Rattle.xml_tree.specs.Scopes.{bound, declared, joined, some_text, xml_prefix, xml_uri}
+use Rattle.xml_names.specs.Expanded.{attr_name, same_expanded}
+use Rattle.xml_names.specs.Scopes.{bound, declared, joined, some_text, xml_prefix, xml_uri}
 use Rattle.xml_tree.specs.Proper.{IsAttribute, IsNamed, IsTag, ProperIn}
 use Rattle.xml_tree.specs.inner.Proper.{Proper}
-use Rattle.xml_tree.proofs.ScopeLemmas.{declared-append}
+use Rattle.xml_names.proofs.ScopeLemmas.{declared-append}
 
 pub joined-append : (c d : List (List Decl)) → joined (c ++ d) ≡ joined c ++ joined d
 joined-append [] d = refl

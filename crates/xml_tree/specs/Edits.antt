@@ -1,9 +1,10 @@
 -- Changes of a tree: of a content, of one element, and of the element at a path.
-use Rattle.std.specs.Prelude.{ℕ, zero, suc, List, [], ◌∷◌, ◌++◌, Option, IsSomeAnd, option_and_then, find}
+use Rattle.std.specs.Prelude.{ℕ, zero, suc, List, [], ◌∷◌, ◌++◌, Option, IsSomeAnd, option_and_then}
+use Rattle.std.specs.Prelude.{find}
 use Rattle.xml_tree.specs.Tree.{Content, last, more, comment_node, more_of, Tree, tree_of, at}
-use Rattle.xml_tree.specs.Attributes.{with_attr, without_attr, with_value, is_written_so}
-use Rattle.xml_tree.specs.declared.names.Name.{Name}
-use Rattle.xml_tree.specs.declared.names.Attr.{Attr}
+use Rattle.xml_names.specs.Attributes.{with_attr, without_attr, with_value, is_written_so}
+use Rattle.xml_names.specs.declared.names.Name.{Name}
+use Rattle.xml_names.specs.declared.names.Attr.{Attr}
 
 -- ---- content
 
@@ -127,7 +128,8 @@ cut_out p = take_in (parent_path p) (own_number p)
 
 -- texts are directly on both sides of the element at the path, which isn't the root
 abbrev pub TextsMeetAt : List ℕ → Tree → Type 0
-TextsMeetAt p t = IsSomeAnd (at (parent_path p) t) (λ parent. TextsMeet (own_number p) parent.content)
+TextsMeetAt p t =
+    IsSomeAnd (at (parent_path p) t) (λ parent. TextsMeet (own_number p) parent.content)
 
 -- the attribute of this name of the element at the path
 abbrev pub attr_at : List ℕ → Name → Tree → Option Attr

@@ -7,7 +7,9 @@ use Rattle.xml_tree.specs.Edits.{put_over}
 
 -- the closure f was called once, with the element at the path p of the old tree, and returned r;
 -- what it left there is the only difference between the old and the new tree
-pub record EditsAt {F R : Type 0} (g : Once F (MutBor Tree × Unit {0}) (R × (MutBor Tree × Unit {0}))) (f : F) (p : List ℕ) (old : Tree) (r : R) (new : Tree) : Type 0 where
+pub record EditsAt {F R : Type 0}
+    (g : Once F (MutBor Tree × Unit {0}) (R × (MutBor Tree × Unit {0}))) (f : F) (p : List ℕ)
+    (old : Tree) (r : R) (new : Tree) : Type 0 where
   pub here : Tree
   pub left : Tree
   pub there : at p old ≡ Some here

@@ -18,4 +18,5 @@ nodes_row = vec.the_row node.the_row global.the_row ghosts
 
 -- the nodes end with the last one replaced by the element's final value
 abbrev pub LendsLast : MutBor (Vec Node Global) → MutBor Tree → Fml
-LendsLast s r = Lends nodes_row element.the_row s r (λ w. with_item s.now (length s.now.items - 1) (Elem w))
+LendsLast s r =
+    Lends nodes_row element.the_row s r (λ w. with_item s.now (length s.now.items - 1) (Elem w))

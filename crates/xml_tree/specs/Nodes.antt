@@ -1,5 +1,6 @@
 -- Lists of nodes, and the content that each stands for.
-use Rattle.std.specs.Prelude.{ℕ, zero, suc, Bool, true, false, List, [], ◌∷◌, ◌++◌, Option, None, Some, take, drop, option_and_then, slice_get}
+use Rattle.std.specs.Prelude.{ℕ, zero, suc, Bool, true, false, List, [], ◌∷◌, ◌++◌, Option, None}
+use Rattle.std.specs.Prelude.{Some, take, drop, option_and_then, slice_get}
 use Rattle.xml_tree.specs.Tree.{Content, last, more, comment_node, more_of, Tree, tree_of, height}
 use Rattle.xml_tree.specs.Edits.{with_text_before, IsFull}
 use Rattle.xml_tree.specs.declared.tree.Node.{Node}

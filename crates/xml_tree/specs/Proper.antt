@@ -1,16 +1,17 @@
 -- Proper trees: the trees of well-formed, namespace-well-formed documents. XML 1.0, sections 2.2
 -- and 2.5; Namespaces in XML 1.0, sections 3, 5, 6.3 and 7.
-use Rattle.std.specs.Prelude.{◌≡◌, ◌≢◌, ℕ, Bool, not, ◌&&◌, ◌||◌, List, [], ◌∷◌, ◌++◌, map, IsSome, IsTrue, if◌then◌else◌}
+use Rattle.std.specs.Prelude.{◌≡◌, ◌≢◌, ℕ, Bool, not, ◌&&◌, ◌||◌, List, [], ◌∷◌, ◌++◌, map, IsSome}
+use Rattle.std.specs.Prelude.{IsTrue, if◌then◌else◌}
 use Rattle.std.specs.List.{AllByRecursion, IsDistinct}
 use Rattle.std.specs.Str.{bytes_eq}
-use Rattle.xml_tree.specs.Characters.{is_char, is_name, all_chars}
-use Rattle.xml_tree.specs.Comments.{is_comment}
+use Rattle.xml_names.specs.Characters.{is_char, is_name, all_chars}
+use Rattle.xml_names.specs.Comments.{is_comment}
 use Rattle.xml_tree.specs.Tree.{Content, last, more, comment_node, Tree}
-use Rattle.xml_tree.specs.Scopes.{bound, xml_prefix, xml_uri, xmlns_prefix, xmlns_uri}
-use Rattle.xml_tree.specs.Expanded.{attr_name, same_expanded}
-use Rattle.xml_tree.specs.declared.names.Name.{Name}
-use Rattle.xml_tree.specs.declared.names.Decl.{Decl}
-use Rattle.xml_tree.specs.declared.names.Attr.{Attr}
+use Rattle.xml_names.specs.Scopes.{bound, xml_prefix, xml_uri, xmlns_prefix, xmlns_uri}
+use Rattle.xml_names.specs.Expanded.{attr_name, same_expanded}
+use Rattle.xml_names.specs.declared.names.Name.{Name}
+use Rattle.xml_names.specs.declared.names.Decl.{Decl}
+use Rattle.xml_names.specs.declared.names.Attr.{Attr}
 use Rattle.xml_tree.specs.declared.tree.Node.{Node}
 use Rattle.xml_tree.specs.declared.tree.Node.TheVariants.{Elem, Chars, Comment}
 
@@ -30,12 +31,15 @@ Letters P c t = AllByRecursion (λ x. P c (letter x)) t
 
 abbrev pub Everywhere : (List (List Decl) → Part → Type 0) → List (List Decl) → Content → Type 0
 Everywhere P c (last t) = Letters P c t
-Everywhere P c (more t n ds ats k rest) = Letters P c t × P (c ++ ds ∷ []) (tag n ds ats) × Everywhere P (c ++ ds ∷ []) k × Everywhere P c rest
+Everywhere P c (more t n ds ats k rest) =
+    Letters P c t × P (c ++ ds ∷ []) (tag n ds ats) × Everywhere P (c ++ ds ∷ []) k
+    × Everywhere P c rest
 Everywhere P c (comment_node t x rest) = Letters P c t × P c (remark x) × Everywhere P c rest
 
 -- P holds of an element and of all parts in it, where c is the scope around it
 abbrev pub Throughout : (List (List Decl) → Part → Type 0) → List (List Decl) → Tree → Type 0
-Throughout P c e = P (c ++ e.decls ∷ []) (tag e.name e.decls e.attrs) × Everywhere P (c ++ e.decls ∷ []) e.content
+Throughout P c e =
+    P (c ++ e.decls ∷ []) (tag e.name e.decls e.attrs) × Everywhere P (c ++ e.decls ∷ []) e.content
 
 -- P holds of a node and of all parts in it
 abbrev pub OfNode : (List (List Decl) → Part → Type 0) → List (List Decl) → Node → Type 0
@@ -62,7 +66,8 @@ pub record IsNamed (c : List (List Decl)) (n : Name) : Type 0 where
 abbrev pub may_stand : Decl → Bool
 may_stand d =
     not (bytes_eq d.prefix xmlns_prefix) && not (bytes_eq d.uri xmlns_uri)
-    && (if bytes_eq d.prefix xml_prefix then bytes_eq d.uri xml_uri else not (bytes_eq d.uri xml_uri))
+    && (if bytes_eq d.prefix xml_prefix then bytes_eq d.uri xml_uri
+    else not (bytes_eq d.uri xml_uri))
     && (bytes_eq d.prefix [] || not (bytes_eq d.uri []))
 
 -- a declaration of an NCName or of the default, to Chars, which is allowed

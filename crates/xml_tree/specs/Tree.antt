@@ -1,8 +1,8 @@
 -- The tree that contracts see in an element (XML 1.0, 3 and 3.1; Namespaces in XML 1.0, 3).
 use Rattle.std.specs.Prelude.{ℕ, suc, max, List, [], ◌∷◌, Option, Some, option_and_then, slice_get}
-use Rattle.xml_tree.specs.declared.names.Name.{Name}
-use Rattle.xml_tree.specs.declared.names.Decl.{Decl}
-use Rattle.xml_tree.specs.declared.names.Attr.{Attr}
+use Rattle.xml_names.specs.declared.names.Name.{Name}
+use Rattle.xml_names.specs.declared.names.Decl.{Decl}
+use Rattle.xml_names.specs.declared.names.Attr.{Attr}
 
 -- The content of an element. Each part begins with a text, and an empty text means that there is
 -- none. So no text is empty and no two texts meet: a content is normal by its form.

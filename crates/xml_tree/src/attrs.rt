@@ -1,13 +1,15 @@
 //! Work on the attributes of an element, which are in the order in which they are written.
-ghost use Rattle.std.specs.Prelude.{◌≡◌, ◌<◌, ◌++◌, ◌∷◌, [], suc, length, vec_capacity, None, Some, IfOk, OnOk, OnErr, option_map, slice_get};
+ghost use Rattle.std.specs.Prelude.{◌≡◌, ◌<◌, ◌++◌, ◌∷◌, [], suc, length, vec_capacity, None, Some};
+ghost use Rattle.std.specs.Prelude.{IfOk, OnOk, OnErr, option_map, slice_get, ◌≤◌};
 ghost use Rattle.std.specs.List.{find, remove};
-ghost use Rattle.xml_tree.specs.Attributes.{is_written_so, with_attr, with_value, without_attr};
+ghost use Rattle.xml_names.specs.Attributes.{is_written_so, with_attr, with_value, without_attr};
 ghost use Rattle.xml_tree.specs.Reservations.{HasRoom};
+ghost use Rattle.std.specs.Option.{option_copied};
+ghost use Rattle.xml_tree.specs.inner.Attributes.{first_place};
 
-use crate::names::{Attr, Name, place_of_attr};
-use crate::text::Text;
 use std::alloc::AllocError;
 use std::mem;
+use xml_names::{Attr, Name, Text};
 
 // Appends an attribute.
 pub(crate) fn push(attrs: &mut Vec<Attr>, attr: Attr) -> Result<(), AllocError>
@@ -99,4 +101,29 @@ pub(crate) fn set_in_room(attrs: &mut Vec<Attr>, name: Name, value: Text, room: 
         return;
     }
     push_in_room(attrs, Attr { name, value }, room);
+}
+
+// The first attribute of this name.
+pub(crate) fn attr_of<'a>(attrs: &'a [Attr], name: &Name) -> Option<&'a Attr>
+    ensures exact { option_copied result ≡ find (is_written_so name.now) attrs.now }
+{
+    for attr in attrs {
+        if attr.name.same(name) {
+            return Some(attr);
+        }
+    }
+    None
+}
+
+// The place of the first attribute of this name, or the number of attributes.
+pub(crate) fn place_of_attr(attrs: &[Attr], name: &Name) -> usize
+    ensures exact { result ≡ first_place (is_written_so name.now) attrs.now }
+    ensures lies_within { result ≤ length attrs.now }
+{
+    for (i, attr) in attrs.iter().enumerate() {
+        if attr.name.same(name) {
+            return i;
+        }
+    }
+    attrs.len()
 }

@@ -1,9 +1,9 @@
 //! The declarations of an element, replaced as a whole.
 ghost use Rattle.std.specs.Prelude.{◌≡◌};
 
-use crate::names::Decl;
 use crate::tree::Element;
 use std::mem;
+use xml_names::Decl;
 
 impl Element {
     /// Replaces the declarations by others, and returns the old ones. Does not allocate.

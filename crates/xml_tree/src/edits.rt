@@ -1,21 +1,24 @@
 //! Edits of one element, and of the element at a path. Each contract gives the whole new tree.
-ghost use Rattle.std.specs.Prelude.{◌≡◌, ◌<◌, ◌≤◌, length, Some, None, IsSome, IsSomeAnd, IfOk, IfErr, OnOk, OnErr, option_map, slice_get};
-ghost use Rattle.xml_tree.specs.Attributes.{is_written_so};
+ghost use Rattle.std.specs.Prelude.{◌≡◌, ◌<◌, ◌≤◌, length, Some, None, IsSome, IsSomeAnd, IfOk};
+ghost use Rattle.std.specs.Prelude.{IfErr, OnOk, OnErr, option_map, slice_get};
+ghost use Rattle.xml_names.specs.Attributes.{is_written_so};
 ghost use Rattle.std.specs.List.{find, remove};
 ghost use Rattle.std.specs.Option.{option_copied};
 ghost use Rattle.xml_tree.specs.Tree.{at, child_elements_of};
-ghost use Rattle.xml_tree.specs.Edits.{TextsMeet, TextsMeetAt, attr_at, change_attr, cut_child, cut_out, drop_at, drop_attr, put_in, put_kid, put_over, set_at, take_in, write_attr};
+ghost use Rattle.xml_tree.specs.Edits.{TextsMeet, TextsMeetAt, attr_at, change_attr, cut_child};
+ghost use Rattle.xml_tree.specs.Edits.{cut_out, drop_at, drop_attr, put_in, put_kid, put_over};
+ghost use Rattle.xml_tree.specs.Edits.{set_at, take_in, write_attr};
 ghost use Rattle.xml_tree.specs.Nodes.{exchange_nodes, nodes_of};
 
 use crate::attrs;
-use crate::names::{Attr, Name, attr_of};
+use crate::attrs::attr_of;
 use crate::nodes::{put_elem, take_elem};
 use crate::path::Path;
 use crate::runs::exchange;
-use crate::text::Text;
 use crate::tree::{Element, Node};
 use std::alloc::AllocError;
 use std::mem;
+use xml_names::{Attr, Name, Text};
 
 /// Edits of its nodes.
 impl Element {
@@ -172,13 +175,10 @@ impl Element {
         )
     }
 
-    /// Removes a child element of the element at a path, counted from 0, and joins texts that
-    /// meet.
-    ///
-    /// # Errors
-    /// `NoMemory` when out of memory, possible only if texts are directly on both sides of the
-    /// child. Nothing has changed then.
-    pub fn take_in(&mut self, path: &Path, child: usize) -> Result<Element, AllocError>
+    // Removes a child element of the element at a path, counted from 0, and joins texts that meet.
+    // An error is out of memory, possible only if texts are directly on both sides of the child;
+    // nothing has changed then.
+    fn take_in(&mut self, path: &Path, child: usize) -> Result<Element, AllocError>
         requires { IsSomeAnd (at path.now self.old)
             (λ parent. child < length (child_elements_of parent)) }
         ensures previous_element { IfOk result (λ child_element. IsSomeAnd (at path.now self.old)

@@ -1,9 +1,11 @@
 //! Laws of places and edits, each the contract of a function that does nothing.
-ghost use Rattle.std.specs.Prelude.{◌≡◌, ℕ, suc, max, ◌+◌, ◌≤◌, List, [], ◌∷◌, ◌++◌, length, Some, IsSome, option_map, option_and_then, insert, remove};
+ghost use Rattle.std.specs.Prelude.{◌≡◌, ℕ, suc, max, ◌+◌, ◌≤◌, List, [], ◌∷◌, ◌++◌, length, Some};
+ghost use Rattle.std.specs.Prelude.{IsSome, option_map, option_and_then, insert, remove};
 ghost use Rattle.std.specs.List.{filter_map};
 ghost use Rattle.xml_tree.specs.Tree.{Content, Tree, at, height, child_elements, child_elements_of};
-ghost use Rattle.xml_tree.specs.Attributes.{change_item};
-ghost use Rattle.xml_tree.specs.Edits.{change, change_at, cut, put, put_in, put_over, take_in, with_comment, with_elem, with_text};
+ghost use Rattle.xml_names.specs.Attributes.{change_item};
+ghost use Rattle.xml_tree.specs.Edits.{change, change_at, cut, put, put_in, put_over, take_in};
+ghost use Rattle.xml_tree.specs.Edits.{with_comment, with_elem, with_text};
 ghost use Rattle.xml_tree.specs.Nodes.{AreNormal, content_of, elem_of, nodes_of};
 ghost use Rattle.xml_tree.specs.Diverging.{Apart};
 ghost use Rattle.xml_tree.specs.declared.tree.Node.{Node};

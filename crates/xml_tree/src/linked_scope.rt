@@ -1,13 +1,11 @@
 //! Scopes as chains of borrows.
 ghost use Rattle.std.specs.Prelude.{◌≡◌, ◌++◌, [], ◌∷◌, option_map, chars};
 ghost use Rattle.std.specs.Option.{option_copied};
-ghost use Rattle.xml_tree.specs.Scopes.{bound, declared, joined};
+ghost use Rattle.xml_names.specs.Scopes.{bound, declared, joined};
 
-use crate::indexed_decls::IndexedDecls;
-use crate::names::Prefix;
-use crate::scope::{Scope, is_xml, some_text, xml_uri};
-use crate::text::Text;
+use crate::scope::Scope;
 use std::marker::Model;
+use xml_names::{IndexedDecls, Prefix, Text, is_xml, some_text, xml_uri};
 
 /// A scope that links to the scope around it, so nothing is copied where an element begins.
 /// Contracts see it as a list of lists of declarations, outermost first, as they see a `Scope`.
@@ -32,8 +30,8 @@ impl<'a> Model for LinkedScope<'a> {
     ghost use Rattle.std.specs.Prelude.{List, length};
     ghost use Rattle.std.specs.Coded.{coded_list};
     ghost use Rattle.std.proofs.Common.{arith, length-append};
-    ghost use Rattle.xml_tree.specs.inner.Codes.{decls_code};
-    ghost use Rattle.xml_tree.specs.declared.names.Decl.{Decl};
+    ghost use Rattle.xml_names.specs.inner.Codes.{decls_code};
+    ghost use Rattle.xml_names.specs.declared.names.Decl.{Decl};
 
     ghost Value = { List (List Decl) };
 

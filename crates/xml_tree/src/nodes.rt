@@ -1,20 +1,23 @@
 //! Work on the nodes of an element.
-ghost use Rattle.std.specs.Prelude.{◌≡◌, ◌<◌, ◌≤◌, ◌+◌, ◌-◌, suc, length, vec_capacity, Some, IsSome, IsOk, OnOk, OnErr, IfOk, IfErr, slice_get, slice_set, remove, chars};
+ghost use Rattle.std.specs.Prelude.{◌≡◌, ◌<◌, ◌≤◌, ◌+◌, ◌-◌, suc, length, vec_capacity, Some};
+ghost use Rattle.std.specs.Prelude.{IsSome, IsOk, OnOk, OnErr, IfOk, IfErr, slice_get, slice_set};
+ghost use Rattle.std.specs.Prelude.{remove, chars};
 ghost use Rattle.xml_tree.specs.declared.tree.Node.TheVariants.{Chars};
 ghost use Rattle.std.specs.Borrow.{sem};
 ghost use Rattle.std.specs.Option.{option_copied};
 ghost use Rattle.xml_tree.specs.Tree.{child_elements};
 ghost use Rattle.xml_tree.specs.Edits.{TextsMeet, cut, put, with_comment, with_elem, with_text};
-ghost use Rattle.xml_tree.specs.Nodes.{AreNormal, content_of, gap_place, joined_beside, last_elem, place, text_at};
+ghost use Rattle.xml_tree.specs.Nodes.{AreNormal, content_of, gap_place, joined_beside, last_elem};
+ghost use Rattle.xml_tree.specs.Nodes.{place, text_at};
 ghost use Rattle.xml_tree.specs.inner.Nodes.{ends_in_text, removed_joined};
 ghost use Rattle.xml_tree.specs.Lending.{LendsLast};
 ghost use Rattle.xml_tree.specs.inner.Lending.{LendsChild};
 ghost use Rattle.xml_tree.specs.Reservations.{HasRoom};
 
-use crate::text::Text;
 use crate::tree::{Element, Node};
 use std::alloc::{AllocError, AllocFailed, Global};
 use std::mem;
+use xml_names::Text;
 
 /// The place of a child element among nodes, or the number of nodes if it is absent.
 pub fn place_of(nodes: &[Node], child: usize) -> usize

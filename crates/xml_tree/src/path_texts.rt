@@ -3,8 +3,8 @@ ghost use Rattle.std.specs.Prelude.{◌≡◌, IfOk};
 ghost use Rattle.xml_tree.specs.PathTexts.{path_text};
 
 use crate::path::Path;
-use crate::text::Text;
 use std::alloc::{AllocError, Global};
+use xml_names::Text;
 
 /// The positional selector of a place: `*` for the root, and `/*[i]` for each number, counted
 /// from 1.

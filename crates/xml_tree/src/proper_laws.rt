@@ -5,9 +5,10 @@ ghost use Rattle.std.specs.List.{AllByRecursion};
 ghost use Rattle.xml_tree.specs.Edits.{change_at, cut_out, put_in, put_over};
 ghost use Rattle.xml_tree.specs.Nodes.{exchange_nodes};
 ghost use Rattle.xml_tree.specs.Proper.{OfNode, IsProperPart, ProperIn};
-ghost use Rattle.xml_tree.specs.Scopes.{bound, scope_around, scope_at};
+ghost use Rattle.xml_names.specs.Scopes.{bound};
+ghost use Rattle.xml_tree.specs.TreeScopes.{scope_around, scope_at};
 ghost use Rattle.xml_tree.specs.Tree.{Tree, at, child_elements_of};
-ghost use Rattle.xml_tree.specs.declared.names.Decl.{Decl};
+ghost use Rattle.xml_names.specs.declared.names.Decl.{Decl};
 ghost use Rattle.xml_tree.specs.declared.tree.Node.{Node};
 
 /// What is at a place of a proper tree is proper in the scope around it, and a proper tree that

@@ -5,11 +5,10 @@ ghost use Rattle.xml_tree.specs.Edits.{TextsMeet, cut_child, put_kid, write_attr
 ghost use Rattle.xml_tree.specs.Reservations.{HasAttrRoom, HasNodeRoom, joined_around};
 
 use crate::attrs;
-use crate::names::{Attr, Name};
 use crate::nodes::{joined_around, put_elem_in_room, take_elem_joining};
-use crate::text::Text;
 use crate::tree::{Element, Node};
 use std::alloc::{AllocError, Global};
+use xml_names::{Attr, Name, Text};
 
 impl Element {
     /// Inserts an element into a gap, as `put_kid` does. The nodes move into `room`, which is

@@ -1,5 +1,6 @@
 //! Runs of nodes: how one is replaced by another so that no two texts meet.
-ghost use Rattle.std.specs.Prelude.{◌≡◌, ◌≤◌, ◌++◌, ◌∷◌, [], false, length, IfOk, OnOk, OnErr, take, drop};
+ghost use Rattle.std.specs.Prelude.{◌≡◌, ◌≤◌, ◌++◌, ◌∷◌, [], false, length, IfOk, OnOk, OnErr};
+ghost use Rattle.std.specs.Prelude.{take, drop};
 ghost use Rattle.xml_tree.specs.Nodes.{AreNormal, StartsApart, content_of};
 ghost use Rattle.xml_tree.specs.inner.Nodes.{ends_in_text};
 

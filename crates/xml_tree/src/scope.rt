@@ -1,17 +1,15 @@
 //! Scopes: what prefixes are bound to (Namespaces in XML 1.0, sections 2.2, 3, 5 and 6).
 ghost use Rattle.std.specs.Prelude.{◌≡◌, ◌<◌, ◌++◌, [], ◌∷◌, length, map, option_map, chars, IfOk};
 ghost use Rattle.std.specs.Option.{option_copied};
-ghost use Rattle.std.specs.Str.{bytes_eq};
 ghost use Rattle.xml_tree.specs.Tree.{at};
-ghost use Rattle.xml_tree.specs.Scopes.{bindings_in, bound, declared, joined, scope_at, some_text, xml_prefix, xml_uri, xmlns_prefix};
+ghost use Rattle.xml_names.specs.Scopes.{bindings_in, bound, declared, joined, some_text, xml_uri};
+ghost use Rattle.xml_tree.specs.TreeScopes.{scope_at};
 
-use crate::bindings::bindings;
-use crate::names::Decl;
 use crate::path::Path;
-use crate::text::Text;
 use crate::tree::Element;
 use std::alloc::{AllocError, Global};
 use std::marker::Model;
+use xml_names::{Decl, Text, bindings_in, is_xml, nearest, some_text, xml_uri};
 
 /// The greatest number of lists of declarations in a scope.
 pub const SCOPE_LIMIT: usize = 67;
@@ -27,8 +25,8 @@ pub struct Scope<'a> {
 impl<'a> Model for Scope<'a> {
     ghost use Rattle.std.specs.Prelude.{◌≤◌, List, map, take};
     ghost use Rattle.std.specs.Coded.{coded_list};
-    ghost use Rattle.xml_tree.specs.inner.Codes.{decls_code};
-    ghost use Rattle.xml_tree.specs.declared.names.Decl.{Decl};
+    ghost use Rattle.xml_names.specs.inner.Codes.{decls_code};
+    ghost use Rattle.xml_names.specs.declared.names.Decl.{Decl};
     ghost use Rattle.xml_tree.specs.declared.scope.TheConstants.{SCOPE_LIMIT};
 
     ghost Value = { List (List Decl) };
@@ -108,11 +106,10 @@ impl<'a> Scope<'a> {
     ///
     /// # Errors
     /// `NoMemory` when out of memory.
-    #[tactic(auto, using(crate::proofs::BindingWords::gathered_are))]
     pub fn bindings(&self, alloc: Global) -> Result<Vec<Decl>, AllocError>
         ensures ok { IfOk result (λ made. made.items ≡ bindings_in self.now) }
     {
-        bindings(alloc, &self.lists[..self.len])
+        bindings_in(alloc, &self.lists[..self.len])
     }
 
     /// The URI that a prefix is bound to; the empty prefix is the default namespace. Does not
@@ -133,64 +130,4 @@ impl<'a> Scope<'a> {
     {
         nearest(&self.lists[..self.len], prefix)
     }
-}
-
-/// Whether a prefix is `xml`, which is always bound.
-pub fn is_xml(prefix: &str) -> bool
-    ensures exact { result ≡ bytes_eq (chars prefix.now) xml_prefix }
-{
-    prefix == "xml"
-}
-
-/// Whether a prefix is `xmlns`, which is never bound.
-pub fn is_xmlns(prefix: &str) -> bool
-    ensures exact { result ≡ bytes_eq (chars prefix.now) xmlns_prefix }
-{
-    prefix == "xmlns"
-}
-
-// The namespace of `xml`.
-pub(crate) fn xml_uri() -> &'static str
-    ensures namespace_of_xml { chars result.now ≡ xml_uri }
-{
-    "http://www.w3.org/XML/1998/namespace"
-}
-
-// A URI, or None if it is empty, as that binds nothing.
-pub(crate) fn some_text<'a>(uri: Option<&'a Text>) -> Option<&'a str>
-    ensures none_if_empty { option_map (λ text. chars text.now) result
-        ≡ some_text (option_copied uri.entry) }
-{
-    match uri {
-        Some(text) if !text.is_empty() => Some(text.as_str()),
-        _ => None,
-    }
-}
-
-// The URI that the lists declare for a prefix; the last list is nearest.
-#[tactic(auto, using(crate::proofs::ScopeLemmas::declared_steps))]
-fn nearest<'a>(lists: &[&'a [Decl]], prefix: &str) -> Option<&'a Text>
-    ensures exact { option_copied result
-        ≡ declared (joined (map (λ x. x.now) lists.now)) (chars prefix.now) }
-{
-    let mut found = None;
-    for list in lists {
-        if let Some(uri) = declared(list, prefix) {
-            found = Some(uri);
-        }
-    }
-    found
-}
-
-// The URI that a list declares for a prefix.
-pub(crate) fn declared<'a>(decls: &'a [Decl], prefix: &str) -> Option<&'a Text>
-    ensures exact { option_copied result ≡ declared decls.now (chars prefix.now) }
-{
-    let mut found = None;
-    for decl in decls {
-        if decl.prefix.is(prefix) {
-            found = Some(&decl.uri);
-        }
-    }
-    found
 }

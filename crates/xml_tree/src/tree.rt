@@ -1,18 +1,18 @@
 //! Elements and their nodes.
-ghost use Rattle.std.specs.Prelude.{◌≡◌, ◌<◌, [], ◌∷◌, ◌++◌, OnOk, OnErr, IsSome, Some, true, chars, slice_get};
+ghost use Rattle.std.specs.Prelude.{◌≡◌, ◌<◌, [], ◌∷◌, ◌++◌, OnOk, OnErr, IsSome, Some, true};
+ghost use Rattle.std.specs.Prelude.{chars, slice_get};
 ghost use Rattle.std.specs.Option.{option_copied};
 ghost use Rattle.xml_tree.specs.Tree.{height};
 
 use crate::attrs;
-use crate::names::{Attr, Decl, Name, push_decl};
 use crate::nodes::{
     child_in, child_of, push_comment_node, push_elem_node, push_own_text, push_text,
 };
 use crate::path::Path;
-use crate::text::Text;
 use std::alloc::{AllocError, Global};
 use std::marker::Model;
 use std::mem;
+use xml_names::{Attr, Decl, Name, Text, push_decl};
 
 /// A node of an element.
 #[cycle(tree)]
@@ -60,7 +60,7 @@ impl Model for Element {
 impl Element {
     ghost use Rattle.xml_tree.specs.Tree.{last, tree_of};
     ghost use Rattle.std.specs.Prelude.{IsTrue};
-    ghost use Rattle.xml_tree.specs.Comments.{is_comment};
+    ghost use Rattle.xml_names.specs.Comments.{is_comment};
     ghost use Rattle.xml_tree.specs.Edits.{with_comment, with_elem, with_text};
 
     /// An element with this name and nothing else. Does not allocate; what is added later is
@@ -190,20 +190,6 @@ impl Element {
         ensures nodes_are_normal { AreNormal result.now }
     {
         &self.nodes
-    }
-
-    /// The nodes, taken out of the element, which is dropped.
-    pub fn into_nodes(self) -> Vec<Node>
-        ensures content_nodes { result.items ≡ nodes_of self.content }
-        ensures nodes_are_normal { AreNormal result.items }
-    {
-        let Element {
-            name: _,
-            decls: _,
-            attrs: _,
-            nodes,
-        } = self;
-        nodes
     }
 
     /// A child element, counted from 0: None exactly when there are fewer. Does not allocate.

@@ -2,9 +2,9 @@
 ghost use Rattle.std.specs.Prelude.{◌≡◌, ◌↔◌, ◌++◌, ◌∷◌, [], IsTrue, IfOk, OnOk, min};
 ghost use Rattle.xml_tree.specs.Tree.{height, last};
 
-use crate::names::{copy_attrs, copy_decls, same_attrs, same_decls};
 use crate::tree::{Element, Node};
 use std::alloc::{AllocError, Global};
+use xml_names::{copy_attrs, copy_decls, same_attrs, same_decls};
 
 /// The depth of an element, 1 if it has no child elements; `usize::MAX` if it is greater. Does
 /// not allocate.

@@ -5,7 +5,8 @@ use Rattle.client_follower.specs.declared.fault.FollowerFault.{FollowerFault}
 use Rattle.client_follower.specs.declared.feed_rounds.Round.{Round}
 
 -- the replica may change only where a diff document decided what became of the document
-abbrev pub KeepsUnlessTold : ReplicaContents → ReplicaContents → Result (Option Round) FollowerFault → Type 0
+abbrev pub KeepsUnlessTold : ReplicaContents → ReplicaContents → Result (Option Round) FollowerFault
+    → Type 0
 KeepsUnlessTold held held' (Ok (Some round)) = Unit {0}
 KeepsUnlessTold held held' (Ok None) = held' ≡ held
 KeepsUnlessTold held held' (Err fault) = held' ≡ held

@@ -8,10 +8,12 @@ use Rattle.http_wire.specs.declared.request.Request.{Request}
 use Rattle.patch_rules.specs.Replay.{ReplicaContents}
 use Rattle.client_theorem.specs.FeedRequests.{AsksForFeed, feed_request}
 use Rattle.client_theorem.specs.declared.fault.FollowFault.{FollowFault}
-use Rattle.client_theorem.specs.declared.fault.FollowFault.TheVariants.{Nothing, BadTag, Status, Notice, Apply, NoMemory}
+use Rattle.client_theorem.specs.declared.fault.FollowFault.TheVariants.{Nothing, BadTag, Status}
+use Rattle.client_theorem.specs.declared.fault.FollowFault.TheVariants.{Notice, Apply, NoMemory}
 
 -- it asks for the feed since the tag of the replica's version
-pub record AsksFrom (root : List ℕ) (mode : Mode) (id : DocId) (held : ReplicaContents) (request : Request) : Type 0 where
+pub record AsksFrom (root : List ℕ) (mode : Mode) (id : DocId) (held : ReplicaContents)
+    (request : Request) : Type 0 where
   pub version : List ℕ × Tree
   pub is_held : held ≡ Some version
   pub number : ℕ
@@ -23,7 +25,8 @@ pub record AsksFrom (root : List ℕ) (mode : Mode) (id : DocId) (held : Replica
 abbrev pub Asks : List ℕ → Mode → DocId → ReplicaContents → Result Request FollowFault → Type 0
 Asks root mode id held (Ok request) = AsksFrom root mode id held request
 Asks root mode id held (Err Nothing) = held ≡ None
-Asks root mode id held (Err BadTag) = (version : List ℕ × Tree) × (held ≡ Some version) × (tag_spelled version.0 ≡ None)
+Asks root mode id held (Err BadTag) =
+    (version : List ℕ × Tree) × (held ≡ Some version) × (tag_spelled version.0 ≡ None)
 Asks root mode id held (Err (Status status)) = ⊥
 Asks root mode id held (Err (Notice fault)) = ⊥
 Asks root mode id held (Err (Apply fault)) = ⊥

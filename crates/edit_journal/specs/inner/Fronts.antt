@@ -7,6 +7,7 @@ use Rattle.edit_journal.specs.Texts.{BeginsWith, HasNoRecord, IsTorn, IsDamaged}
 
 -- a complete record of n bytes; or a torn one, or nothing; or bytes that begin none
 abbrev pub IsFront : List ℕ → RecordScan → Type 0
-IsFront bytes (Whole request len) = (rest : List ℕ) × BeginsWith bytes request rest × (len ≡ length (record_of request))
+IsFront bytes (Whole request len) =
+    (rest : List ℕ) × BeginsWith bytes request rest × (len ≡ length (record_of request))
 IsFront bytes Torn = HasNoRecord bytes × IsTorn bytes
 IsFront bytes Damaged = IsDamaged bytes

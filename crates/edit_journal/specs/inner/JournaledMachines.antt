@@ -19,8 +19,11 @@ pub record Wrapped (M : Type 0) : Type 0 where
   pub journal_name : GName
 
 -- it answers a request, and its references are unchanged
-pub record WrappedStep {M E : Type 0} (Step : M → Request → SentReply → M → Option E → Type 0) (old : Wrapped M) (request : Request) (reply : SentReply) (new : Wrapped M) (edit : Option E) : Type 0 where
-  pub answers : Answers Step old.machine old.log old.journal request reply edit new.machine new.log new.journal
+pub record WrappedStep {M E : Type 0} (Step : M → Request → SentReply → M → Option E → Type 0)
+    (old : Wrapped M) (request : Request) (reply : SentReply) (new : Wrapped M)
+    (edit : Option E) : Type 0 where
+  pub answers : Answers Step old.machine old.log old.journal request reply edit new.machine new.log
+      new.journal
   pub goes : IsJournalProgress old.journal new.journal
   pub fits : Fits new.log new.journal
   pub same_machine : new.machine_name ≡ old.machine_name

@@ -1,10 +1,12 @@
 -- The bytes of an old journal that were read and not used yet.
-use Rattle.std.specs.Prelude.{◌≡◌, ℕ, ◌+◌, Bool, true, false, ◌<◌, List, [], ◌∷◌, ◌++◌, length, Option, None, Some, Result, Ok, Err}
+use Rattle.std.specs.Prelude.{◌≡◌, ℕ, ◌+◌, Bool, true, false, ◌<◌, List, [], ◌∷◌, ◌++◌, length}
+use Rattle.std.specs.Prelude.{Option, None, Some, Result, Ok, Err}
 use Rattle.http_wire.specs.declared.request.Request.{Request}
 use Rattle.xcap_io.specs.Causes.{InputState}
 use Rattle.xcap_io.specs.StreamTraffic.{Gave, IsEnded}
 use Rattle.edit_journal.specs.declared.read_buffer.FillResult.{FillResult}
-use Rattle.edit_journal.specs.declared.read_buffer.FillResult.TheVariants.{Some as Came, End, Beyond}
+use Rattle.edit_journal.specs.declared.read_buffer.FillResult.TheVariants.{Some as Came, End}
+use Rattle.edit_journal.specs.declared.read_buffer.FillResult.TheVariants.{Beyond}
 use Rattle.edit_journal.specs.declared.journal_restart.RestartFault.{RestartFault}
 use Rattle.edit_journal.specs.declared.journal_restart.RestartFault.TheVariants.{Damaged, NoMemory}
 use Rattle.edit_journal.specs.Limits.{max_journal_bytes}
@@ -17,21 +19,26 @@ pub record InflowState : Type 0 where
 
 -- with these bytes appended
 abbrev pub with_bytes : InflowState → List ℕ → InflowState
-with_bytes read_buffer bytes = record { held = read_buffer.held ++ bytes; taken = read_buffer.taken + length bytes }
+with_bytes read_buffer bytes =
+    record { held = read_buffer.held ++ bytes; taken = read_buffer.taken + length bytes }
 
 -- The result of reading more: bytes; the end; or, at the limit of an old journal, one byte more;
 -- or the read failed.
-abbrev pub Fills : {E : Type 0} → InflowState → InflowState → InputState → InputState → Result FillResult E → Type 0
+abbrev pub Fills : {E : Type 0} → InflowState → InflowState → InputState → InputState
+    → Result FillResult E → Type 0
 Fills old new source source' (Ok Came) =
     (bytes : List ℕ) × (0 < length bytes) × Gave source source' bytes × (new ≡ with_bytes old bytes)
 Fills old new source source' (Ok End) = Gave source source' [] × IsEnded source' × (new ≡ old)
-Fills old new source source' (Ok Beyond) = ((byte : ℕ) × Gave source source' (byte ∷ [])) × (old.taken ≡ max_journal_bytes) × (new ≡ old)
+Fills old new source source' (Ok Beyond) =
+    ((byte : ℕ) × Gave source source' (byte ∷ [])) × (old.taken ≡ max_journal_bytes) × (new ≡ old)
 Fills old new source source' (Err e) = (source' ≡ source) × (new ≡ old)
 
 -- the record at the front was taken out, or none is complete, or the bytes from this offset on
 -- begin none
-abbrev pub TakesRecord : InflowState → InflowState → ℕ → Result (Option Request) RestartFault → Type 0
-TakesRecord old new place (Ok (Some request)) = BeginsWith old.held request new.held × (new.taken ≡ old.taken)
+abbrev pub TakesRecord : InflowState → InflowState → ℕ → Result (Option Request) RestartFault
+    → Type 0
+TakesRecord old new place (Ok (Some request)) =
+    BeginsWith old.held request new.held × (new.taken ≡ old.taken)
 TakesRecord old new place (Ok None) = HasNoRecord old.held × IsTorn old.held × (new ≡ old)
 TakesRecord old new place (Err (Damaged at)) = IsDamaged old.held × (at ≡ place) × (new ≡ old)
 TakesRecord old new place (Err NoMemory) = new ≡ old

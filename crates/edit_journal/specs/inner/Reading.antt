@@ -1,6 +1,7 @@
 -- Reading the parts of a record from left to right, where the bytes may break off. This is the
 -- project's own.
-use Rattle.std.specs.Prelude.{◌≡◌, ℕ, ◌+◌, ◌*◌, ◌-◌, ◌<◌, ◌≤◌, List, [], ◌∷◌, ◌++◌, length, slice_index_or, All, Result, Ok, Err, flat_map}
+use Rattle.std.specs.Prelude.{◌≡◌, ℕ, ◌+◌, ◌*◌, ◌-◌, ◌<◌, ◌≤◌, List, [], ◌∷◌, ◌++◌, length}
+use Rattle.std.specs.Prelude.{slice_index_or, All, Result, Ok, Err, flat_map}
 use Rattle.std.specs.Int.{w16, w32, to_be_bytes}
 use Rattle.httparse.specs.Grammar.{IsToken}
 use Rattle.http_wire.specs.declared.request.Field.{Field}
@@ -15,10 +16,14 @@ use Rattle.edit_journal.specs.declared.field_parsers.FieldError.TheVariants.{Ope
 -- values: a value, as contracts see it, whose bytes are at the front; or that the bytes break off
 -- within such a part; or that they neither begin one nor are the beginning of one. Nothing is said
 -- when out of memory.
-abbrev pub Reads : {A B : Type 0} → (B → A) → (List ℕ → A → Type 0) → List ℕ → Result B FieldError → Type 0
-Reads {A} seen P bytes (Ok value) = (front rest : List ℕ) × (bytes ≡ front ++ rest) × P front (seen value)
-Reads {A} seen P bytes (Err Open) = (more : List ℕ) × (value : A) × (0 < length more) × P (bytes ++ more) value
-Reads {A} seen P bytes (Err Wrong) = (all : List ℕ) (value : A) (more rest : List ℕ) → P all value → ¬ (bytes ++ more ≡ all ++ rest)
+abbrev pub Reads : {A B : Type 0} → (B → A) → (List ℕ → A → Type 0) → List ℕ → Result B FieldError
+    → Type 0
+Reads {A} seen P bytes (Ok value) =
+    (front rest : List ℕ) × (bytes ≡ front ++ rest) × P front (seen value)
+Reads {A} seen P bytes (Err Open) =
+    (more : List ℕ) × (value : A) × (0 < length more) × P (bytes ++ more) value
+Reads {A} seen P bytes (Err Wrong) =
+    (all : List ℕ) (value : A) (more rest : List ℕ) → P all value → ¬ (bytes ++ more ≡ all ++ rest)
 Reads {A} seen P bytes (Err NoMemory) = Unit {0}
 
 -- a number in four bytes, between two bounds
@@ -31,7 +36,8 @@ Short least most bytes value = (bytes ≡ to_be_bytes w16 value) × (least ≤ v
 
 -- a length between two bounds, and that many bytes
 abbrev pub Block : ℕ → ℕ → List ℕ → List ℕ → Type 0
-Block least most bytes value = (bytes ≡ block value) × (least ≤ length value) × (length value ≤ most)
+Block least most bytes value =
+    (bytes ≡ block value) × (least ≤ length value) × (length value ≤ most)
 
 -- likewise, and the bytes are a token
 abbrev pub Name : ℕ → ℕ → List ℕ → List ℕ → Type 0
@@ -44,14 +50,18 @@ HasRoom count left = (9 * count + 4 ≤ left) × (count ≡ 0 → left ≤ max_b
 
 -- the value of a field, where `left` bytes have it, `others` more fields and a body
 abbrev pub Value : ℕ → ℕ → List ℕ → List ℕ → Type 0
-Value others left bytes value = (bytes ≡ block value) × (4 + length value ≤ left) × HasRoom others (left - (4 + length value))
+Value others left bytes value =
+    (bytes ≡ block value) × (4 + length value ≤ left) × HasRoom others (left - (4 + length value))
 
 -- a field, where `left` bytes have it, `others` more fields and a body
 abbrev pub FieldPart : ℕ → ℕ → List ℕ → Field → Type 0
-FieldPart others left bytes field = (bytes ≡ field_text field) × IsToken field.name × (length bytes ≤ left) × HasRoom others (left - length bytes)
+FieldPart others left bytes field =
+    (bytes ≡ field_text field) × IsToken field.name × (length bytes ≤ left)
+    × HasRoom others (left - length bytes)
 
 -- `count` fields and the body, which fill `left` bytes
-pub record FieldsAndBody (count left : ℕ) (bytes : List ℕ) (value : List Field × List ℕ) : Type 0 where
+pub record FieldsAndBody (count left : ℕ) (bytes : List ℕ)
+    (value : List Field × List ℕ) : Type 0 where
   pub is : bytes ≡ flat_map field_text value.0 ++ block value.1
   pub fields : length value.0 ≡ count
   pub names : All (λ (field : Field). IsToken field.name) value.0
@@ -60,7 +70,8 @@ pub record FieldsAndBody (count left : ℕ) (bytes : List ℕ) (value : List Fie
 
 -- the number of fields, the fields and the body, which fill `left` bytes
 pub record Rest (left : ℕ) (bytes : List ℕ) (value : List Field × List ℕ) : Type 0 where
-  pub is : bytes ≡ to_be_bytes w16 (length value.0) ++ (flat_map field_text value.0 ++ block value.1)
+  pub is : bytes
+      ≡ to_be_bytes w16 (length value.0) ++ (flat_map field_text value.0 ++ block value.1)
   pub few : length value.0 ≤ max_field_lines
   pub names : All (λ (field : Field). IsToken field.name) value.0
   pub body : length value.1 ≤ max_body_bytes
@@ -72,7 +83,8 @@ Method bytes value = (bytes ≡ method_number value ∷ []) × (0 < method_numbe
 
 -- what a record has after its length
 abbrev pub Content : ℕ → List ℕ → Request → Type 0
-Content len bytes request = IsRecordedRequest request × (bytes ≡ record_content request) × (length bytes ≡ len)
+Content len bytes request =
+    IsRecordedRequest request × (bytes ≡ record_content request) × (length bytes ≡ len)
 
 -- a record
 abbrev pub Record : List ℕ → Request → Type 0
@@ -80,7 +92,10 @@ Record bytes request = IsRecordedRequest request × (bytes ≡ record_of request
 
 -- the number that four bytes write, where missing bytes have the given value
 abbrev pub padded_u32 : List ℕ → ℕ → ℕ
-padded_u32 bytes lacking = slice_index_or bytes 0 lacking * 16_777_216 + (slice_index_or bytes 1 lacking * 65_536 + (slice_index_or bytes 2 lacking * 256 + slice_index_or bytes 3 lacking))
+padded_u32 bytes lacking =
+    slice_index_or bytes 0 lacking * 16_777_216
+    + (slice_index_or bytes 1 lacking * 65_536
+    + (slice_index_or bytes 2 lacking * 256 + slice_index_or bytes 3 lacking))
 
 -- the number that two bytes write, likewise
 abbrev pub padded_u16 : List ℕ → ℕ → ℕ

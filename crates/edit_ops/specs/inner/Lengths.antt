@@ -3,11 +3,14 @@
 use Rattle.std.specs.Prelude.{ℕ, ◌+◌, flat_map, option_to_list, slice_get, if◌then◌else◌, find}
 use Rattle.xml_tree.specs.Tree.{Tree, child_elements_of}
 use Rattle.xml_tree.specs.Edits.{cut, own_number}
-use Rattle.xml_tree.specs.Print.{byte_len, is_empty, print, print_attr, print_name}
-use Rattle.xml_tree.specs.declared.names.Name.{Name}
-use Rattle.xml_tree.specs.Attributes.{is_written_so}
+use Rattle.xml_names.specs.Markup.{byte_len, print_attr, print_name}
+use Rattle.xml_tree.specs.Print.{is_empty, print}
+use Rattle.xml_names.specs.declared.names.Name.{Name}
+use Rattle.xml_names.specs.Attributes.{is_written_so}
 use Rattle.edit_ops.specs.declared.change.Change.{Change}
-use Rattle.edit_ops.specs.declared.change.Change.TheVariants.{CreateDocument, Insert, Replace, Remove, SetAttr, DropAttr, RemoveDocument}
+use Rattle.edit_ops.specs.declared.change.Change.TheVariants.{CreateDocument, Insert, Replace}
+use Rattle.edit_ops.specs.declared.change.Change.TheVariants.{Remove, SetAttr, DropAttr}
+use Rattle.edit_ops.specs.declared.change.Change.TheVariants.{RemoveDocument}
 
 -- by how much `>` and an end tag of this name are longer than `/>`
 abbrev pub end_tag_len : Name → ℕ
@@ -20,17 +23,22 @@ lost (CreateDocument root) e = 0
 lost (Insert parent gap element) e = 0
 lost (Replace p element) e = byte_len (print e)
 lost (Remove p) e =
-    byte_len (flat_map print (option_to_list (slice_get (child_elements_of e) (own_number p)))) + (if is_empty (cut (own_number p) e.content) then end_tag_len e.name else 0)
-lost (SetAttr p name value) e = byte_len (flat_map print_attr (option_to_list (find (is_written_so name) e.attrs)))
-lost (DropAttr p name) e = byte_len (flat_map print_attr (option_to_list (find (is_written_so name) e.attrs)))
+    byte_len (flat_map print (option_to_list (slice_get (child_elements_of e) (own_number p))))
+    + (if is_empty (cut (own_number p) e.content) then end_tag_len e.name else 0)
+lost (SetAttr p name value) e =
+    byte_len (flat_map print_attr (option_to_list (find (is_written_so name) e.attrs)))
+lost (DropAttr p name) e =
+    byte_len (flat_map print_attr (option_to_list (find (is_written_so name) e.attrs)))
 lost RemoveDocument e = 0
 
 -- the new child, the replacement or the new attribute; with the first node an end tag is added
 abbrev pub inserted_part : Change → Tree → ℕ
 inserted_part (CreateDocument root) e = 0
-inserted_part (Insert parent gap element) e = byte_len (print element) + (if is_empty e.content then end_tag_len e.name else 0)
+inserted_part (Insert parent gap element) e =
+    byte_len (print element) + (if is_empty e.content then end_tag_len e.name else 0)
 inserted_part (Replace p element) e = byte_len (print element)
 inserted_part (Remove p) e = 0
-inserted_part (SetAttr p name value) e = byte_len (print_attr (record { name = name; value = value }))
+inserted_part (SetAttr p name value) e =
+    byte_len (print_attr (record { name = name; value = value }))
 inserted_part (DropAttr p name) e = 0
 inserted_part RemoveDocument e = 0

@@ -3,7 +3,9 @@ use Rattle.std.specs.Prelude.{◌<◌, ◌≤◌, length}
 use Rattle.xml_tree.specs.Tree.{Tree, child_elements_of}
 use Rattle.xml_tree.specs.Edits.{cut_child, drop_attr, own_number, put_kid, write_attr, TextsMeet}
 use Rattle.edit_ops.specs.declared.change.Change.{Change}
-use Rattle.edit_ops.specs.declared.change.Change.TheVariants.{CreateDocument, Insert, Replace, Remove, SetAttr, DropAttr, RemoveDocument}
+use Rattle.edit_ops.specs.declared.change.Change.TheVariants.{CreateDocument, Insert, Replace}
+use Rattle.edit_ops.specs.declared.change.Change.TheVariants.{Remove, SetAttr, DropAttr}
+use Rattle.edit_ops.specs.declared.change.Change.TheVariants.{RemoveDocument}
 
 -- that element afterwards
 abbrev pub made_here : Change → Tree → Tree

@@ -1,7 +1,7 @@
 -- Lengths of the parts of an operation's text, in bytes as UTF-8. XML 1.0, sections 2.3, 2.4 and
 -- 3.1.
 use Rattle.std.specs.Prelude.{ℕ, ◌+◌, List, [], ◌∷◌, flat_map}
-use Rattle.xml_tree.specs.Print.{byte_len, print_text, value_escape}
+use Rattle.xml_names.specs.Markup.{byte_len, print_text, value_escape}
 
 -- a value as it is written between its quotes
 abbrev pub written_len : List ℕ → ℕ

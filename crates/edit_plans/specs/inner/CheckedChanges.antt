@@ -4,7 +4,6 @@ use Rattle.doc_names.specs.declared.usages.Usage.{Usage}
 use Rattle.std.specs.Option.{option_copied}
 use Rattle.xml_tree.specs.Tree.{Tree}
 use Rattle.xml_tree.specs.Edits.{put_over}
-use Rattle.xml_tree.specs.declared.names.Attr.{Attr}
 use Rattle.node_select.specs.Selection.{Found}
 use Rattle.node_select.specs.declared.selector.Selector.{Selector}
 use Rattle.usage_docs.specs.Validation.{HasFirstFault}
@@ -13,8 +12,8 @@ use Rattle.edit_ops.specs.declared.change.Change.{Change}
 use Rattle.edit_ops.specs.declared.change.Change.TheVariants.{Insert}
 use Rattle.edit_rules.specs.declared.refusal.EditRefusal.{EditRefusal}
 use Rattle.edit_rules.specs.Attributes.{FindsValue}
+use Rattle.edit_rules.specs.Contexts.{AttrPlace, EditContext}
 use Rattle.edit_rules.specs.declared.refusal.EditRefusal.TheVariants.{Faulty}
-use Rattle.edit_rules.specs.Tags.{with_attrs}
 use Rattle.edit_plans.specs.declared.child_attributes.AttributeEdit.{AttributeEdit}
 use Rattle.edit_plans.specs.inner.ChildChanges.{not_found_refusal}
 
@@ -25,11 +24,13 @@ IsTold (Some fault) result = result ≡ Err (Faulty fault)
 
 -- by its first fault in the application usage
 abbrev pub IsJudgedAs : Usage → Tree → Result ℕ EditRefusal → Type 0
-IsJudgedAs u after result = (fault : Option Fault) × (HasFirstFault u after fault × IsTold fault result)
+IsJudgedAs u after result =
+    (fault : Option Fault) × (HasFirstFault u after fault × IsTold fault result)
 
 -- of a lawful change, or this refusal of one that isn't
 abbrev pub IsTestedAs : EditRefusal → Type 0 → Usage → Tree → Result ℕ EditRefusal → Type 0
-IsTestedAs unlawful lawful u after result = ((result ≡ Err unlawful) × (lawful → ⊥)) ⊎ (lawful × IsJudgedAs u after result)
+IsTestedAs unlawful lawful u after result =
+    ((result ≡ Err unlawful) × (lawful → ⊥)) ⊎ (lawful × IsJudgedAs u after result)
 
 -- the change, if it is allowed
 abbrev pub allowed_change : Change → Result ℕ EditRefusal → Result Change EditRefusal
@@ -41,12 +42,17 @@ abbrev pub element_insertion : List ℕ → Tree → Result ℕ EditRefusal → 
 element_insertion q e (Ok gap) = Ok (Insert q gap e)
 element_insertion q e (Err why) = Err why
 
--- the attribute is found with a value at the element at p; or nothing is found
-abbrev pub AsSought : Selector → List ℕ → List ℕ → Tree → List ℕ → Option (List ℕ) → Type 0
-AsSought selector uri local after p (Some value) = FindsValue selector.steps uri local after p value
-AsSought selector uri local after p None = Found after selector → ⊥
+-- the attribute is found at its place with a value; or nothing is found
+abbrev pub AsSought : Selector → AttrPlace → Tree → Option (List ℕ) → Type 0
+AsSought selector place after (Some value) = FindsValue selector.steps place after value
+AsSought selector place after None = Found after selector → ⊥
 
--- the element at p, with these attributes in place of its own
-abbrev pub IsRetaggedAt : Usage → Tree → Selector → List ℕ → Tree → List Attr → AttributeEdit → Result ℕ EditRefusal → Type 0
-IsRetaggedAt u t selector p e ats sought result =
-    IsTestedAs (not_found_refusal (option_copied sought.value)) (AsSought selector sought.uri.now sought.local.now (put_over p (with_attrs ats e) t) p (option_copied sought.value)) u (put_over p (with_attrs ats e) t) result
+-- the result for the element at p with another start tag
+abbrev pub IsRetaggedAt : EditContext → List ℕ → Tree → AttributeEdit → Result ℕ EditRefusal
+    → Type 0
+IsRetaggedAt context p retagged sought result =
+    let after = put_over p retagged context.document in
+    let wanted = option_copied sought.value in
+    let place : AttrPlace = record { path = p; uri = sought.uri.now; local = sought.local.now } in
+    IsTestedAs (not_found_refusal wanted) (AsSought context.selector place after wanted)
+    context.usage after result

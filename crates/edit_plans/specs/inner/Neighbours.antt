@@ -17,7 +17,8 @@ part_in (Some row) c e = part_of_child row c e
 -- without an element kind it may
 abbrev pub fits_between : Option ElementKind → Bool → ℕ → ℕ → ℕ → Bool
 fits_between None itself before part after = true
-fits_between (Some row) itself before part after = itself && (follows row before part && follows row part after)
+fits_between (Some row) itself before part after =
+    itself && (follows row before part && follows row part after)
 
 -- the new element fits the insertion point by the element kind, if there is one
 abbrev pub FitsIn : Option ElementKind → Scope → Content → Tree → ℕ → Type 0

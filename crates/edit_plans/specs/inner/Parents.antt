@@ -1,6 +1,6 @@
 -- A property of a parent, stated at an element above it.
 use Rattle.std.specs.Prelude.{◌≡◌, ◌++◌, ℕ, List, Option, Some}
-use Rattle.xml_tree.specs.Scopes.{scope_below}
+use Rattle.xml_tree.specs.TreeScopes.{scope_below}
 use Rattle.xml_tree.specs.Tree.{Tree, at}
 use Rattle.usage_docs.specs.declared.schema_table.ElementKind.{ElementKind}
 use Rattle.usage_docs.specs.SchemaTable.{Scope}
@@ -8,5 +8,8 @@ use Rattle.usage_docs.specs.inner.Kinds.{row_below}
 
 -- the path leads from an element of this kind, if it has one, in the scope inside it, to a parent
 -- of which P holds, in the scope inside that and by its element kind
-abbrev pub Below : (Option ElementKind → Scope → Tree → Type 0) → Option ElementKind → Scope → Tree → List ℕ → Type 0
-Below P row c e way = (parent : Tree) → at way e ≡ Some parent → P (row_below row c e way) (c ++ scope_below way e) parent
+abbrev pub Below : (Option ElementKind → Scope → Tree → Type 0) → Option ElementKind → Scope → Tree
+    → List ℕ → Type 0
+Below P row c e way =
+    (parent : Tree) → at way e ≡ Some parent
+    → P (row_below row c e way) (c ++ scope_below way e) parent

@@ -4,9 +4,12 @@ use Rattle.xml_tree.specs.Tree.{Tree}
 use Rattle.node_select.specs.Selection.{is_attr, is_tested}
 use Rattle.node_select.specs.declared.selector.Step.{Step}
 use Rattle.usage_docs.specs.SchemaTable.{Scope}
-use Rattle.xml_tree.specs.Scopes.{inside}
+use Rattle.xml_tree.specs.TreeScopes.{inside}
 
 -- the value that a step and the name of an attribute find in a child with this start tag: none if
 -- the step doesn't test the attribute, or the attribute is absent
 abbrev pub value_in : Scope → Step → List ℕ → List ℕ → Tree → Option (List ℕ)
-value_in c step uri local tag = if is_tested c step tag then option_map (λ a. a.value) (find (is_attr (inside c tag) uri local) tag.attrs) else None
+value_in c step uri local tag =
+    if is_tested c step tag
+    then option_map (λ a. a.value) (find (is_attr (inside c tag) uri local) tag.attrs)
+    else None

@@ -1,5 +1,6 @@
 -- Key addresses as the code tests them, from the root down.
-use Rattle.std.specs.Prelude.{ℕ, Bool, true, false, ◌&&◌, List, [], ◌∷◌, Option, None, Some, is_none, slice_get}
+use Rattle.std.specs.Prelude.{ℕ, Bool, true, false, ◌&&◌, List, [], ◌∷◌, Option, None, Some}
+use Rattle.std.specs.Prelude.{is_none, slice_get}
 use Rattle.std.specs.Option.{option_map_or}
 use Rattle.std.specs.Str.{bytes_eq}
 use Rattle.xml_tree.specs.Tree.{Tree, child_elements_of}
@@ -15,7 +16,7 @@ use Rattle.usage_docs.specs.declared.schema_table.ElementKind.{ElementKind}
 use Rattle.usage_docs.specs.declared.schema_table.Key.{Key}
 use Rattle.usage_docs.specs.SchemaTable.{Scope, kind_of, root_kind}
 use Rattle.usage_docs.specs.Keys.{key_of, word}
-use Rattle.xml_tree.specs.Scopes.{inside}
+use Rattle.xml_tree.specs.TreeScopes.{inside}
 
 -- whether a step tests a name
 abbrev pub has_name : NameTest → Bool
@@ -45,7 +46,12 @@ abbrev pub are_steps_along : ElementKind → Scope → List Tree → List Step �
 are_steps_along row c child_elements steps [] = true
 are_steps_along row c child_elements [] (i ∷ p) = true
 are_steps_along row c child_elements (step ∷ steps) (i ∷ p) =
-    option_map_or (λ child_element. option_map_or (λ kind. is_step_of kind step && are_steps_along kind (inside c child_element) (child_elements_of child_element) steps p) (kind_of row (inside c child_element) child_element.name) false) (slice_get child_elements i) false
+    option_map_or (λ child_element.
+    option_map_or (λ kind.
+    is_step_of kind step
+    && are_steps_along kind (inside c child_element) (child_elements_of child_element) steps p)
+    (kind_of row (inside c child_element) child_element.name) false)
+    (slice_get child_elements i) false
 
 -- whether a selector ends in an element
 abbrev pub ends_in_element : End → Bool
@@ -56,7 +62,9 @@ ends_in_element Namespaces = false
 -- whether the first step is only a name, and the others are key steps along a path of a document
 abbrev pub are_key_steps : Usage → Tree → List Step → List ℕ → Bool
 are_key_steps u t [] p = false
-are_key_steps u t (first ∷ later) p = is_name_alone first && are_steps_along (root_kind u) (t.decls ∷ []) (child_elements_of t) later p
+are_key_steps u t (first ∷ later) p =
+    is_name_alone first
+    && are_steps_along (root_kind u) (t.decls ∷ []) (child_elements_of t) later p
 
 abbrev pub is_key_address : Usage → Tree → Selector → List ℕ → Bool
 is_key_address u t selector p = ends_in_element selector.end && are_key_steps u t selector.steps p

@@ -1,11 +1,15 @@
 -- Where an element was before changes that don't touch it, computed.
-use Rattle.std.specs.Prelude.{ℕ, Bool, true, false, ◌==◌, ◌&&◌, ◌||◌, not, List, [], ◌∷◌, ◌++◌, Option, None, Some, is_some, option_map, option_and_then, if◌then◌else◌}
+use Rattle.std.specs.Prelude.{ℕ, Bool, true, false, ◌==◌, ◌&&◌, ◌||◌, not, List, [], ◌∷◌, ◌++◌}
+use Rattle.std.specs.Prelude.{Option, None, Some, is_some, option_map, option_and_then}
+use Rattle.std.specs.Prelude.{if◌then◌else◌}
 use Rattle.std.specs.Str.{bytes_eq}
 use Rattle.xml_tree.specs.Edits.{own_number, parent_path}
-use Rattle.xml_tree.specs.declared.names.Name.{Name}
+use Rattle.xml_names.specs.declared.names.Name.{Name}
 use Rattle.edit_ops.specs.MovedPaths.{behind, closed_up, made_room, under}
 use Rattle.edit_ops.specs.declared.change.Change.{Change}
-use Rattle.edit_ops.specs.declared.change.Change.TheVariants.{CreateDocument, Insert, Replace, Remove, SetAttr, DropAttr, RemoveDocument}
+use Rattle.edit_ops.specs.declared.change.Change.TheVariants.{CreateDocument, Insert, Replace}
+use Rattle.edit_ops.specs.declared.change.Change.TheVariants.{Remove, SetAttr, DropAttr}
+use Rattle.edit_ops.specs.declared.change.Change.TheVariants.{RemoveDocument}
 use Rattle.edit_ops.specs.Notes.{Note}
 
 -- the path before another child was inserted at insertion point j: None for that child
@@ -14,7 +18,8 @@ without_gap j [] = Some []
 without_gap j (n ∷ r) = if n == j then None else Some (closed_up j (n ∷ r))
 
 -- a path whose part after q, if it has one, is changed by f, unless f gives None
-abbrev pub re_routed_if : (List ℕ → Option (List ℕ)) → List ℕ → List ℕ → Option (List ℕ) → Option (List ℕ)
+abbrev pub re_routed_if : (List ℕ → Option (List ℕ)) → List ℕ → List ℕ → Option (List ℕ)
+    → Option (List ℕ)
 re_routed_if f q p None = Some p
 re_routed_if f q p (Some r) = option_map (λ s. q ++ s) (f r)
 
@@ -30,9 +35,15 @@ is_touched q w name = is_some (behind q w) || (is_some (behind w q) && bytes_eq 
 -- where the element at q was before the change: None where the change inserted or touched it
 abbrev pub came_from : List ℕ → Change → Option (List ℕ)
 came_from q (CreateDocument root) = None
-came_from q (Insert parent gap element) = if is_some (behind q parent) then None else re_routed_if (without_gap gap) parent q (behind parent q)
-came_from q (Replace w element) = if is_some (behind q w) || is_some (behind w q) then None else Some q
-came_from q (Remove w) = if is_below_root w && not (is_some (behind q (parent_path w))) then Some (under (made_room (own_number w)) (parent_path w) q) else None
+came_from q (Insert parent gap element) =
+    if is_some (behind q parent) then None
+    else re_routed_if (without_gap gap) parent q (behind parent q)
+came_from q (Replace w element) =
+    if is_some (behind q w) || is_some (behind w q) then None else Some q
+came_from q (Remove w) =
+    if is_below_root w && not (is_some (behind q (parent_path w)))
+    then Some (under (made_room (own_number w)) (parent_path w) q)
+    else None
 came_from q (SetAttr w name value) = if is_touched q w name then None else Some q
 came_from q (DropAttr w name) = if is_touched q w name then None else Some q
 came_from q RemoveDocument = None

@@ -6,5 +6,7 @@ use Rattle.http_serve.specs.Endings.{FaultsBy}
 
 -- what a connection that ended so, or may go on, says about the fault counters
 abbrev pub FaultsSoFar : Option CloseReason → StreamState → StreamState → Type 0
-FaultsSoFar None old new = (new.read_faults ≡ old.read_faults) × (new.write_faults ≡ old.write_faults)
-FaultsSoFar (Some ended) old new = FaultsBy ended old.read_faults new.read_faults old.write_faults new.write_faults
+FaultsSoFar None old new =
+    (new.read_faults ≡ old.read_faults) × (new.write_faults ≡ old.write_faults)
+FaultsSoFar (Some ended) old new =
+    FaultsBy ended old.read_faults new.read_faults old.write_faults new.write_faults

@@ -1,10 +1,12 @@
 -- One turn of a connection: the next request is answered, reported and replied to. RFC 9112,
 -- sections 9.3 and 9.6.
-use Rattle.std.specs.Prelude.{◌≡◌, ℕ, ◌+◌, ◌⊎◌, Bool, true, false, List, ◌++◌, Option, None, Some, option_to_list}
+use Rattle.std.specs.Prelude.{◌≡◌, ℕ, ◌+◌, ◌⊎◌, Bool, true, false, List, ◌++◌, Option, None, Some}
+use Rattle.std.specs.Prelude.{option_to_list}
 use Rattle.reply_text.specs.ReplyHeads.{SentReply, bytes_of, plain}
 use Rattle.http_wire.specs.declared.request.Request.{Request}
 use Rattle.http_wire.specs.declared.request.Asked.{Asked}
-use Rattle.http_wire.specs.declared.request.Asked.TheVariants.{Request as Requested, Bad, TooLong, Coded, End, NoMemory}
+use Rattle.http_wire.specs.declared.request.Asked.TheVariants.{Request as Requested, Bad, TooLong}
+use Rattle.http_wire.specs.declared.request.Asked.TheVariants.{Coded, End, NoMemory}
 use Rattle.http_wire.specs.Asking.{RequestReaderState}
 use Rattle.http_wire.specs.Serving.{EndsBy, GoesOn}
 use Rattle.xcap_io.specs.Causes.{StreamState}
@@ -24,14 +26,16 @@ AsksRead NoMemory = Unit {0}
 
 -- the fixed reply of this status, which changes nothing
 abbrev pub IsFixed : {M E : Type 0} → ℕ → M → SentReply → Option E → M → Type 0
-IsFixed status machine reply edit next = (reply ≡ plain status true) × (edit ≡ None) × (next ≡ machine)
+IsFixed status machine reply edit next =
+    (reply ≡ plain status true) × (edit ≡ None) × (next ≡ machine)
 
 module _ {M E : Type 0} (Step : M → Request → List ℕ → M → Option E → Type 0) where
   -- How the reader's result is answered: a request by the machine, or when out of memory by the
   -- fixed 503; at the end there is no reply.
   abbrev pub AnswersAsked : M → Asked → SentReply → Option E → M → Type 0
   AnswersAsked machine (Requested request) reply edit next =
-      (Step machine request (bytes_of reply) next edit × (reply.closes ≡ request.closes)) ⊎ IsFixed 503 machine reply edit next
+      (Step machine request (bytes_of reply) next edit × (reply.closes ≡ request.closes))
+      ⊎ IsFixed 503 machine reply edit next
   AnswersAsked machine Bad reply edit next = IsFixed 400 machine reply edit next
   AnswersAsked machine TooLong reply edit next = IsFixed 413 machine reply edit next
   AnswersAsked machine Coded reply edit next = IsFixed 501 machine reply edit next
@@ -41,20 +45,25 @@ module _ {M E : Type 0} (Step : M → Request → List ℕ → M → Option E �
   -- What a turn did after `before` requests, by the bytes given after them and whether a read
   -- found the end: a request was answered, after which the connection goes on and these bytes are
   -- buffered; or the connection ended.
-  abbrev pub Did : Option CloseReason → ℕ → M → List ℕ → Bool → List ℕ → M → Option E → List ℕ → Type 0
-  Did None before machine given end written next edit held = GoesOn Step fixed before machine given written next edit held
+  abbrev pub Did : Option CloseReason → ℕ → M → List ℕ → Bool → List ℕ → M → Option E → List ℕ
+      → Type 0
+  Did None before machine given end written next edit held =
+      GoesOn Step fixed before machine given written next edit held
   Did (Some ended) before machine given end written next edit held =
       EndsBy Step fixed ended before machine given end written next edit
 
   -- Some bytes were read and some written, and the watchers were notified of the edit, if there
   -- was one.
-  pub record ConnectionTurn {W : Type 0} (Keeps : List E → W → W → Type 0) (result : Option CloseReason) (request_reader request_reader' : RequestReaderState) (machine next : M) (old new : StreamState) (watchers watchers' : W) : Type 0 where
+  pub record ConnectionTurn {W : Type 0} (Keeps : List E → W → W → Type 0)
+      (result : Option CloseReason) (request_reader request_reader' : RequestReaderState)
+      (machine next : M) (old new : StreamState) (watchers watchers' : W) : Type 0 where
     pub read : List ℕ
     pub written : List ℕ
     pub edit : Option E
     pub gave : Gave old.inward new.inward read
     pub took : Took old.taken new.taken written
-    pub did : Did result request_reader.requests machine (request_reader.held ++ read) new.inward.ended written next edit request_reader'.held
+    pub did : Did result request_reader.requests machine (request_reader.held ++ read)
+        new.inward.ended written next edit request_reader'.held
     pub kept : Keeps (option_to_list edit) watchers watchers'
 
 -- A reader that returned a request which doesn't close goes on.

@@ -1,11 +1,16 @@
 -- The chunked decoder as a state machine: its state, and the next state after each byte. `Chunked`
 -- says what a chunked body is; that both agree is proved.
-use Rattle.std.specs.Prelude.{◌≡◌, ℕ, ◌+◌, ◌-◌, ◌*◌, ◌≤◌, min, Bool, true, false, not, ◌==◌, nat_lt, nat_le, if◌then◌else◌, List, [], ◌∷◌, ◌++◌, length}
+use Rattle.std.specs.Prelude.{◌≡◌, ℕ, ◌+◌, ◌-◌, ◌*◌, ◌≤◌, min, Bool, true, false, not, ◌==◌, nat_lt}
+use Rattle.std.specs.Prelude.{nat_le, if◌then◌else◌, List, [], ◌∷◌, ◌++◌, length}
 use Rattle.std.specs.Char.{digit_value}
 use Rattle.httparse.specs.Ascii.{line_feed, carriage_return, semicolon}
 use Rattle.httparse.specs.Grammar.{is_ows, is_value_byte}
 use Rattle.http_wire.specs.declared.chunk_decoder.ChunkState.{ChunkState}
-use Rattle.http_wire.specs.declared.chunk_decoder.ChunkState.TheVariants.{Size, Blank, Extension, SizeEnd, Data, DataEnd, Trailers, Trailer, TrailerEnd, LastEnd, Done, Bad, TooLong}
+use Rattle.http_wire.specs.declared.chunk_decoder.ChunkState.TheVariants.{Size, Blank, Extension}
+use Rattle.http_wire.specs.declared.chunk_decoder.ChunkState.TheVariants.{SizeEnd, Data, DataEnd}
+use Rattle.http_wire.specs.declared.chunk_decoder.ChunkState.TheVariants.{Trailers, Trailer}
+use Rattle.http_wire.specs.declared.chunk_decoder.ChunkState.TheVariants.{TrailerEnd, LastEnd, Done}
+use Rattle.http_wire.specs.declared.chunk_decoder.ChunkState.TheVariants.{Bad, TooLong}
 use Rattle.http_wire.specs.Limits.{max_body_bytes, max_digits, max_line_bytes, max_trailer_bytes}
 
 -- the decoder's state, and the data of the chunks so far, joined
@@ -51,8 +56,11 @@ after_digits value len b =
 abbrev pub in_digits : ℕ → ℕ → ℕ → ChunkState
 in_digits digits value b =
     if nat_lt (digit_value b) 16
-    then (if nat_lt digits max_digits then Size (digits + 1) (min (value * 16 + digit_value b) (max_body_bytes + 1)) else Bad)
-    else (if digits == 0 then Bad else after_digits value digits b)
+    then (if nat_lt digits max_digits
+    then Size (digits + 1) (min (value * 16 + digit_value b) (max_body_bytes + 1))
+    else Bad)
+    else if digits == 0 then Bad
+    else after_digits value digits b
 
 -- a byte of an extension
 abbrev pub in_extension : ℕ → ℕ → ℕ → ChunkState
@@ -120,7 +128,9 @@ is_data TooLong = false
 
 -- the decoding after one more byte
 abbrev pub next_decoding : Decoding → ℕ → Decoding
-next_decoding d b = decoding (next_stage d.stage (length d.body) b) (if is_data d.stage then d.body ++ b ∷ [] else d.body)
+next_decoding d b =
+    decoding (next_stage d.stage (length d.body) b)
+    (if is_data d.stage then d.body ++ b ∷ [] else d.body)
 
 -- all the bytes are read, and none of them after the state is settled
 abbrev pub ReadsOn : Decoding → List ℕ → Decoding → Type 0
@@ -129,9 +139,12 @@ ReadsOn d (b ∷ bytes) new = (is_settled d.stage ≡ false) × ReadsOn (next_de
 
 -- the numbers of a state are within the limits, and the chunk's missing bytes fit the body
 abbrev pub Fits : ChunkState → ℕ → Type 0
-Fits (Size digits value) decoded = (digits ≤ max_digits) × (value ≤ max_body_bytes + 1) × (decoded ≤ max_body_bytes)
-Fits (Blank value len) decoded = (value ≤ max_body_bytes + 1) × (len ≤ max_line_bytes - 2) × (decoded ≤ max_body_bytes)
-Fits (Extension value len) decoded = (value ≤ max_body_bytes + 1) × (len ≤ max_line_bytes - 2) × (decoded ≤ max_body_bytes)
+Fits (Size digits value) decoded =
+    (digits ≤ max_digits) × (value ≤ max_body_bytes + 1) × (decoded ≤ max_body_bytes)
+Fits (Blank value len) decoded =
+    (value ≤ max_body_bytes + 1) × (len ≤ max_line_bytes - 2) × (decoded ≤ max_body_bytes)
+Fits (Extension value len) decoded =
+    (value ≤ max_body_bytes + 1) × (len ≤ max_line_bytes - 2) × (decoded ≤ max_body_bytes)
 Fits (SizeEnd value) decoded = (value ≤ max_body_bytes + 1) × (decoded ≤ max_body_bytes)
 Fits (Data left) decoded = decoded + left ≤ max_body_bytes
 Fits DataEnd decoded = decoded ≤ max_body_bytes

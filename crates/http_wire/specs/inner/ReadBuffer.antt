@@ -1,5 +1,6 @@
 -- What reads add to the read buffer of a connection, and what is searched for in it.
-use Rattle.std.specs.Prelude.{ℕ, List, ◌++◌, ◌≡◌, ◌+◌, ◌<◌, ◌≤◌, ◌⊎◌, map, length, drop, take, Option, None, Some, Bool, true, false, Result, Ok, Err}
+use Rattle.std.specs.Prelude.{ℕ, List, ◌++◌, ◌≡◌, ◌+◌, ◌<◌, ◌≤◌, ◌⊎◌, map, length, drop, take}
+use Rattle.std.specs.Prelude.{Option, None, Some, Bool, true, false, Result, Ok, Err}
 use Rattle.http_wire.specs.Heads.{HasNoHead, BeginsWithHead}
 use Rattle.xcap_io.specs.Causes.{InputState}
 use Rattle.xcap_io.specs.StreamTraffic.{Gave, IsEnded}
@@ -10,13 +11,16 @@ use Rattle.httparse.specs.declared.spans.RequestSpans.{RequestSpans}
 use Rattle.http_wire.specs.declared.head_scan.HeadScan.{HeadScan}
 use Rattle.http_wire.specs.declared.head_scan.HeadScan.TheVariants.{Head, Open, Hopeless}
 use Rattle.http_wire.specs.declared.framing.Framing.{Framing}
-use Rattle.http_wire.specs.declared.framing.Framing.TheVariants.{Bad as BadFields, Coded, TooLong as LongBody, Length, Chunked}
+use Rattle.http_wire.specs.declared.framing.Framing.TheVariants.{Bad as BadFields, Coded}
+use Rattle.http_wire.specs.declared.framing.Framing.TheVariants.{TooLong as LongBody, Length}
+use Rattle.http_wire.specs.declared.framing.Framing.TheVariants.{Chunked}
 use Rattle.http_wire.specs.declared.body_decoder.DecodeResult.{DecodeResult}
 use Rattle.http_wire.specs.declared.body_decoder.DecodeResult.TheVariants.{Whole, TooLong, Bad, Cut}
 use Rattle.http_wire.specs.Limits.{max_body_bytes, max_head_bytes}
 use Rattle.http_wire.specs.Framing.{framing}
 use Rattle.http_wire.specs.inner.Decoding.{Decoding, start, is_settled, ReadsOn}
-use Rattle.http_wire.specs.Chunked.{ChunkedBody, ReadsBody, HasNoBody, MayBecomeBody, PassesLimit, chunk_data}
+use Rattle.http_wire.specs.Chunked.{ChunkedBody, ReadsBody, HasNoBody, MayBecomeBody, PassesLimit}
+use Rattle.http_wire.specs.Chunked.{chunk_data}
 use Rattle.http_wire.specs.declared.limits.TheConstants.{MAX_HELD}
 
 -- the capacity of the read buffer
@@ -44,7 +48,8 @@ HoldsOrEnded true count held source = count ≤ length held
 HoldsOrEnded false count held source = (length held < count) × IsEnded source
 
 -- the spans cover the parts of the head at the front
-pub record IsHeadAt (bytes : List ℕ) (headers : List HeaderSpan) (spans : RequestSpans) (head : RequestHead) : Type 0 where
+pub record IsHeadAt (bytes : List ℕ) (headers : List HeaderSpan) (spans : RequestSpans)
+    (head : RequestHead) : Type 0 where
   pub begins : BeginsWithHead bytes head (drop spans.len bytes)
   pub within : IsRequestWithin bytes headers spans
   pub parts : IsRequestAt bytes headers spans head
@@ -58,11 +63,14 @@ IsFront bytes headers Hopeless = NeverHasHead bytes × (0 < length bytes)
 -- a head is at the front, or none is possible however the bytes go on, or none because they have
 -- ended
 abbrev pub HeadOrNone : List ℕ → InputState → List HeaderSpan → Option RequestSpans → Type 0
-HeadOrNone held source headers (Some spans) = (head : RequestHead) × IsHeadAt held headers spans head
-HeadOrNone held source headers None = (NeverHasHead held × (0 < length held)) ⊎ (HasNoHead held × IsEnded source)
+HeadOrNone held source headers (Some spans) =
+    (head : RequestHead) × IsHeadAt held headers spans head
+HeadOrNone held source headers None =
+    (NeverHasHead held × (0 < length held)) ⊎ (HasNoHead held × IsEnded source)
 
 -- a head was found at the front, and its fields give this framing
-pub record IsOpenAt (bytes : List ℕ) (headers : List HeaderSpan) (spans : RequestSpans) (what : Framing) : Type 0 where
+pub record IsOpenAt (bytes : List ℕ) (headers : List HeaderSpan) (spans : RequestSpans)
+    (what : Framing) : Type 0 where
   pub head : RequestHead
   pub at : IsHeadAt bytes headers spans head
   pub framed : framing head.minor (map name_and_value head.fields) ≡ what
@@ -88,17 +96,20 @@ HasNoBodyYet raw = HasNoBody raw × ¬ (PassesLimit raw)
 
 -- the result of decoding the bytes after a head is right
 abbrev pub IsDecoded : List ℕ → InputState → DecodeResult → List ℕ → List ℕ → ℕ → Type 0
-IsDecoded raw source (Whole end) body held head = (head ≤ end) × (end ≤ length held) × HasBody raw body (drop end held)
+IsDecoded raw source (Whole end) body held head =
+    (head ≤ end) × (end ≤ length held) × HasBody raw body (drop end held)
 IsDecoded raw source TooLong body held head = PassesLimit raw
 IsDecoded raw source Bad body held head = (more : List ℕ) → HasNoBodyYet (raw ++ more)
 IsDecoded raw source Cut body held head = HasNoBodyYet raw × IsEnded source
 
-abbrev pub DecodedOrNot : {E : Type 0} → List ℕ → InputState → Result DecodeResult E → List ℕ → List ℕ → ℕ → Type 0
+abbrev pub DecodedOrNot : {E : Type 0} → List ℕ → InputState → Result DecodeResult E → List ℕ
+    → List ℕ → ℕ → Type 0
 DecodedOrNot raw source (Ok decoded) body held head = IsDecoded raw source decoded body held head
 DecodedOrNot raw source (Err e) body held head = MayBecomeBody raw × HasNoBodyYet raw
 
 -- the bytes after the head were decoded as they arrived; the head itself stays buffered
-pub record Decodes {E : Type 0} (head : ℕ) (held : List ℕ) (source : InputState) (result : Result DecodeResult E) (body held' : List ℕ) (source' : InputState) : Type 0 where
+pub record Decodes {E : Type 0} (head : ℕ) (held : List ℕ) (source : InputState)
+    (result : Result DecodeResult E) (body held' : List ℕ) (source' : InputState) : Type 0 where
   pub read : List ℕ
   pub given : Gave source source' read
   pub same_head : take head held' ≡ take head held
@@ -107,7 +118,8 @@ pub record Decodes {E : Type 0} (head : ℕ) (held : List ℕ) (source : InputSt
 
 -- the loop invariant: these bytes after the head were decoded, and the bytes from an offset on are
 -- still buffered
-pub record DecodesSoFar (head : ℕ) (held : List ℕ) (source : InputState) (decoder : Decoding) (held' : List ℕ) (source' : InputState) (used : ℕ) : Type 0 where
+pub record DecodesSoFar (head : ℕ) (held : List ℕ) (source : InputState) (decoder : Decoding)
+    (held' : List ℕ) (source' : InputState) (used : ℕ) : Type 0 where
   pub raw : List ℕ
   pub read : List ℕ
   pub given : Gave source source' read

@@ -4,8 +4,8 @@ use Rattle.std.specs.Coded.{Coded, code_by, coded×, coded_ℕ, coded_list}
 use Rattle.list_resolve.specs.declared.uri_collector.TheConstants.{MARK_LIMIT}
 use Rattle.list_resolve.specs.declared.fault.FlatFault.{FlatFault}
 use Rattle.list_resolve.specs.declared.fault.FlatFault.TheVariants.{NoService, TooWide, TooLarge}
-use Rattle.xml_tree.specs.declared.read_error.ReadError.{ReadError}
-use Rattle.xml_tree.specs.declared.read_error.ReadError.TheVariants.{Fault, NoMemory}
+use Rattle.xml_names.specs.declared.read_error.ReadError.{ReadError}
+use Rattle.xml_names.specs.declared.read_error.ReadError.TheVariants.{Fault, NoMemory}
 use Rattle.list_resolve.specs.declared.document_place.Place.{Place}
 use Rattle.list_resolve.specs.Places.{is_on}
 use Rattle.list_resolve.specs.Walks.{Item, address, mark}
@@ -24,10 +24,14 @@ pub record Gathered : Type 0 where
   pub passed : List Place
 
 abbrev pub tally_code : Coded Tally
-tally_code = code_by (List (List ℕ) × ℕ) (coded× (coded_list (coded_list coded_ℕ)) coded_ℕ) (λ s. (s.uris, s.marks)) (λ p. record { uris = p.0; marks = p.1 }) (λ _. refl)
+tally_code =
+    code_by (List (List ℕ) × ℕ) (coded× (coded_list (coded_list coded_ℕ)) coded_ℕ)
+    (λ s. (s.uris, s.marks)) (λ p. record { uris = p.0; marks = p.1 }) (λ _. refl)
 
 abbrev pub gathered_code : Coded Gathered
-gathered_code = code_by (Tally × List Place) (coded× tally_code (coded_list place_code)) (λ s. (s.tally, s.passed)) (λ p. record { tally = p.0; passed = p.1 }) (λ _. refl)
+gathered_code =
+    code_by (Tally × List Place) (coded× tally_code (coded_list place_code))
+    (λ s. (s.tally, s.passed)) (λ p. record { tally = p.0; passed = p.1 }) (λ _. refl)
 
 abbrev pub no_items : Tally
 no_items = record { uris = []; marks = 0 }
@@ -49,7 +53,11 @@ gathering s item = record { tally = with_item s.tally item; passed = s.passed }
 
 -- with one more place, unless it is there already
 abbrev pub passing : Gathered → Place → Gathered
-passing s place = record { tally = s.tally; passed = if is_on s.passed place then s.passed else (s.passed ++ place ∷ []) }
+passing s place =
+    record {
+      tally = s.tally;
+      passed = if is_on s.passed place then s.passed else (s.passed ++ place ∷ []);
+    }
 
 -- why there is no flat list, or out of memory
 abbrev pub FlatError : Type 0

@@ -9,7 +9,9 @@ use Rattle.list_resolve.specs.Places.{same_place}
 use Rattle.list_resolve.specs.inner.PlaceCodes.{place_fed}
 
 pub places_equiv : IsEquivalence same_place
-places_equiv = and_equiv (on_equiv (λ (p : Place). p.name) nat_list_eq_equiv) (on_equiv (λ (p : Place). p.path) nat_list_eq_equiv)
+places_equiv =
+    and_equiv (on_equiv (λ (p : Place). p.name) nat_list_eq_equiv)
+    (on_equiv (λ (p : Place). p.path) nat_list_eq_equiv)
 
 -- places that pass the test are equal
 pub place_exact : (a b : Place) → same_place a b ≡ true → a ≡ b

@@ -1,5 +1,6 @@
 -- What need not be walked again: an element without references whose addresses are collected.
-use Rattle.std.specs.Prelude.{◌≡◌, ℕ, List, [], Option, Result, Ok, Err, IsTrue, option_and_then, encode_utf8_all}
+use Rattle.std.specs.Prelude.{◌≡◌, ℕ, List, [], Option, Result, Ok, Err, IsTrue, option_and_then}
+use Rattle.std.specs.Prelude.{encode_utf8_all}
 use Rattle.std.specs.List.{AllByRecursion, list_any}
 use Rattle.std.specs.Option.{ForSome}
 use Rattle.std.specs.Str.{bytes_eq}
@@ -34,7 +35,9 @@ lists_named home name = record { auid = ResourceLists; home = home; name = name 
 
 -- the element at a place
 abbrev pub scoped_element_at : ResolutionContext → Place → Option ScopedElement
-scoped_element_at g p = option_and_then (λ root. list_element root p.path) (tree_held g.documents (lists_named g.home p.name))
+scoped_element_at g p =
+    option_and_then (λ root. list_element root p.path)
+    (tree_held g.documents (lists_named g.home p.name))
 
 -- the item is an address among these; a reference never is
 abbrev pub IsGathered : List (List ℕ) → Item → Type 0
@@ -50,13 +53,15 @@ own_items root s = scoped_element_items (λ (r : Reference). []) root s
 
 -- the element at a recorded place has no references, and its addresses are collected
 abbrev pub IsPassed : ResolutionContext → List (List ℕ) → Place → Type 0
-IsPassed g uris place = ForSome (scoped_element_at g place) (λ s. AreGathered uris (own_items g.root s))
+IsPassed g uris place =
+    ForSome (scoped_element_at g place) (λ s. AreGathered uris (own_items g.root s))
 
 -- likewise for all recorded places
 abbrev pub IsSound : ResolutionContext → Gathered → Type 0
 IsSound g s = AllByRecursion (IsPassed g s.tally.uris) s.passed
 
 -- a call collected these items, or failed
-abbrev pub Gathers : {T : Type 0} → ResolutionContext → List Item → Gathered → Gathered → Result T FlatError → Type 0
+abbrev pub Gathers : {T : Type 0} → ResolutionContext → List Item → Gathered → Gathered
+    → Result T FlatError → Type 0
 Gathers g items old new (Ok x) = (new.tally ≡ with_items old.tally items) × IsSound g new
 Gathers g items old new (Err fault) = Fails items old.tally fault

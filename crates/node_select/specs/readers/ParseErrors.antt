@@ -1,9 +1,9 @@
 -- The errors that the code makes of stops.
 use Rattle.std.specs.Prelude.{◌≡◌, ℕ, ◌-◌, List, length, chars}
-use Rattle.xml_tree.specs.declared.read_error.ReadError.{ReadError}
-use Rattle.xml_tree.specs.declared.read_error.ReadError.TheVariants.{Fault, NoMemory}
-use Rattle.tree_text.specs.declared.parse_error.ParseError.{ParseError}
-use Rattle.tree_text.specs.declared.parse_error.ParseError.TheVariants as stops
+use Rattle.xml_names.specs.declared.read_error.ReadError.{ReadError}
+use Rattle.xml_names.specs.declared.read_error.ReadError.TheVariants.{Fault, NoMemory}
+use Rattle.xml_tokens.specs.declared.parse_error.ParseError.{ParseError}
+use Rattle.xml_tokens.specs.declared.parse_error.ParseError.TheVariants as stops
 use Rattle.node_select.specs.declared.name_resolution.Unresolved.{Unresolved}
 use Rattle.node_select.specs.declared.name_resolution.Unresolved.TheVariants as troubles
 use Rattle.node_select.specs.declared.fault.SelectorFault.{SelectorFault}
@@ -11,10 +11,15 @@ use Rattle.node_select.specs.declared.fault.SelectorFault.TheVariants as faults
 use Rattle.node_select.specs.Faults.{byte_of}
 
 abbrev pub Tells : List ℕ → ParseError → ReadError SelectorFault → Type 0
-Tells text (stops.Syntax rest) error = error ≡ Fault (faults.BadSelector (byte_of text (length (chars text) - length (chars rest.now))))
-Tells text (stops.Faulty kind rest) error = error ≡ Fault (faults.BadSelector (byte_of text (length (chars text) - length (chars rest.now))))
+Tells text (stops.Syntax rest) error =
+    error
+    ≡ Fault (faults.BadSelector (byte_of text (length (chars text) - length (chars rest.now))))
+Tells text (stops.Faulty kind rest) error =
+    error
+    ≡ Fault (faults.BadSelector (byte_of text (length (chars text) - length (chars rest.now))))
 Tells text stops.Memory error = error ≡ NoMemory
 
 abbrev pub TellsUnresolved : List ℕ → Unresolved → ReadError SelectorFault → Type 0
-TellsUnresolved text (troubles.Prefix n) error = error ≡ Fault (faults.UnboundPrefix (byte_of text n))
+TellsUnresolved text (troubles.Prefix n) error =
+    error ≡ Fault (faults.UnboundPrefix (byte_of text n))
 TellsUnresolved text troubles.Memory error = error ≡ NoMemory

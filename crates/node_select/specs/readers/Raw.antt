@@ -1,8 +1,9 @@
 -- Selectors as the code reads them: with the prefixes of their names, and with the widths that
 -- give the place of each name.
-use Rattle.std.specs.Prelude.{ℕ, suc, ◌+◌, ◌≤◌, ◌<◌, ◌^◌, List, [], ◌∷◌, Option, None, Some, option_map, if◌then◌else◌}
-use Rattle.xml_tree.specs.declared.names.Name.{Name}
-use Rattle.xml_tree.specs.declared.names.Decl.{Decl}
+use Rattle.std.specs.Prelude.{ℕ, suc, ◌+◌, ◌≤◌, ◌<◌, ◌^◌, List, [], ◌∷◌, Option, None, Some}
+use Rattle.std.specs.Prelude.{option_map, if◌then◌else◌}
+use Rattle.xml_names.specs.declared.names.Name.{Name}
+use Rattle.xml_names.specs.declared.names.Decl.{Decl}
 use Rattle.node_select.specs.declared.selector.NameTest.{NameTest}
 use Rattle.node_select.specs.declared.selector.NameTest.TheVariants.{Any, Named}
 use Rattle.node_select.specs.declared.selector.AttrTest.{AttrTest}
@@ -72,13 +73,16 @@ unbound_test bindings n None = None
 unbound_test bindings n (Some test) = unbound_at bindings n test.0
 
 abbrev pub unbound_in : List Decl → ℕ → RawStep → Option ℕ
-unbound_in bindings n step = first_of (unbound_name bindings n step.name) (unbound_test bindings (n + step.front + 2) step.test)
+unbound_in bindings n step =
+    first_of (unbound_name bindings n step.name)
+    (unbound_test bindings (n + step.front + 2) step.test)
 
 -- the first unbound name of steps, each after the one before and a `/`; then of the end, after
 -- the steps
 abbrev pub unbound_from : List Decl → ℕ → List RawStep → (ℕ → Option ℕ) → Option ℕ
 unbound_from bindings n [] end = end n
-unbound_from bindings n (step ∷ steps) end = first_of (unbound_in bindings n step) (unbound_from bindings (n + step.size + 1) steps end)
+unbound_from bindings n (step ∷ steps) end =
+    first_of (unbound_in bindings n step) (unbound_from bindings (n + step.size + 1) steps end)
 
 -- nothing follows the steps
 abbrev pub no_end : ℕ → Option ℕ
@@ -102,7 +106,8 @@ name_test bindings default None = Any
 name_test bindings default (Some name) = Named (name_uri bindings default name) name.local
 
 abbrev pub attr_test : List Decl → Name × List ℕ → AttrTest
-attr_test bindings test = record { uri = attr_uri bindings test.0; local = test.0.local; value = test.1 }
+attr_test bindings test =
+    record { uri = attr_uri bindings test.0; local = test.0.local; value = test.1 }
 
 abbrev pub step_of : List Decl → List ℕ → RawStep → Step
 step_of bindings default step = record {
@@ -113,7 +118,8 @@ step_of bindings default step = record {
 
 abbrev pub steps_of : List Decl → List ℕ → List RawStep → List Step
 steps_of bindings default [] = []
-steps_of bindings default (step ∷ steps) = step_of bindings default step ∷ steps_of bindings default steps
+steps_of bindings default (step ∷ steps) =
+    step_of bindings default step ∷ steps_of bindings default steps
 
 abbrev pub end_of : List Decl → RawEnd → End
 end_of bindings AtElement = ends.Element
@@ -122,7 +128,8 @@ end_of bindings AtNamespaces = ends.Namespaces
 
 abbrev pub patch_end_of : List Decl → RawPatchEnd → PatchEnd
 patch_end_of bindings PatchElement = patch_ends.Element
-patch_end_of bindings (PatchAttribute name) = patch_ends.Attribute (attr_uri bindings name) name.local
+patch_end_of bindings (PatchAttribute name) =
+    patch_ends.Attribute (attr_uri bindings name) name.local
 patch_end_of bindings (PatchChars position) = patch_ends.Chars position
 
 -- ---- whole selectors: steps and an end
@@ -135,23 +142,27 @@ abbrev pub RawPatchSelector : Type 0
 RawPatchSelector = ℕ × (List RawStep × RawPatchEnd)
 
 abbrev pub selector_of : List Decl → List ℕ → RawSelector → Selector
-selector_of bindings default raw = record { steps = steps_of bindings default raw.0; end = end_of bindings raw.1 }
+selector_of bindings default raw =
+    record { steps = steps_of bindings default raw.0; end = end_of bindings raw.1 }
 
 abbrev pub patch_selector_of : List Decl → List ℕ → RawPatchSelector → PatchSelector
-patch_selector_of bindings default raw = record { steps = steps_of bindings default raw.1.0; end = patch_end_of bindings raw.1.1 }
+patch_selector_of bindings default raw =
+    record { steps = steps_of bindings default raw.1.0; end = patch_end_of bindings raw.1.1 }
 
 -- how many characters come before the first name whose prefix isn't bound
 abbrev pub first_unbound : List Decl → RawSelector → Option ℕ
 first_unbound bindings raw = unbound_from bindings 0 raw.0 (unbound_end bindings raw.1)
 
 abbrev pub first_unbound_in_patch : List Decl → RawPatchSelector → Option ℕ
-first_unbound_in_patch bindings raw = unbound_from bindings raw.0 raw.1.0 (unbound_patch_end bindings raw.1.1)
+first_unbound_in_patch bindings raw =
+    unbound_from bindings raw.0 raw.1.0 (unbound_patch_end bindings raw.1.1)
 
 -- ---- the values made of the parts that are read
 
 -- a step, with the width of its name and position, and of the whole step
 abbrev pub raw_step_of : (((Option Name × Option ℕ) × ℕ) × Option (Name × List ℕ)) × ℕ → RawStep
-raw_step_of x = record { name = x.0.0.0.0; position = x.0.0.0.1; front = x.0.0.1; test = x.0.1; size = x.1 }
+raw_step_of x =
+    record { name = x.0.0.0.0; position = x.0.0.0.1; front = x.0.0.1; test = x.0.1; size = x.1 }
 
 abbrev pub end_or_element : Option RawEnd → RawEnd
 end_or_element None = AtElement

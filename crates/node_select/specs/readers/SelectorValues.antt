@@ -1,7 +1,7 @@
 -- The values that the grammar of selectors makes of their parts, by name for the reader.
 use Rattle.std.specs.Prelude.{ℕ, List, ◌∷◌, Option, unwrap_or}
-use Rattle.xml_tree.specs.declared.names.Name.{Name}
-use Rattle.xml_tree.specs.declared.names.Decl.{Decl}
+use Rattle.xml_names.specs.declared.names.Name.{Name}
+use Rattle.xml_names.specs.declared.names.Decl.{Decl}
 use Rattle.node_select.specs.declared.selector.NameTest.{NameTest}
 use Rattle.node_select.specs.declared.selector.NameTest.TheVariants.{Named}
 use Rattle.node_select.specs.declared.selector.AttrTest.{AttrTest}

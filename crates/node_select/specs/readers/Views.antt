@@ -1,7 +1,7 @@
 -- The values that the types of the code represent in clauses.
 use Rattle.std.specs.Prelude.{ℕ, Bool, List, option_map, map}
-use Rattle.xml_tree.specs.declared.names.Name.{Name}
-use Rattle.tree_text.specs.readers.Views.{name_in}
+use Rattle.xml_names.specs.declared.names.Name.{Name}
+use Rattle.xml_tokens.specs.readers.TokenViews.{name_in}
 use Rattle.node_select.specs.declared.raw_selectors.Form.{Form}
 use Rattle.node_select.specs.declared.raw_selectors.Form.TheVariants.{Node, Patch}
 use Rattle.node_select.specs.declared.raw_selectors.RawTest.{RawTest as CodeTest}
@@ -11,15 +11,26 @@ use Rattle.node_select.specs.declared.raw_selectors.RawEnd.TheVariants as ends
 use Rattle.node_select.specs.declared.raw_selectors.RawPatchEnd.{RawPatchEnd as CodePatchEnd}
 use Rattle.node_select.specs.declared.raw_selectors.RawPatchEnd.TheVariants as patch_ends
 use Rattle.node_select.specs.declared.raw_selectors.RawSelector.{RawSelector as CodeSelector}
-use Rattle.node_select.specs.declared.raw_selectors.RawPatchSelector.{RawPatchSelector as CodePatchSelector}
-use Rattle.node_select.specs.readers.Raw.{RawStep, RawEnd, AtElement, AtAttribute, AtNamespaces, RawPatchEnd, PatchElement, PatchAttribute, PatchChars, RawSelector, RawPatchSelector}
+use Rattle.node_select.specs.declared.raw_selectors.RawPatchSelector.{
+  RawPatchSelector as CodePatchSelector,
+}
+use Rattle.node_select.specs.readers.Raw.{RawStep, RawEnd, AtElement, AtAttribute, AtNamespaces}
+use Rattle.node_select.specs.readers.Raw.{RawPatchEnd, PatchElement, PatchAttribute, PatchChars}
+use Rattle.node_select.specs.readers.Raw.{RawSelector, RawPatchSelector}
 use Rattle.node_select.specs.readers.Selectors.{step_follows, patch_step_follows}
 
 abbrev pub test_in : CodeTest → Name × List ℕ
 test_in t = (name_in t.name, t.value)
 
 abbrev pub step_in : CodeStep → RawStep
-step_in s = record { name = option_map name_in s.name; position = s.position; front = s.front; test = option_map test_in s.test; size = s.size }
+step_in s =
+    record {
+      name = option_map name_in s.name;
+      position = s.position;
+      front = s.front;
+      test = option_map test_in s.test;
+      size = s.size;
+    }
 
 abbrev pub end_in : CodeEnd → RawEnd
 end_in ends.Element = AtElement

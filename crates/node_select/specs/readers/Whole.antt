@@ -2,8 +2,8 @@
 use Rattle.std.specs.Prelude.{ℕ, List, Option, None, Some, Result, Ok, Err, chars}
 use Rattle.xml_grammar.specs.Reading.{Stop}
 use Rattle.xml_grammar.specs.readers.Functions.{read_whole}
-use Rattle.tree_text.specs.declared.fault_kind.FaultKind.{FaultKind}
-use Rattle.xml_tree.specs.declared.names.Decl.{Decl}
+use Rattle.xml_tokens.specs.declared.fault_kind.FaultKind.{FaultKind}
+use Rattle.xml_names.specs.declared.names.Decl.{Decl}
 use Rattle.node_select.specs.declared.fault.SelectorFault.{SelectorFault}
 use Rattle.node_select.specs.declared.fault.SelectorFault.TheVariants.{BadSelector, UnboundPrefix}
 use Rattle.node_select.specs.declared.selector.Selector.{Selector}
@@ -11,7 +11,9 @@ use Rattle.node_select.specs.declared.selector.PatchForm.{PatchForm}
 use Rattle.node_select.specs.declared.selector.PatchForm.TheVariants as forms
 use Rattle.node_select.specs.declared.selector.PatchSelector.{PatchSelector}
 use Rattle.node_select.specs.Faults.{byte_of, stop_place}
-use Rattle.node_select.specs.readers.Raw.{RawSelector, RawPatchEnd, RawPatchSelector, PatchElement, PatchAttribute, PatchChars, selector_of, patch_selector_of, first_unbound, first_unbound_in_patch}
+use Rattle.node_select.specs.readers.Raw.{RawSelector, RawPatchEnd, RawPatchSelector, PatchElement}
+use Rattle.node_select.specs.readers.Raw.{PatchAttribute, PatchChars, selector_of}
+use Rattle.node_select.specs.readers.Raw.{patch_selector_of, first_unbound, first_unbound_in_patch}
 use Rattle.node_select.specs.readers.Selectors.{read_selector, read_patch_selector}
 
 -- the first unbound prefix, or the selector by the meaning of its names
@@ -20,20 +22,26 @@ meant text None value = Ok value
 meant text (Some n) value = Err (UnboundPrefix (byte_of text n))
 
 -- the result for a text by its form: it isn't a selector, or its names decide
-abbrev pub selector_result_of : List Decl → List ℕ → List ℕ → Result RawSelector (Stop FaultKind) → Result Selector SelectorFault
-selector_result_of bindings default text (Ok raw) = meant text (first_unbound bindings raw) (selector_of bindings default raw)
+abbrev pub selector_result_of : List Decl → List ℕ → List ℕ → Result RawSelector (Stop FaultKind)
+    → Result Selector SelectorFault
+selector_result_of bindings default text (Ok raw) =
+    meant text (first_unbound bindings raw) (selector_of bindings default raw)
 selector_result_of bindings default text (Err stop) = Err (BadSelector (stop_place text stop))
 
-abbrev pub patch_result : List Decl → List ℕ → List ℕ → Result RawPatchSelector (Stop FaultKind) → Result PatchSelector SelectorFault
-patch_result bindings default text (Ok raw) = meant text (first_unbound_in_patch bindings raw) (patch_selector_of bindings default raw)
+abbrev pub patch_result : List Decl → List ℕ → List ℕ → Result RawPatchSelector (Stop FaultKind)
+    → Result PatchSelector SelectorFault
+patch_result bindings default text (Ok raw) =
+    meant text (first_unbound_in_patch bindings raw) (patch_selector_of bindings default raw)
 patch_result bindings default text (Err stop) = Err (BadSelector (stop_place text stop))
 
 -- a selector, with these bindings and this namespace of unprefixed elements
 abbrev pub selector_read : List Decl → List ℕ → List ℕ → Result Selector SelectorFault
-selector_read bindings default text = selector_result_of bindings default text (read_whole read_selector (chars text))
+selector_read bindings default text =
+    selector_result_of bindings default text (read_whole read_selector (chars text))
 
 abbrev pub patch_selector_read : List Decl → List ℕ → List ℕ → Result PatchSelector SelectorFault
-patch_selector_read bindings default text = patch_result bindings default text (read_whole read_patch_selector (chars text))
+patch_selector_read bindings default text =
+    patch_result bindings default text (read_whole read_patch_selector (chars text))
 
 -- what the selector of a patch ends in, if the text is one
 abbrev pub raw_form_of : RawPatchEnd → PatchForm

@@ -1,5 +1,6 @@
 -- Locations as the code has them.
-use Rattle.std.specs.Prelude.{◌≡◌, ◌<◌, ℕ, List, length, position, Option, None, Some, IsSome, IsSomeAnd}
+use Rattle.std.specs.Prelude.{◌≡◌, ◌<◌, ℕ, List, length, position, Option, None, Some, IsSome}
+use Rattle.std.specs.Prelude.{IsSomeAnd}
 use Rattle.xml_tree.specs.Nodes.{nodes_of}
 use Rattle.xml_tree.specs.Tree.{Tree, at}
 use Rattle.patch_rules.specs.PatchOperations as words
@@ -23,7 +24,8 @@ IsSpot t (AtElement p) (words.AtElement q) = p ≡ q
 IsSpot t (AtElement p) (words.AtAttr q f) = ⊥
 IsSpot t (AtElement p) (words.AtText q j) = ⊥
 IsSpot t (AtAttr p i) (words.AtElement q) = ⊥
-IsSpot t (AtAttr p i) (words.AtAttr q f) = (p ≡ q) × IsSomeAnd (at p t) (λ e. position f e.attrs ≡ Some i)
+IsSpot t (AtAttr p i) (words.AtAttr q f) =
+    (p ≡ q) × IsSomeAnd (at p t) (λ e. position f e.attrs ≡ Some i)
 IsSpot t (AtAttr p i) (words.AtText q j) = ⊥
 IsSpot t (AtText p i) (words.AtElement q) = ⊥
 IsSpot t (AtText p i) (words.AtAttr q f) = ⊥

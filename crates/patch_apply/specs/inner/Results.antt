@@ -1,35 +1,41 @@
 -- What is stated of the result of a call, unless it is out of memory (`Answered`); for a whole
 -- diff document also the replica afterwards.
 use Rattle.std.specs.Prelude.{◌≡◌, Result, Ok, Err}
-use Rattle.xml_tree.specs.declared.read_error.ReadError.{ReadError}
-use Rattle.xml_tree.specs.declared.read_error.ReadError.TheVariants.{Fault, NoMemory}
+use Rattle.xml_names.specs.declared.read_error.ReadError.{ReadError}
+use Rattle.xml_names.specs.declared.read_error.ReadError.TheVariants.{Fault, NoMemory}
+use Rattle.xml_tree.specs.Tree.{Tree}
 use Rattle.patch_rules.specs.PatchOperations as words
 use Rattle.patch_rules.specs.Replay as replay
-use Rattle.patch_apply.specs.declared.fault.OperationError.{OperationError}
+use Rattle.patch_parse.specs.declared.operation_error.OperationError.{OperationError}
 use Rattle.patch_apply.specs.declared.fault.ApplyFault.{ApplyFault}
 use Rattle.patch_apply.specs.declared.replica.Applied.{Applied}
 use Rattle.patch_apply.specs.Views.{answer_in, apply_fault_of}
-use Rattle.patch_apply.specs.inner.PrivateTypes.{wrong_in}
+use Rattle.patch_parse.specs.Views.{wrong_in}
 
--- for an operation: the value, or the error
-abbrev pub IsGiven : {X : Type 0} → Result X words.OperationError → Result X OperationError → Type 0
-IsGiven stated (Ok x) = stated ≡ Ok x
-IsGiven stated (Err wrong) = stated ≡ Err (wrong_in wrong)
+-- for an operation on a tree in place: the tree afterwards, or the error
+abbrev pub EditsAs : Result Tree words.OperationError → Tree → Result (Unit {0}) OperationError
+    → Type 0
+EditsAs stated new (Ok done) = stated ≡ Ok new
+EditsAs stated new (Err wrong) = stated ≡ Err (wrong_in wrong)
 
 -- a stated fault is reported as itself
-pub record IsTold {Y : Type 0} (stated : Result Y replay.CopyFault) (fault : ApplyFault) : Type 0 where
+pub record IsTold {Y : Type 0} (stated : Result Y replay.CopyFault)
+    (fault : ApplyFault) : Type 0 where
   pub stated_fault : replay.CopyFault
   pub is : stated ≡ Err stated_fault
   pub told : fault ≡ apply_fault_of stated_fault
 
 -- for documents: the value, by its view, or the first fault
-abbrev pub AreGiven : {X Y : Type 0} → (X → Y) → Result Y replay.CopyFault → Result X ApplyFault → Type 0
+abbrev pub AreGiven : {X Y : Type 0} → (X → Y) → Result Y replay.CopyFault → Result X ApplyFault
+    → Type 0
 AreGiven view stated (Ok x) = stated ≡ Ok (view x)
 AreGiven view stated (Err fault) = IsTold stated fault
 
 -- for a diff document: the stated answer and the stated replica; or the stated fault, or out of
 -- memory, and the replica is unchanged
-abbrev pub AppliesAs : Result (replay.CopyAnswer × replay.ReplicaContents) replay.CopyFault → replay.ReplicaContents → Result Applied (ReadError ApplyFault) → replay.ReplicaContents → Type 0
+abbrev pub AppliesAs : Result (replay.CopyAnswer × replay.ReplicaContents) replay.CopyFault
+    → replay.ReplicaContents → Result Applied (ReadError ApplyFault) → replay.ReplicaContents
+    → Type 0
 AppliesAs stated old (Ok answer) new = stated ≡ Ok (answer_in answer, new)
 AppliesAs stated old (Err (Fault fault)) new = IsTold stated fault × (new ≡ old)
 AppliesAs stated old (Err NoMemory) new = new ≡ old

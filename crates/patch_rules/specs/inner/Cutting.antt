@@ -1,7 +1,7 @@
 -- A QName cut at its colon (58), one character after another.
 use Rattle.std.specs.Prelude.{ℕ, ◌==◌, List, [], ◌∷◌, ◌++◌, Option, Some, None, if◌then◌else◌}
-use Rattle.xml_tree.specs.Characters.{is_name}
-use Rattle.xml_tree.specs.declared.names.Name.{Name}
+use Rattle.xml_names.specs.Characters.{is_name}
+use Rattle.xml_names.specs.declared.names.Name.{Name}
 use Rattle.patch_rules.specs.PatchOperations.{with_prefix}
 
 -- the rest of the name after these characters, none of which is a colon

@@ -2,7 +2,7 @@
 -- section 3.
 use Rattle.std.specs.Prelude.{ℕ, List, [], ◌++◌, map}
 use Rattle.xml_tree.specs.Tree.{Content, last, more, comment_node}
-use Rattle.xml_tree.specs.declared.names.Decl.{Decl}
+use Rattle.xml_names.specs.declared.names.Decl.{Decl}
 
 abbrev pub prefixes : List Decl → List (List ℕ)
 prefixes ds = map (λ d. d.prefix) ds

@@ -10,7 +10,9 @@ use Rattle.std.specs.Str.{bytes_eq}
 use Rattle.xml_tree.specs.declared.tree.Node.{Node}
 use Rattle.xml_tree.specs.declared.tree.Node.TheVariants.{Elem, Chars, Comment}
 use Rattle.edit_ops.specs.declared.change.Change.{Change}
-use Rattle.edit_ops.specs.declared.change.Change.TheVariants.{CreateDocument, Insert, Replace, Remove, SetAttr, DropAttr, RemoveDocument}
+use Rattle.edit_ops.specs.declared.change.Change.TheVariants.{CreateDocument, Insert, Replace}
+use Rattle.edit_ops.specs.declared.change.Change.TheVariants.{Remove, SetAttr, DropAttr}
+use Rattle.edit_ops.specs.declared.change.Change.TheVariants.{RemoveDocument}
 use Rattle.edit_ops.specs.Notes.{Note}
 use Rattle.patch_rules.specs.inner.Declaring.{prefixes, prefixes_in}
 
@@ -48,4 +50,5 @@ Holds ps seen = (p : List ℕ) → contains by_text seen p ≡ is_member bytes_e
 
 -- the new set has the prefixes of the old one and these, and no others
 abbrev pub Gains : List (List ℕ) → BTreeSet (List ℕ) → BTreeSet (List ℕ) → Type 0
-Gains ps old new = (p : List ℕ) → contains by_text new p ≡ (is_member bytes_eq ps p || contains by_text old p)
+Gains ps old new =
+    (p : List ℕ) → contains by_text new p ≡ (is_member bytes_eq ps p || contains by_text old p)

@@ -1,6 +1,7 @@
 -- The reading of condition fields, computed from left to right. That it is the grammar's only
 -- reading is a law (`fields_have_one_reading`).
-use Rattle.std.specs.Prelude.{◌≡◌, ℕ, ◌==◌, Bool, true, false, if◌then◌else◌, List, [], ◌∷◌, ◌++◌, drop, Option, None, Some, option_map, codes}
+use Rattle.std.specs.Prelude.{◌≡◌, ℕ, ◌==◌, Bool, true, false, if◌then◌else◌, List, [], ◌∷◌, ◌++◌}
+use Rattle.std.specs.Prelude.{drop, Option, None, Some, option_map, codes}
 use Rattle.std.specs.List.{take_while, prefix_len}
 use Rattle.std.specs.Str.{bytes_eq}
 use Rattle.request_checks.specs.declared.entity_tags.EntityTag.{EntityTag}
@@ -81,11 +82,15 @@ tags_from Before (c ∷ cs) =
 tags_from Letter [] = None
 tags_from Letter (c ∷ cs) = if c == 47 then tags_from Slash cs else None
 tags_from Slash [] = None
-tags_from Slash (c ∷ cs) = if c == 34 then with_tags (entity_tag true (opaque_front cs) ∷ []) (tags_from Inside cs) else None
+tags_from Slash (c ∷ cs) =
+    if c == 34 then with_tags (entity_tag true (opaque_front cs) ∷ []) (tags_from Inside cs)
+    else None
 tags_from Inside [] = None
-tags_from Inside (c ∷ cs) = if c == 34 then tags_from Behind cs else if is_tag_byte c then tags_from Inside cs else None
+tags_from Inside (c ∷ cs) =
+    if c == 34 then tags_from Behind cs else if is_tag_byte c then tags_from Inside cs else None
 tags_from Behind [] = Some []
-tags_from Behind (c ∷ cs) = if is_ows_byte c then tags_from Behind cs else if c == 44 then tags_from Before cs else None
+tags_from Behind (c ∷ cs) =
+    if is_ows_byte c then tags_from Behind cs else if c == 44 then tags_from Before cs else None
 
 -- ---- a field
 

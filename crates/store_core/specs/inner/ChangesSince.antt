@@ -12,4 +12,7 @@ changes_since_of found = option_map_or ReportedChanges found Unknown
 
 -- by the stored document, if there is one
 abbrev pub held_since : ℕ → Option StoredDocument → ChangesSince
-held_since tag found = option_map_or (λ h. if h.tag == tag then ReportedChanges [] else changes_since_of (notes_from tag h.notes)) found Gone
+held_since tag found =
+    option_map_or
+    (λ h. if h.tag == tag then ReportedChanges [] else changes_since_of (notes_from tag h.notes))
+    found Gone

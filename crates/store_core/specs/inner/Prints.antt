@@ -14,4 +14,5 @@ IsPrintOf t (Some bytes) = bytes ≡ encode_utf8_all (document_print t)
 -- this root
 abbrev pub IsInsertedPrint : Change → Option (List ℕ) → Type 0
 IsInsertedPrint change None = Unit {0}
-IsInsertedPrint change (Some bytes) = BringsElement change × (bytes ≡ encode_utf8_all (document_print (inserted_part change)))
+IsInsertedPrint change (Some bytes) =
+    BringsElement change × (bytes ≡ encode_utf8_all (document_print (inserted_part change)))

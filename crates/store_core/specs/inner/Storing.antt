@@ -1,7 +1,8 @@
 -- What a store has in memory, and the contents that it represents: the documents in order of
 -- creation, and which document has each service address. RFC 4826, section 4.4.5 (service
 -- addresses are unique over all documents).
-use Rattle.std.specs.Prelude.{◌≡◌, ℕ, ◌+◌, ◌≤◌, ◌==◌, Bool, true, false, not, List, [], ◌∷◌, ◌++◌, map, sum_by, Option, None, Some, if◌then◌else◌}
+use Rattle.std.specs.Prelude.{◌≡◌, ℕ, ◌+◌, ◌≤◌, ◌==◌, Bool, true, false, not, List, [], ◌∷◌, ◌++◌}
+use Rattle.std.specs.Prelude.{map, sum_by, Option, None, Some, if◌then◌else◌}
 use Rattle.std.specs.List.{AllByRecursion}
 use Rattle.std.specs.Map.{lookup}
 use Rattle.std.specs.Set.{is_member}
@@ -40,7 +41,8 @@ number_in e = e.1.created
 
 -- the entry of a document after the edit of a change record, which is retained, and after which it
 -- has `bytes` bytes
-pub record IsRenewed (old : Entry) (number : ℕ) (note : Note) (bytes : ℕ) (new : Entry) : Type 0 where
+pub record IsRenewed (old : Entry) (number : ℕ) (note : Note) (bytes : ℕ)
+    (new : Entry) : Type 0 where
   pub created : new.created ≡ old.created
   pub tag : new.tag ≡ number
   pub tree : new.tree.root ≡ edited old.tree.root note.change
@@ -55,7 +57,14 @@ trees_in es = map (λ e. (e.0, e.1.tree.own)) es
 
 -- the entry as if its tree were unshared
 abbrev pub as_own : Entry → Entry
-as_own v = record { created = v.created; tag = v.tag; tree = record { root = v.tree.root; own = true }; len = v.len; notes = v.notes }
+as_own v =
+    record {
+      created = v.created;
+      tag = v.tag;
+      tree = record { root = v.tree.root; own = true };
+      len = v.len;
+      notes = v.notes;
+    }
 
 abbrev pub all_as_own : List (DocId × Entry) → List (DocId × Entry)
 all_as_own es = map (λ e. (e.0, as_own e.1)) es
@@ -66,7 +75,8 @@ module _ {D : Type 0} (own : D → List (List ℕ)) (number : D → ℕ) where
   -- the number of the first document that has it
   abbrev pub holder_in : List D → List ℕ → Option ℕ
   holder_in [] uri = None
-  holder_in (d ∷ ds) uri = if is_member bytes_eq (own d) uri then Some (number d) else holder_in ds uri
+  holder_in (d ∷ ds) uri =
+      if is_member bytes_eq (own d) uri then Some (number d) else holder_in ds uri
 
 abbrev pub holder : List (DocId × Entry) → List ℕ → Option ℕ
 holder es uri = holder_in uris_in number_in es uri
@@ -83,11 +93,15 @@ registered rs uri = lookup (bytes_eq uri) rs
 
 -- a registry after some addresses were removed and others added under a number
 abbrev pub exchanged : List (List ℕ) → List (List ℕ) → ℕ → Option ℕ → List ℕ → Option ℕ
-exchanged leaves enters number before uri = if is_member bytes_eq enters uri then Some number else if is_member bytes_eq leaves uri then None else before
+exchanged leaves enters number before uri =
+    if is_member bytes_eq enters uri then Some number
+    else if is_member bytes_eq leaves uri then None
+    else before
 
 -- ---- the invariant of a store
 
-pub record IsStoring (es : List (DocId × Entry)) (rs : List (List ℕ × ℕ)) (last total : ℕ) : Type 0 where
+pub record IsStoring (es : List (DocId × Entry)) (rs : List (List ℕ × ℕ))
+    (last total : ℕ) : Type 0 where
   -- it represents a valid state
   pub kept : (m : State) × Represents (content_in es last) m × IsValidState m
   -- its registry gives for each address the document that has it

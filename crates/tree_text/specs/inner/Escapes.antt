@@ -1,6 +1,6 @@
 -- Characters as they are printed between tags, and in a value between double quotes.
 use Rattle.std.specs.Prelude.{ℕ, List}
-use Rattle.xml_tree.specs.Print.{text_escape, value_escape}
+use Rattle.xml_names.specs.Markup.{text_escape, value_escape}
 use Rattle.tree_text.specs.declared.escapes.Place.{Place}
 use Rattle.tree_text.specs.declared.escapes.Place.TheVariants.{Content, Quotes}
 

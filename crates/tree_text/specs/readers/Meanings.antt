@@ -1,11 +1,12 @@
 -- What the code keeps of the names of a tag: the bytes of the prefix that a declaration declares,
 -- the expanded name of an attribute. Namespaces in XML 1.0, section 6.3.
-use Rattle.std.specs.Prelude.{◌≡◌, ℕ, Bool, true, false, ◌&&◌, ◌==◌, not, List, Option, Some, None, option_map, option_and_then, encode_utf8_all}
+use Rattle.std.specs.Prelude.{◌≡◌, ℕ, Bool, true, false, ◌&&◌, ◌==◌, not, List, Option, Some, None}
+use Rattle.std.specs.Prelude.{option_map, option_and_then, encode_utf8_all}
 use Rattle.std.specs.Str.{bytes_eq}
 use Rattle.std.specs.List.{list_any}
 use Rattle.std.specs.BTreeSet.{BTreeSet, contains}
-use Rattle.xml_tree.specs.Expanded.{attr_name}
-use Rattle.xml_tree.specs.declared.names.Name.{Name}
+use Rattle.xml_names.specs.Expanded.{attr_name}
+use Rattle.xml_names.specs.declared.names.Name.{Name}
 use Rattle.tree_text.specs.declared.bindings.Bindings.{Bindings}
 use Rattle.tree_text.specs.declared.attribute_meanings.Meaning.{Meaning}
 use Rattle.tree_text.specs.declared.attribute_meanings.Meaning.TheVariants.{Declared, Named}
@@ -27,13 +28,19 @@ same_number (Some n) (Some m) = n == m
 
 -- this is the meaning of a raw attribute
 abbrev pub Means : Bindings → RawAttribute → Meaning → Type 0
-Means here s (Declared prefix) = (is_declaring s.name ≡ true) × (prefix.now ≡ encode_utf8_all (raw_attribute_decl s).prefix)
-Means here s (Named local n) = (is_declaring s.name ≡ false) × (local.now ≡ s.name.local) × (option_map Some n ≡ option_map (number here.namespaces) (attr_name (lists here) s.name).uri)
+Means here s (Declared prefix) =
+    (is_declaring s.name ≡ true) × (prefix.now ≡ encode_utf8_all (raw_attribute_decl s).prefix)
+Means here s (Named local n) =
+    (is_declaring s.name ≡ false) × (local.now ≡ s.name.local)
+    × (option_map Some n ≡ option_map (number here.namespaces) (attr_name (lists here) s.name).uri)
 
 -- whether a raw attribute has this meaning
 abbrev pub says : Bindings → Meaning → RawAttribute → Bool
-says here (Declared prefix) s = is_declaring s.name && bytes_eq (encode_utf8_all (raw_attribute_decl s).prefix) prefix.now
-says here (Named local n) s = not (is_declaring s.name) && (same_number (attr_number here s.name) n && bytes_eq s.name.local local.now)
+says here (Declared prefix) s =
+    is_declaring s.name && bytes_eq (encode_utf8_all (raw_attribute_decl s).prefix) prefix.now
+says here (Named local n) s =
+    not (is_declaring s.name)
+    && (same_number (attr_number here s.name) n && bytes_eq s.name.local local.now)
 
 -- a set holds exactly the meanings of these raw attributes
 abbrev pub Holds : Bindings → List RawAttribute → BTreeSet Meaning → Type 0

@@ -1,28 +1,18 @@
 -- The members of repetitions, as loops read them.
-use Rattle.std.specs.Prelude.{ℕ, Bool, List, ◌++◌}
+use Rattle.std.specs.Prelude.{ℕ, Bool, List}
 use Rattle.xml_grammar.specs.Reading.{Reader, read_sequence, read_valued}
 use Rattle.xml_tree.specs.Edits.{with_text}
 use Rattle.xml_tree.specs.Tree.{Content, Tree}
-use Rattle.xml_tree.specs.declared.names.Name.{Name}
-use Rattle.tree_text.specs.declared.fault_kind.FaultKind.{FaultKind}
-use Rattle.tree_text.specs.Pieces.{Markup, Inner, more_value, raw, with_markup, with_pieces}
-use Rattle.tree_text.specs.readers.Texts.{read_plain, read_whole_reference, read_reference, read_raw, read_chars, read_markup, read_content, read_behind_tag}
-
--- raw characters of a value, after normalization
-abbrev pub read_blanked : ℕ → Reader FaultKind (List ℕ)
-read_blanked quote = read_valued raw (read_raw quote)
-
--- a reference of a value, and the raw characters after it
-abbrev pub read_piece : ℕ → Reader FaultKind (ℕ × List ℕ)
-read_piece quote = read_sequence read_reference (λ _. read_raw quote)
+use Rattle.xml_names.specs.declared.names.Name.{Name}
+use Rattle.xml_tokens.specs.declared.fault_kind.FaultKind.{FaultKind}
+use Rattle.tree_text.specs.Pieces.{Markup, Inner, with_markup, with_pieces}
+use Rattle.xml_tokens.specs.readers.Tokens.{read_chars}
+use Rattle.tree_text.specs.readers.Texts.{read_plain, read_whole_reference, read_markup}
+use Rattle.tree_text.specs.readers.Texts.{read_content, read_behind_tag}
 
 -- a reference of a spelling, and the raw characters after it
 abbrev pub read_spelled_piece : Reader FaultKind (ℕ × List ℕ)
 read_spelled_piece = read_sequence read_whole_reference (λ _. read_plain)
-
--- a value so far, and the pieces that follow
-abbrev pub value_with : List ℕ → List (ℕ × List ℕ) → List ℕ
-value_with front pieces = front ++ more_value pieces
 
 -- parts that spell nothing, and more of them
 abbrev pub nothing_with : Unit {0} → List (Unit {0} × Unit {0}) → Unit {0}
@@ -63,4 +53,5 @@ abbrev pub read_filled : Tree → Reader FaultKind Tree → Reader FaultKind Tre
 read_filled tree inner = read_valued (filled tree) (read_content inner)
 
 abbrev pub read_filled_behind : Tree → Reader FaultKind Tree → Name → Bool → Reader FaultKind Tree
-read_filled_behind tree inner n is_empty = read_valued (filled tree) (read_behind_tag inner n is_empty)
+read_filled_behind tree inner n is_empty =
+    read_valued (filled tree) (read_behind_tag inner n is_empty)

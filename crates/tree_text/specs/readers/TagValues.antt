@@ -1,6 +1,6 @@
 -- The values that the grammar of tags makes of their parts, by name for the reader.
 use Rattle.std.specs.Prelude.{ℕ, Bool, List, length}
-use Rattle.xml_tree.specs.declared.names.Name.{Name}
+use Rattle.xml_names.specs.declared.names.Name.{Name}
 use Rattle.tree_text.specs.declared.raw_attribute.RawAttribute.{RawAttribute}
 use Rattle.tree_text.specs.Pieces.{StartTag}
 

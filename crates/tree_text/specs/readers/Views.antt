@@ -1,25 +1,22 @@
 -- The values that the types of the code represent in clauses.
-use Rattle.std.specs.Prelude.{◌≡◌, ℕ, ◌-◌, Bool, true, false, List, [], length, take, chars}
-use Rattle.xml_grammar.specs.Digits.{Digits, decimal_digits, hexadecimal}
-use Rattle.xml_tree.specs.declared.names.Name.{Name}
-use Rattle.tree_text.specs.declared.raw_name.RawName.{RawName}
+use Rattle.std.specs.Prelude.{◌≡◌, ℕ, ◌-◌, List, [], length, take, chars}
 use Rattle.tree_text.specs.declared.raw_attribute.RawAttribute.{RawAttribute}
 use Rattle.tree_text.specs.declared.start_tags.RawStartTag.{RawStartTag as CodeTag}
 use Rattle.tree_text.specs.Pieces.{StartTag}
-
--- the digits of a numeral: hexadecimal or decimal
-abbrev pub digits_of : Bool → Digits
-digits_of true = hexadecimal
-digits_of false = decimal_digits
-
--- the name that is written in a text
-abbrev pub name_in : RawName → Name
-name_in w = record { prefix = chars w.prefix.now; local = chars w.local.now }
+use Rattle.xml_tokens.specs.readers.TokenViews.{name_in}
 
 -- where the name has no prefix, its local part is a prefix of the text from the name on
 abbrev pub BeginsWithLocal : CodeTag → Type 0
-BeginsWithLocal t = chars t.written.prefix.now ≡ [] → t.written.local.now ≡ take (length t.written.local.now) t.from.now
+BeginsWithLocal t =
+    chars t.written.prefix.now ≡ []
+    → t.written.local.now ≡ take (length t.written.local.now) t.from.now
 
 -- the tag that the code has read from this text, with these raw attributes
 abbrev pub tag_in : List ℕ → CodeTag → List RawAttribute → StartTag
-tag_in text t raw_attribute = record { name = name_in t.written; raw_attribute = raw_attribute; is_empty = t.is_empty; size = length text - length (chars t.behind.now) }
+tag_in text t raw_attribute =
+    record {
+      name = name_in t.written;
+      raw_attribute = raw_attribute;
+      is_empty = t.is_empty;
+      size = length text - length (chars t.behind.now);
+    }

@@ -4,37 +4,47 @@ use Rattle.std.specs.Str.{is_utf8}
 use Rattle.xml_grammar.specs.Reading.{Syntax, Faulty}
 use Rattle.xml_grammar.specs.readers.Functions.{read_whole}
 use Rattle.xml_tree.specs.Tree.{Tree}
-use Rattle.xml_tree.specs.declared.names.Decl.{Decl}
-use Rattle.xml_tree.specs.declared.read_error.ReadError.{ReadError}
-use Rattle.xml_tree.specs.declared.read_error.ReadError.TheVariants as errors
+use Rattle.xml_names.specs.declared.names.Decl.{Decl}
+use Rattle.xml_names.specs.declared.read_error.ReadError.{ReadError}
+use Rattle.xml_names.specs.declared.read_error.ReadError.TheVariants as errors
 use Rattle.tree_text.specs.declared.fault.TextFault.{TextFault}
 use Rattle.tree_text.specs.declared.fault.TextFault.TheVariants as texts
 use Rattle.tree_text.specs.declared.fault.ValueFault.{ValueFault}
 use Rattle.tree_text.specs.declared.fault.ValueFault.TheVariants as bodies
-use Rattle.tree_text.specs.declared.parse_error.ParseError.{ParseError}
-use Rattle.tree_text.specs.declared.parse_error.ParseError.TheVariants as stops
-use Rattle.tree_text.specs.Faults.{byte_at, stop_fault, spelling_of, body_result, text_result}
+use Rattle.xml_tokens.specs.declared.parse_error.ParseError.{ParseError}
+use Rattle.xml_tokens.specs.declared.parse_error.ParseError.TheVariants as stops
+use Rattle.xml_tokens.specs.Places.{byte_at}
+use Rattle.tree_text.specs.Faults.{stop_fault, spelling_of, body_result, text_result}
 use Rattle.tree_text.specs.readers.Texts.{read_text, read_spelling}
 
 -- ---- documents and fragments
 
 -- with at most this many levels, and in this scope
 abbrev pub text_read : ℕ → List (List Decl) → List ℕ → Result Tree TextFault
-text_read limit scope bytes = if is_utf8 bytes then text_result bytes (read_whole (read_text limit scope) (chars bytes)) else Err texts.NotUtf8
+text_read limit scope bytes =
+    if is_utf8 bytes then text_result bytes (read_whole (read_text limit scope) (chars bytes))
+    else Err texts.NotUtf8
 
 -- the error that the code makes of a stop
 abbrev pub FaultOf : List ℕ → ParseError → ReadError TextFault → Type 0
-FaultOf bytes (stops.Syntax rest) error = error ≡ errors.Fault (stop_fault bytes (Syntax (chars rest.now)))
-FaultOf bytes (stops.Faulty kind rest) error = error ≡ errors.Fault (stop_fault bytes (Faulty kind (chars rest.now)))
+FaultOf bytes (stops.Syntax rest) error =
+    error ≡ errors.Fault (stop_fault bytes (Syntax (chars rest.now)))
+FaultOf bytes (stops.Faulty kind rest) error =
+    error ≡ errors.Fault (stop_fault bytes (Faulty kind (chars rest.now)))
 FaultOf bytes stops.Memory error = error ≡ errors.NoMemory
 
 -- ---- bodies that spell a value
 
 abbrev pub body_read : List ℕ → Result (List ℕ) ValueFault
-body_read bytes = if is_utf8 bytes then body_result (chars bytes) bytes (read_whole read_spelling (spelling_of (chars bytes))) else Err bodies.NotUtf8
+body_read bytes =
+    if is_utf8 bytes
+    then body_result (chars bytes) bytes (read_whole read_spelling (spelling_of (chars bytes)))
+    else Err bodies.NotUtf8
 
 -- the error that the code makes of a stop in a body after whose spelling this many bytes follow
 abbrev pub BodyFaultOf : List ℕ → ℕ → ParseError → ReadError ValueFault → Type 0
-BodyFaultOf bytes behind (stops.Syntax rest) error = error ≡ errors.Fault (bodies.NotValue (byte_at bytes (chars rest.now) - behind))
-BodyFaultOf bytes behind (stops.Faulty kind rest) error = error ≡ errors.Fault (bodies.NotValue (byte_at bytes (chars rest.now) - behind))
+BodyFaultOf bytes behind (stops.Syntax rest) error =
+    error ≡ errors.Fault (bodies.NotValue (byte_at bytes (chars rest.now) - behind))
+BodyFaultOf bytes behind (stops.Faulty kind rest) error =
+    error ≡ errors.Fault (bodies.NotValue (byte_at bytes (chars rest.now) - behind))
 BodyFaultOf bytes behind stops.Memory error = error ≡ errors.NoMemory

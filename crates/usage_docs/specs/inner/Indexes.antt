@@ -2,7 +2,7 @@
 use Rattle.std.specs.Prelude.{◌≡◌, ℕ, map, if◌then◌else◌, ◌==◌, ◌+◌, min}
 use Rattle.xml_tree.specs.Tree.{Tree, child_elements_of}
 use Rattle.xml_tree.specs.declared.tree.Node.TheVariants.{Elem}
-use Rattle.xml_tree.specs.Limits.{u64_max}
+use Rattle.xml_names.specs.Limits.{u64_max}
 use Rattle.usage_docs.specs.Services.{index_of}
 use Rattle.usage_docs.specs.readers.Listing.{elems_len}
 

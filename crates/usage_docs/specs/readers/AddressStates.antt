@@ -1,10 +1,14 @@
 -- Reading an address and a reference letter by letter.
 use Rattle.std.specs.Prelude.{ℕ, Bool, true, false, ◌==◌, ◌&&◌, if◌then◌else◌}
-use Rattle.xml_tree.specs.Characters.{is_space}
+use Rattle.xml_names.specs.Characters.{is_space}
 use Rattle.usage_docs.specs.declared.address_states.AddressState.{AddressState}
-use Rattle.usage_docs.specs.declared.address_states.AddressState.TheVariants.{Start, H, Ht, Htt, Http, Https, Colon, Slash, Whole, GoesOn, Other}
+use Rattle.usage_docs.specs.declared.address_states.AddressState.TheVariants.{Start, H, Ht, Htt}
+use Rattle.usage_docs.specs.declared.address_states.AddressState.TheVariants.{Http, Https, Colon}
+use Rattle.usage_docs.specs.declared.address_states.AddressState.TheVariants.{Slash, Whole, GoesOn}
+use Rattle.usage_docs.specs.declared.address_states.AddressState.TheVariants.{Other}
 use Rattle.usage_docs.specs.declared.address_states.SegmentState.{SegmentState}
-use Rattle.usage_docs.specs.declared.address_states.SegmentState.TheVariants.{Empty, Begun, Ended, Wrong}
+use Rattle.usage_docs.specs.declared.address_states.SegmentState.TheVariants.{Empty, Begun, Ended}
+use Rattle.usage_docs.specs.declared.address_states.SegmentState.TheVariants.{Wrong}
 
 -- white space, where it is trimmed
 abbrev pub white : Bool → ℕ → Bool

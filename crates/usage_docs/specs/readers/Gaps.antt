@@ -4,7 +4,7 @@ use Rattle.std.specs.Option.{ForSome}
 use Rattle.xml_tree.specs.Tree.{Content, last, more, comment_node, Tree, child_elements_of}
 use Rattle.usage_docs.specs.declared.schema_table.ElementKind.{ElementKind}
 use Rattle.usage_docs.specs.SchemaTable.{Scope, kind_of}
-use Rattle.xml_tree.specs.Scopes.{inside}
+use Rattle.xml_tree.specs.TreeScopes.{inside}
 use Rattle.usage_docs.specs.Validity.{ValidChild}
 use Rattle.usage_docs.specs.readers.Parts.{part_of, follows, end}
 
@@ -16,7 +16,8 @@ part_of_child row c e = part_of row (inside c e) e.name
 abbrev pub part_before : ElementKind → Scope → ℕ → ℕ → Content → ℕ
 part_before row c b zero content = b
 part_before row c b (suc j) (last t) = b
-part_before row c b (suc j) (more t n ds ats k rest) = part_before row c (part_of row (c ++ ds ∷ []) n) j rest
+part_before row c b (suc j) (more t n ds ats k rest) =
+    part_before row c (part_of row (c ++ ds ∷ []) n) j rest
 part_before row c b (suc j) (comment_node t x rest) = part_before row c b (suc j) rest
 
 -- the part of the child after the gap, or the end
@@ -39,4 +40,7 @@ FollowsGap row c content new j =
 abbrev pub FollowsBelow : ElementKind → Scope → Tree → List ℕ → Tree → ℕ → Type 0
 FollowsBelow row c e [] new j = FollowsGap row c e.content new j
 FollowsBelow row c e (n ∷ q) new j =
-    (child_element : Tree) × ((slice_get (child_elements_of e) n ≡ Some child_element) × ForSome (kind_of row (inside c child_element) child_element.name) (λ kind. FollowsBelow kind (inside c child_element) child_element q new j))
+    (child_element : Tree)
+    × ((slice_get (child_elements_of e) n ≡ Some child_element)
+    × ForSome (kind_of row (inside c child_element) child_element.name) (λ kind.
+    FollowsBelow kind (inside c child_element) child_element q new j))

@@ -1,10 +1,10 @@
 -- The printed length of bindings.
 use Rattle.std.specs.Prelude.{◌≡◌, ℕ, min, List, [], ◌∷◌, filter, flat_map, is_some}
 use Rattle.std.specs.Str.{bytes_eq}
-use Rattle.xml_tree.specs.Print.{print_decl, byte_len}
-use Rattle.xml_tree.specs.Scopes.{bindings_in, declared}
-use Rattle.xml_tree.specs.declared.names.Decl.{Decl}
-use Rattle.xml_tree.specs.Limits.{u64_max}
+use Rattle.xml_names.specs.Markup.{print_decl, byte_len}
+use Rattle.xml_names.specs.Scopes.{bindings_in, declared}
+use Rattle.xml_names.specs.declared.names.Decl.{Decl}
+use Rattle.xml_names.specs.Limits.{u64_max}
 use Rattle.usage_docs.specs.declared.lengths.Outer.{Outer}
 
 -- the printed length of declarations

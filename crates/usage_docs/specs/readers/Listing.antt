@@ -1,6 +1,7 @@
 -- The services of the index as nodes, and their length.
 use Rattle.std.specs.Prelude.{ℕ, ◌+◌, List, [], ◌∷◌, map, filter}
-use Rattle.xml_tree.specs.Print.{print, byte_len}
+use Rattle.xml_names.specs.Markup.{byte_len}
+use Rattle.xml_tree.specs.Print.{print}
 use Rattle.xml_tree.specs.declared.tree.Node.{Node}
 use Rattle.xml_tree.specs.declared.tree.Node.TheVariants.{Elem, Chars, Comment}
 use Rattle.usage_docs.specs.SchemaTable.{Scope}

@@ -1,9 +1,14 @@
 -- Children by numbers, checked from left to right: the part of a child is the number of the item
 -- of its parent's content model that takes it, counted from 1.
 use Rattle.std.specs.Prelude.{ℕ, Bool, true, false, ◌&&◌, ◌||◌, not, nat_lt, nat_eq}
-use Rattle.xml_tree.specs.declared.names.Name.{Name}
+use Rattle.xml_names.specs.declared.names.Name.{Name}
 use Rattle.usage_docs.specs.declared.schema_table.ElementKind.{ElementKind}
-use Rattle.usage_docs.specs.declared.schema_table.ElementKind.TheVariants.{ResourceLists, EntryList, Entry, EntryRef, External, DisplayName, RlsServices, Service, ResourceList, Packages, Package}
+use Rattle.usage_docs.specs.declared.schema_table.ElementKind.TheVariants.{ResourceLists, EntryList}
+use Rattle.usage_docs.specs.declared.schema_table.ElementKind.TheVariants.{Entry, EntryRef}
+use Rattle.usage_docs.specs.declared.schema_table.ElementKind.TheVariants.{External, DisplayName}
+use Rattle.usage_docs.specs.declared.schema_table.ElementKind.TheVariants.{RlsServices, Service}
+use Rattle.usage_docs.specs.declared.schema_table.ElementKind.TheVariants.{ResourceList, Packages}
+use Rattle.usage_docs.specs.declared.schema_table.ElementKind.TheVariants.{Package}
 use Rattle.usage_docs.specs.SchemaTable.{Scope, Child, known, foreign, stray, child_class_of}
 
 -- the part of a child of some kind; 0 if it isn't allowed

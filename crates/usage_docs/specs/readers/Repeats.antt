@@ -1,10 +1,11 @@
 -- Repeated keys among siblings, as they are found: the keys of all children are sorted, and
 -- neighbours are compared.
-use Rattle.std.specs.Prelude.{◌≡◌, ◌≤◌, ◌<◌, ◌-◌, ℕ, List, [], ◌∷◌, ◌++◌, Option, None, Some, option_map, option_and_then, slice_index_or, length, if◌then◌else◌}
+use Rattle.std.specs.Prelude.{◌≡◌, ◌≤◌, ◌<◌, ◌-◌, ℕ, List, [], ◌∷◌, ◌++◌, Option, None, Some}
+use Rattle.std.specs.Prelude.{option_map, option_and_then, slice_index_or, length, if◌then◌else◌}
 use Rattle.std.specs.Bool.{nat_le}
 use Rattle.std.specs.List.{All, Contains}
 use Rattle.xml_tree.specs.Tree.{Tree}
-use Rattle.xml_tree.specs.declared.names.Attr.{Attr}
+use Rattle.xml_names.specs.declared.names.Attr.{Attr}
 use Rattle.usage_docs.specs.declared.keys.KeyedChild.{KeyedChild}
 use Rattle.usage_docs.specs.declared.keys.KeyRepeat.{KeyRepeat}
 use Rattle.usage_docs.specs.declared.schema_table.Key.{Key}
@@ -24,12 +25,15 @@ mark_by kind ats = option_and_then (λ k. option_map (mark k) (key_value k ats))
 -- a list with the key of the i-th child added, if it has one
 abbrev pub Enters : Option Mark → ℕ → List KeyedChild → List KeyedChild → Type 0
 Enters None i old new = new ≡ old
-Enters (Some m) i old new = (k : KeyedChild) × ((new ≡ old ++ k ∷ []) × (mark_in k ≡ m) × (k.child ≡ i))
+Enters (Some m) i old new =
+    (k : KeyedChild) × ((new ≡ old ++ k ∷ []) × (mark_in k ≡ m) × (k.child ≡ i))
 
 -- a list has the keys of the first n siblings, and nothing else
-pub record Holds (row : ElementKind) (c : Scope) (child_elements : List Tree) (n : ℕ) (keys : List KeyedChild) : Type 0 where
+pub record Holds (row : ElementKind) (c : Scope) (child_elements : List Tree) (n : ℕ)
+    (keys : List KeyedChild) : Type 0 where
   pub each : All (λ k. mark_at row c child_elements k.child ≡ Some (mark_in k)) keys
-  pub all : (i : ℕ) (m : Mark) → i < n → mark_at row c child_elements i ≡ Some m → (k : KeyedChild) × (Contains keys k × (k.child ≡ i) × (mark_in k ≡ m))
+  pub all : (i : ℕ) (m : Mark) → i < n → mark_at row c child_elements i ≡ Some m
+      → (k : KeyedChild) × (Contains keys k × (k.child ≡ i) × (mark_in k ≡ m))
 
 -- ---- neighbours
 
@@ -45,12 +49,23 @@ lesser x (Some y) = if nat_le y.0 x.0 then y else x
 -- of the neighbours up to the n-th entry of a list that are such a pair, the earliest second one,
 -- by number and kind
 abbrev pub IsLeastPair : List KeyedChild → ℕ → Option (ℕ × ElementKind) → Type 0
-IsLeastPair keys n None = (s : ℕ) (d : KeyedChild) → 0 < s → s < n → IsPair (slice_index_or keys (s - 1) d) (slice_index_or keys s d) → ⊥
+IsLeastPair keys n None =
+    (s : ℕ) (d : KeyedChild) → 0 < s → s < n
+    → IsPair (slice_index_or keys (s - 1) d) (slice_index_or keys s d) → ⊥
 IsLeastPair keys n (Some least) =
-    ((s : ℕ) × ((0 < s) × (s < length keys) × ((d : KeyedChild) → IsPair (slice_index_or keys (s - 1) d) (slice_index_or keys s d) × ((slice_index_or keys s d).child ≡ least.0) × ((slice_index_or keys s d).kind ≡ least.1))))
-    × ((s : ℕ) (d : KeyedChild) → 0 < s → s < n → IsPair (slice_index_or keys (s - 1) d) (slice_index_or keys s d) → least.0 ≤ (slice_index_or keys s d).child)
+    ((s : ℕ)
+    × ((0 < s) × (s < length keys)
+    × ((d : KeyedChild)
+    → IsPair (slice_index_or keys (s - 1) d) (slice_index_or keys s d)
+    × ((slice_index_or keys s d).child ≡ least.0) × ((slice_index_or keys s d).kind ≡ least.1))))
+    × ((s : ℕ) (d : KeyedChild) → 0 < s → s < n
+    → IsPair (slice_index_or keys (s - 1) d) (slice_index_or keys s d)
+    → least.0 ≤ (slice_index_or keys s d).child)
 
 -- the first sibling that has the kind and the key of an earlier one
 abbrev pub IsFirstRepeat : ElementKind → Scope → List Tree → Option KeyRepeat → Type 0
-IsFirstRepeat row c child_elements None = (i : ℕ) (key : Key) → Repeats row c child_elements i key → ⊥
-IsFirstRepeat row c child_elements (Some r) = Repeats row c child_elements r.child r.key × ((i : ℕ) (key : Key) → Repeats row c child_elements i key → r.child ≤ i)
+IsFirstRepeat row c child_elements None =
+    (i : ℕ) (key : Key) → Repeats row c child_elements i key → ⊥
+IsFirstRepeat row c child_elements (Some r) =
+    Repeats row c child_elements r.child r.key
+    × ((i : ℕ) (key : Key) → Repeats row c child_elements i key → r.child ≤ i)

@@ -23,4 +23,7 @@ one_more (Comment x) n = n
 -- the first place in document order that satisfies a relation, appended to a base
 abbrev pub IsFirst : (List ℕ → Key → Type 0) → List ℕ → Option Clash → Type 0
 IsFirst R base None = (p : List ℕ) (key : Key) → R p key → ⊥
-IsFirst R base (Some clash) = (p : List ℕ) × ((clash.path ≡ base ++ p) × R p clash.key × ((q : List ℕ) (key : Key) → R q key → NoLater p q))
+IsFirst R base (Some clash) =
+    (p : List ℕ)
+    × ((clash.path ≡ base ++ p) × R p clash.key
+    × ((q : List ℕ) (key : Key) → R q key → NoLater p q))

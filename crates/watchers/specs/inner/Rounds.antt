@@ -1,5 +1,6 @@
 -- Watchers notified of one change after another.
-use Rattle.std.proofs.Common.{◌≡◌, ℕ, List, [], ◌∷◌, ◌++◌, Option, Some, None, inl, inr, refl, ap, sym, subst, ◌∙◌, arith, append_assoc, append-nil, ⊎_elim}
+use Rattle.std.proofs.Common.{◌≡◌, ℕ, List, [], ◌∷◌, ◌++◌, Option, Some, None, inl, inr, refl, ap}
+use Rattle.std.proofs.Common.{sym, subst, ◌∙◌, arith, append_assoc, append-nil, ⊎_elim}
 use Rattle.std.proofs.lemmas.Grind.{flat_map-append}
 use Rattle.std.specs.Prelude.{flat_map}
 use Rattle.edit_ops.specs.declared.edit.Edit.{Edit}
@@ -13,7 +14,8 @@ no_more : (told : Option (List Edit)) → told ≡ with_edits told []
 no_more None = refl
 no_more (Some es) = ap Some (sym (append-nil es))
 
-then_more : (told : Option (List Edit)) (xs ys : List Edit) → with_edits (with_edits told xs) ys ≡ with_edits told (xs ++ ys)
+then_more : (told : Option (List Edit)) (xs ys : List Edit)
+    → with_edits (with_edits told xs) ys ≡ with_edits told (xs ++ ys)
 then_more None xs ys = refl
 then_more (Some es) xs ys = ap Some (append_assoc es xs ys)
 
@@ -21,16 +23,23 @@ no_line : (written : Option (List ℕ)) → written ≡ with_lines written []
 no_line None = refl
 no_line (Some bytes) = ap Some (sym (append-nil bytes))
 
-one_line : (old : Option (List ℕ)) (edit : Edit) (new : Option (List ℕ)) → Wrote old edit Kept new → new ≡ with_lines old (edit ∷ [])
+one_line : (old : Option (List ℕ)) (edit : Edit) (new : Option (List ℕ)) → Wrote old edit Kept new
+    → new ≡ with_lines old (edit ∷ [])
 one_line None edit new h = h
-one_line (Some bytes) edit new h = h.1 ∙ ap Some (h.2 ∙ ap (λ (l : List ℕ). bytes ++ l) (sym (append-nil (line_bytes edit))))
+one_line (Some bytes) edit new h =
+    h.1 ∙ ap Some (h.2 ∙ ap (λ (l : List ℕ). bytes ++ l) (sym (append-nil (line_bytes edit))))
 
-more_lines : (written : Option (List ℕ)) (xs ys : List Edit) → with_lines (with_lines written xs) ys ≡ with_lines written (xs ++ ys)
+more_lines : (written : Option (List ℕ)) (xs ys : List Edit)
+    → with_lines (with_lines written xs) ys ≡ with_lines written (xs ++ ys)
 more_lines None xs ys = refl
 more_lines (Some bytes) xs ys =
-    ap Some (append_assoc bytes (flat_map line_bytes xs) (flat_map line_bytes ys) ∙ ap (λ (l : List ℕ). bytes ++ l) (sym (flat_map-append line_bytes xs ys)))
+    ap Some
+    (append_assoc bytes (flat_map line_bytes xs) (flat_map line_bytes ys)
+    ∙ ap (λ (l : List ℕ). bytes ++ l) (sym (flat_map-append line_bytes xs ys)))
 
-module _ {B : Type 0} (told_list : B → Option (List Edit)) (faults : B → ℕ) (never_refuses : B → Type 0) (answers : B → Edit → Told → Type 0) (written : B → Option (List ℕ)) where
+module _ {B : Type 0} (told_list : B → Option (List Edit)) (faults : B → ℕ)
+    (never_refuses : B → Type 0) (answers : B → Edit → Told → Type 0)
+    (written : B → Option (List ℕ)) where
   abbrev Keeping : List Edit → List B → List B → Type 0
   Keeping = AreKept told_list faults never_refuses answers written
 
@@ -38,9 +47,16 @@ module _ {B : Type 0} (told_list : B → Option (List Edit)) (faults : B → ℕ
   KeptAll = HasKeptAll told_list faults never_refuses answers written
 
   kept_none : (b : B) → KeptAll [] b b
-  kept_none b = record { told = no_more (told_list b); wrote = no_line (written b); counts = omega arith; never = λ n. n }
+  kept_none b =
+      record {
+        told = no_more (told_list b);
+        wrote = no_line (written b);
+        counts = omega arith;
+        never = λ n. n;
+      }
 
-  kept_more : (xs ys : List Edit) (a b c : B) → KeptAll xs a b → KeptAll ys b c → KeptAll (xs ++ ys) a c
+  kept_more : (xs ys : List Edit) (a b c : B) → KeptAll xs a b → KeptAll ys b c
+      → KeptAll (xs ++ ys) a c
   kept_more xs ys a b c f s = record {
     told = s.told ∙ ap (λ told. with_edits told ys) f.told ∙ then_more (told_list a) xs ys;
     wrote = s.wrote ∙ ap (λ bytes. with_lines bytes ys) f.wrote ∙ more_lines (written a) xs ys;
@@ -54,40 +70,66 @@ module _ {B : Type 0} (told_list : B → Option (List Edit)) (faults : B → ℕ
   no_round (b ∷ bs) = inl (b, bs, refl, kept_none b, no_round bs)
 
   -- one change
-  pub one_round : (edit : Edit) (old new : List B) (left : ℕ) → AreNotified told_list faults never_refuses answers written edit old new left → Keeping (edit ∷ []) old new
+  pub one_round : (edit : Edit) (old new : List B) (left : ℕ)
+      → AreNotified told_list faults never_refuses answers written edit old new left
+      → Keeping (edit ∷ []) old new
   one_round edit [] new left h = h.0
   one_round edit (b ∷ bs) new left h =
       ⊎_elim
-      (λ k. inl (
+      (λ k.
+      inl (
         k.0,
         k.1,
         k.2,
-        record { told = k.3.told; wrote = one_line (written b) edit (written k.0) k.3.wrote; counts = k.3.counts; never = k.3.never },
+        record {
+          told = k.3.told;
+          wrote = one_line (written b) edit (written k.0) k.3.wrote;
+          counts = k.3.counts;
+          never = k.3.never;
+        },
         one_round edit bs k.1 left k.4,
       ))
-      (λ k. inr (
-        record { first = []; edit = edit; later = []; in_order = refl; before = b; last = k.0; kept = kept_none b; left = k.3 },
+      (λ k.
+      inr (
+        record {
+          first = [];
+          edit = edit;
+          later = [];
+          in_order = refl;
+          before = b;
+          last = k.0;
+          kept = kept_none b;
+          left = k.3;
+        },
         one_round edit bs new k.1 k.4,
       ))
       h
 
   -- one change, at which the one watcher left
-  pub one_left : (edit : Edit) (b last : B) → HasLeft told_list faults never_refuses answers written edit b last → Keeping (edit ∷ []) (b ∷ []) []
+  pub one_left : (edit : Edit) (b last : B)
+      → HasLeft told_list faults never_refuses answers written edit b last
+      → Keeping (edit ∷ []) (b ∷ []) []
   one_left edit b last left = one_round edit (b ∷ []) [] 1 (inr (last, 0, refl, left, (refl, refl)))
 
   -- changes, and then others
-  pub more_rounds : (xs ys : List Edit) (old mid new : List B) → Keeping xs old mid → Keeping ys mid new → Keeping (xs ++ ys) old new
+  pub more_rounds : (xs ys : List Edit) (old mid new : List B) → Keeping xs old mid
+      → Keeping ys mid new → Keeping (xs ++ ys) old new
   more_rounds xs ys [] mid new h k = subst (λ ms. Keeping ys ms new) h k
   more_rounds xs ys (b ∷ bs) mid new h k =
       ⊎_elim
-      (λ f. ⊎_elim
-      (λ s. inl (s.0, s.1, s.2, kept_more xs ys b f.0 s.0 f.3 s.3, more_rounds xs ys bs f.1 s.1 f.4 s.4))
-      (λ s. inr (
+      (λ f.
+      ⊎_elim
+      (λ s.
+      inl (s.0, s.1, s.2, kept_more xs ys b f.0 s.0 f.3 s.3, more_rounds xs ys bs f.1 s.1 f.4 s.4))
+      (λ s.
+      inr (
         record {
           first = xs ++ s.0.first;
           edit = s.0.edit;
           later = s.0.later;
-          in_order = ap (λ (l : List Edit). xs ++ l) s.0.in_order ∙ sym (append_assoc xs s.0.first (s.0.edit ∷ s.0.later));
+          in_order =
+              ap (λ (l : List Edit). xs ++ l) s.0.in_order
+              ∙ sym (append_assoc xs s.0.first (s.0.edit ∷ s.0.later));
           before = s.0.before;
           last = s.0.last;
           kept = kept_more xs s.0.first b f.0 s.0.before f.3 s.0.kept;
@@ -96,12 +138,15 @@ module _ {B : Type 0} (told_list : B → Option (List Edit)) (faults : B → ℕ
         more_rounds xs ys bs f.1 new f.4 s.1,
       ))
       (subst (λ ms. Keeping ys ms new) f.2 k))
-      (λ f. inr (
+      (λ f.
+      inr (
         record {
           first = f.0.first;
           edit = f.0.edit;
           later = f.0.later ++ ys;
-          in_order = ap (λ (l : List Edit). l ++ ys) f.0.in_order ∙ append_assoc f.0.first (f.0.edit ∷ f.0.later) ys;
+          in_order =
+              ap (λ (l : List Edit). l ++ ys) f.0.in_order
+              ∙ append_assoc f.0.first (f.0.edit ∷ f.0.later) ys;
           before = f.0.before;
           last = f.0.last;
           kept = f.0.kept;

@@ -1,6 +1,7 @@
 -- How a command ends by its connection.
 use Rattle.http_wire.specs.declared.close_reason.CloseReason.{CloseReason}
-use Rattle.http_wire.specs.declared.close_reason.CloseReason.TheVariants.{Closed, ReadFailed, WriteFailed}
+use Rattle.http_wire.specs.declared.close_reason.CloseReason.TheVariants.{Closed, ReadFailed}
+use Rattle.http_wire.specs.declared.close_reason.CloseReason.TheVariants.{WriteFailed}
 use Rattle.xcap_app.specs.declared.exit.Exit.{Exit}
 use Rattle.xcap_app.specs.declared.exit.Exit.TheVariants.{Done, InputFailed, OutputFailed}
 

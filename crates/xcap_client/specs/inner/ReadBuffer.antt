@@ -16,7 +16,8 @@ abbrev pub NeverHasHead : List ℕ → Type 0
 NeverHasHead bytes = (more : List ℕ) → HasNoHead (bytes ++ more)
 
 -- the spans cover the parts of the head at the front
-pub record IsHeadAt (bytes : List ℕ) (headers : List HeaderSpan) (spans : ResponseSpans) (head : ResponseHead) : Type 0 where
+pub record IsHeadAt (bytes : List ℕ) (headers : List HeaderSpan) (spans : ResponseSpans)
+    (head : ResponseHead) : Type 0 where
   pub begins : BeginsWithHead bytes head (drop spans.len bytes)
   pub within : IsResponseWithin bytes headers spans
   pub parts : IsResponseAt bytes headers spans head
@@ -29,9 +30,11 @@ IsFront bytes headers Hopeless = NeverHasHead bytes
 
 -- there is a head at the front, or none however the bytes go on, or none as a read found their end
 abbrev pub HeadOrNone : List ℕ → InputState → List HeaderSpan → Option ResponseSpans → Type 0
-HeadOrNone held source headers (Some spans) = (head : ResponseHead) × IsHeadAt held headers spans head
+HeadOrNone held source headers (Some spans) =
+    (head : ResponseHead) × IsHeadAt held headers spans head
 HeadOrNone held source headers None = NeverHasHead held ⊎ (HasNoHead held × IsEnded source)
 
 -- this is the value of `f` on the bytes given, however they go on, or as a read found their end
 abbrev pub Settles : {A : Type 0} → (List ℕ → A) → List ℕ → InputState → A → Type 0
-Settles f given source value = ((more : List ℕ) → f (given ++ more) ≡ value) ⊎ ((f given ≡ value) × IsEnded source)
+Settles f given source value =
+    ((more : List ℕ) → f (given ++ more) ≡ value) ⊎ ((f given ≡ value) × IsEnded source)

@@ -10,7 +10,9 @@ use Rattle.xcap_client.specs.inner.ReadBuffer.{Settles}
 
 -- Bytes were read after those in the buffer, and the body is in them all; where a read failed,
 -- they don't decide.
-pub record GivesBody (extent : BodyLength) (held : List ℕ) (source source' : InputState) (result : Result (List ℕ) ResponseFault) : Type 0 where
+pub record GivesBody (extent : BodyLength) (held : List ℕ) (source source' : InputState)
+    (result : Result (List ℕ) ResponseFault) : Type 0 where
   pub read : List ℕ
   pub given : Gave source source' read
-  pub body : ByCause result (LacksMore extent (held ++ read)) (Settles (body_by extent) (held ++ read) source')
+  pub body : ByCause result (LacksMore extent (held ++ read))
+      (Settles (body_by extent) (held ++ read) source')

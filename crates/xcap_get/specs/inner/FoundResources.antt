@@ -3,11 +3,12 @@
 use Rattle.std.specs.Prelude.{◌<◌, ◌≤◌}
 use Rattle.store_core.specs.Contents.{StoreContents}
 use Rattle.xml_tree.specs.Tree.{Tree, height}
-use Rattle.xml_tree.specs.Limits.{max_levels}
+use Rattle.xml_names.specs.Limits.{max_levels}
 use Rattle.usage_docs.specs.Services.{document_len, index_limit}
 use Rattle.xcap_machine.specs.Resources.{IsIndexOfServices, Resource, absent, beyond_limit, there}
 use Rattle.xcap_get.specs.declared.document_lookup.DocumentLookup.{DocumentLookup}
-use Rattle.xcap_get.specs.declared.document_lookup.DocumentLookup.TheVariants.{Absent, BeyondLimit, Held, Computed}
+use Rattle.xcap_get.specs.declared.document_lookup.DocumentLookup.TheVariants.{Absent, BeyondLimit}
+use Rattle.xcap_get.specs.declared.document_lookup.DocumentLookup.TheVariants.{Held, Computed}
 
 -- the resource of a lookup
 abbrev pub resource_of : DocumentLookup → Resource

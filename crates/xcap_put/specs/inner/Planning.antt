@@ -49,10 +49,12 @@ AsksBy c id (Makes change exists) = Asks c id change
 -- the answer on these contents: the reply alone, or the store's answer to the change
 abbrev pub answer_by : StoreContents → DocId → Bool → Plan → Answer
 answer_by c id closes (Stops reply) = unchanged reply
-answer_by c id closes (Makes change exists) = change_answer c id change closes (put_reply exists closes)
+answer_by c id closes (Makes change exists) =
+    change_answer c id change closes (put_reply exists closes)
 
 -- whatever the contents are, the plan's answer is of this kind
-pub record IsPlanFor (usage : Usage) (t : Tree) (id : DocId) (closes : Bool) (Is : StoreContents → Answer → Type 0) (plan : Plan) : Type 0 where
+pub record IsPlanFor (usage : Usage) (t : Tree) (id : DocId) (closes : Bool)
+    (Is : StoreContents → Answer → Type 0) (plan : Plan) : Type 0 where
   pub answers : (c : StoreContents) → Is c (answer_by c id closes plan)
   pub may_be_made : MayBeMadeBy usage t plan
 
@@ -66,4 +68,9 @@ IsPlanOf (Err why) exists closes plan = plan ≡ Stops (plan_refused why closes)
 abbrev pub IsRemovalPlan : Usage → Tree → Selector → Request → Option Plan → Type 0
 IsRemovalPlan usage t selector request None = is_there t selector ≡ false
 IsRemovalPlan usage t selector request (Some plan) =
-    (is_there t selector ≡ true) × ((id : DocId) → IsPlanFor usage t id request.closes (λ c a. CutsNode c id usage selector t request a) plan)
+    (is_there t selector ≡ true)
+    × ((id : DocId)
+    → IsPlanFor usage t id request.closes
+    (λ c a.
+    CutsNode c (record { id = id; usage = usage; selector = selector; request = request }) t a)
+    plan)

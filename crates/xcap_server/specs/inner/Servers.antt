@@ -10,11 +10,12 @@ use Rattle.xcap_machine.specs.Machine.{Does, answer_as, content_after_answer}
 use Rattle.xcap_put.specs.Decisions.{answer_of}
 use Rattle.xcap_put.specs.declared.decision.Decision.{Decision}
 use Rattle.http_serve.specs.declared.machine.MachineReply.{MachineReply}
-use Rattle.xcap_server.specs.Servers.{ServerState}
+use Rattle.xcap_machine.specs.Servers.{ServerState}
 
 -- A server answers a request by this reply, with this edit, if it made a change, and its contents
 -- are then the next ones, under the same root.
-pub record AnswersRequest (old : ServerState) (request : Request) (reply : SentReply) (new : ServerState) (edit : Option Edit) : Type 0 where
+pub record AnswersRequest (old : ServerState) (request : Request) (reply : SentReply)
+    (new : ServerState) (edit : Option Edit) : Type 0 where
   pub does : Does old.root old.content request reply new.content edit
   pub same_root : new.root ≡ old.root
 
@@ -24,8 +25,12 @@ IsAsBefore old new = new ≡ old
 
 -- a decision is carried out where the request's record was added; where it couldn't be, the answer
 -- is the 500, and no change is made
-abbrev pub CarriesOut : {E : Type 0} → Stored → Decision → Request → Result (Unit {0}) AppendFault → Result (MachineReply Edit) E → Stored → Type 0
-CarriesOut old d request (Ok x) (Ok a) new = (answer_as a.reply a.edit ≡ answer_of d) × (new.content ≡ content_after_answer old.content (answer_of d).made)
-CarriesOut old d request (Err Failed) (Ok a) new = (a.reply ≡ plain 500 request.closes) × (a.edit ≡ None) × (new.content ≡ old.content)
+abbrev pub CarriesOut : {E : Type 0} → Stored → Decision → Request → Result (Unit {0}) AppendFault
+    → Result (MachineReply Edit) E → Stored → Type 0
+CarriesOut old d request (Ok x) (Ok a) new =
+    (answer_as a.reply a.edit ≡ answer_of d)
+    × (new.content ≡ content_after_answer old.content (answer_of d).made)
+CarriesOut old d request (Err Failed) (Ok a) new =
+    (a.reply ≡ plain 500 request.closes) × (a.edit ≡ None) × (new.content ≡ old.content)
 CarriesOut old d request (Err NoMemory) (Err e) new = new.content ≡ old.content
 CarriesOut old d request _ _ new = ⊥

@@ -1,9 +1,13 @@
 -- Numerals computed digit by digit.
-use Rattle.std.specs.Prelude.{ℕ, ◌+◌, ◌-◌, ◌*◌, ◌&&◌, nat_le, List, [], ◌∷◌, Option, None, Some, if◌then◌else◌}
+use Rattle.std.specs.Prelude.{ℕ, ◌+◌, ◌-◌, ◌*◌, ◌&&◌, nat_le, List, [], ◌∷◌, Option, None, Some}
+use Rattle.std.specs.Prelude.{if◌then◌else◌}
 use Rattle.std.specs.Char.{is_ascii_digit}
-use Rattle.xml_tree.specs.Limits.{u64_max}
+use Rattle.xml_names.specs.Limits.{u64_max}
 
 -- a numeral computed digit by digit, with `0` (48) allowed, after digits of value n
 abbrev pub number_behind : ℕ → List ℕ → Option ℕ
 number_behind n [] = Some n
-number_behind n (c ∷ cs) = if is_ascii_digit c && nat_le (n * 10 + (c - 48)) u64_max then number_behind (n * 10 + (c - 48)) cs else None
+number_behind n (c ∷ cs) =
+    if is_ascii_digit c && nat_le (n * 10 + (c - 48)) u64_max
+    then number_behind (n * 10 + (c - 48)) cs
+    else None

@@ -3,7 +3,7 @@
 -- type, and the two are equal, or equal by a view. The meaning of a target is stated by
 -- `Answered`.
 use Rattle.std.specs.Prelude.{◌≡◌, ◌⊎◌, Result, Ok, Err}
-use Rattle.xml_tree.specs.declared.read_error.ReadError.TheVariants.{NoMemory}
+use Rattle.xml_names.specs.declared.read_error.ReadError.TheVariants.{NoMemory}
 use Rattle.xcap_uri.specs.readers.Steps.{UriError}
 
 -- the stated result, or this one, which means out of memory

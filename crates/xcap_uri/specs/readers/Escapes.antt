@@ -1,8 +1,9 @@
 -- The texts of parts of addresses, decoded from left to right.
-use Rattle.std.specs.Prelude.{ℕ, Bool, ◌&&◌, List, Option, None, Some, Result, Ok, Err, if◌then◌else◌, chars}
+use Rattle.std.specs.Prelude.{ℕ, Bool, ◌&&◌, List, Option, None, Some, Result, Ok, Err}
+use Rattle.std.specs.Prelude.{if◌then◌else◌, chars}
 use Rattle.std.specs.Str.{is_utf8}
 use Rattle.percent_encoding.specs.Percent.{percent_decode}
-use Rattle.xml_tree.specs.declared.read_error.ReadError.TheVariants.{Fault}
+use Rattle.xml_names.specs.declared.read_error.ReadError.TheVariants.{Fault}
 use Rattle.xcap_uri.specs.Escapes.{has_whole_escapes}
 use Rattle.xcap_uri.specs.readers.Steps.{UriError, ◌>>=◌}
 use Rattle.xcap_uri.specs.declared.fault.UriFault.TheVariants.{BadEscape}
@@ -13,7 +14,8 @@ stands_for_text part = has_whole_escapes part && is_utf8 (percent_decode part)
 
 -- the text that it decodes to
 abbrev pub text_read : List ℕ → Result (List ℕ) UriError
-text_read part = if stands_for_text part then Ok (chars (percent_decode part)) else Err (Fault BadEscape)
+text_read part =
+    if stands_for_text part then Ok (chars (percent_decode part)) else Err (Fault BadEscape)
 
 -- the text of a part that may be absent
 abbrev pub optional_text_read : Option (List ℕ) → Result (Option (List ℕ)) UriError

@@ -1,11 +1,12 @@
 -- Queries read from left to right, as code and proofs read them. That the bindings are those of
 -- the rules is a law (`queries_have_one_reading`).
-use Rattle.std.specs.Prelude.{ℕ, zero, suc, ◌+◌, ◌-◌, Bool, ◌&&◌, ◌||◌, ◌==◌, List, [], ◌∷◌, codes, length, Option, None, Some, Result, Ok, Err, if◌then◌else◌}
+use Rattle.std.specs.Prelude.{ℕ, zero, suc, ◌+◌, ◌-◌, Bool, ◌&&◌, ◌||◌, ◌==◌, List, [], ◌∷◌, codes}
+use Rattle.std.specs.Prelude.{length, Option, None, Some, Result, Ok, Err, if◌then◌else◌}
 use Rattle.std.specs.Str.{bytes_eq}
 use Rattle.xml_grammar.specs.Reading.{front_of, after_front, head_is}
-use Rattle.xml_tree.specs.Characters.{is_name_start, is_name_char, is_space}
-use Rattle.xml_tree.specs.declared.names.Decl.{Decl}
-use Rattle.xml_tree.specs.declared.read_error.ReadError.TheVariants.{Fault}
+use Rattle.xml_names.specs.Characters.{is_name_start, is_name_char, is_space}
+use Rattle.xml_names.specs.declared.names.Decl.{Decl}
+use Rattle.xml_names.specs.declared.read_error.ReadError.TheVariants.{Fault}
 use Rattle.xcap_uri.specs.Delimiters.{rest_after_front}
 use Rattle.xcap_uri.specs.readers.Steps.{UriError, ◌>>=◌}
 use Rattle.xcap_uri.specs.Queries.{is_bracket_or_caret, is_blank}
@@ -22,11 +23,16 @@ with_char c read = read >>= λ x. Ok (c ∷ x.0, x.1)
 -- the characters up to the `)` that ends the item, where n earlier `(` are open
 abbrev pub uri_chars : ℕ → List ℕ → Read (List ℕ)
 uri_chars open_count [] = Err (Fault BadQuery)
-uri_chars open_count (c ∷ []) = if c == 41 && open_count == 0 then Ok ([], []) else Err (Fault BadQuery)
+uri_chars open_count (c ∷ []) =
+    if c == 41 && open_count == 0 then Ok ([], []) else Err (Fault BadQuery)
 uri_chars open_count (c ∷ d ∷ rest) =
-    if c == 94 then (if is_bracket_or_caret d then with_char d (uri_chars open_count rest) else Err (Fault BadQuery))
+    if c == 94
+    then (if is_bracket_or_caret d then with_char d (uri_chars open_count rest)
+    else Err (Fault BadQuery))
     else if c == 40 then with_char c (uri_chars (open_count + 1) (d ∷ rest))
-    else if c == 41 then (if open_count == 0 then Ok ([], d ∷ rest) else with_char c (uri_chars (open_count - 1) (d ∷ rest)))
+    else if c == 41
+    then (if open_count == 0 then Ok ([], d ∷ rest)
+    else with_char c (uri_chars (open_count - 1) (d ∷ rest)))
     else with_char c (uri_chars open_count (d ∷ rest))
 
 -- at least one of them, and the `)` that ends the item
@@ -44,11 +50,16 @@ past (Some rest) = Ok rest
 
 -- the text after `=` and the optional white space around it
 abbrev pub equals_past : List ℕ → Result (List ℕ) UriError
-equals_past text = past (rest_after_front (codes "=") (after_front is_space text)) >>= λ rest. Ok (after_front is_space rest)
+equals_past text =
+    past (rest_after_front (codes "=") (after_front is_space text)) >>= λ rest.
+    Ok (after_front is_space rest)
 
 -- an NCName
 abbrev pub prefix_read : List ℕ → Read (List ℕ)
-prefix_read text = if head_is is_name_start text then Ok (front_of is_name_char text, after_front is_name_char text) else Err (Fault BadQuery)
+prefix_read text =
+    if head_is is_name_start text
+    then Ok (front_of is_name_char text, after_front is_name_char text)
+    else Err (Fault BadQuery)
 
 -- a prefix that a query may not bind
 abbrev pub is_reserved : List ℕ → Bool
@@ -72,7 +83,9 @@ item_read text =
 abbrev pub items_read : ℕ → List ℕ → Result (List Decl) UriError
 items_read n [] = Ok []
 items_read zero (c ∷ text) = Err (Fault BadQuery)
-items_read (suc n) (c ∷ text) = item_read (c ∷ text) >>= λ x. items_read n (after_front is_blank x.1) >>= λ items. Ok (x.0 ∷ items)
+items_read (suc n) (c ∷ text) =
+    item_read (c ∷ text) >>= λ x.
+    items_read n (after_front is_blank x.1) >>= λ items. Ok (x.0 ∷ items)
 
 -- the bindings of a query: an item has more than one character, so there are fewer items than
 -- characters

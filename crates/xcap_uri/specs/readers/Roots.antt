@@ -1,5 +1,6 @@
 -- Roots as the code reads them: the scheme, then the authority, then the segments.
-use Rattle.std.specs.Prelude.{ℕ, Bool, false, ◌&&◌, nat_le, List, [], ◌∷◌, codes, length, Option, None, Some}
+use Rattle.std.specs.Prelude.{ℕ, Bool, false, ◌&&◌, nat_le, List, [], ◌∷◌, codes, length, Option}
+use Rattle.std.specs.Prelude.{None, Some}
 use Rattle.std.specs.List.{list_all}
 use Rattle.std.specs.Option.{option_or}
 use Rattle.xcap_uri.specs.Delimiters.{rest_after_front, pieces}
@@ -8,12 +9,14 @@ use Rattle.xcap_uri.specs.declared.root.TheConstants.{MAX_ROOT_LEN}
 
 -- what comes after the scheme
 abbrev pub behind_scheme : List ℕ → Option (List ℕ)
-behind_scheme text = option_or (rest_after_front (codes "http://") text) (rest_after_front (codes "https://") text)
+behind_scheme text =
+    option_or (rest_after_front (codes "http://") text) (rest_after_front (codes "https://") text)
 
 -- an authority, and then segments
 abbrev pub are_authority_and_segments : List (List ℕ) → Bool
 are_authority_and_segments [] = false
-are_authority_and_segments (authority ∷ segments) = is_some_of is_authority_char authority && list_all (is_some_of is_segment_char) segments
+are_authority_and_segments (authority ∷ segments) =
+    is_some_of is_authority_char authority && list_all (is_some_of is_segment_char) segments
 
 abbrev pub is_root_after_scheme : Option (List ℕ) → Bool
 is_root_after_scheme None = false

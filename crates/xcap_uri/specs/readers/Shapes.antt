@@ -1,12 +1,14 @@
 -- What the segments of an address name, read from left to right.
-use Rattle.std.specs.Prelude.{ℕ, Bool, true, false, List, [], ◌∷◌, Option, None, Some, option_map, Result, Ok, Err, if◌then◌else◌}
+use Rattle.std.specs.Prelude.{ℕ, Bool, true, false, List, [], ◌∷◌, Option, None, Some, option_map}
+use Rattle.std.specs.Prelude.{Result, Ok, Err, if◌then◌else◌}
 use Rattle.std.specs.List.{list_any}
 use Rattle.std.specs.Str.{bytes_eq}
-use Rattle.xml_tree.specs.declared.read_error.ReadError.TheVariants.{Fault}
+use Rattle.xml_names.specs.declared.read_error.ReadError.TheVariants.{Fault}
 use Rattle.xcap_uri.specs.readers.Steps.{UriError}
 use Rattle.xcap_uri.specs.Shapes.{doc_of, tag_spelled}
 use Rattle.xcap_uri.specs.Words.{global, users, feed, flat, element_word}
-use Rattle.xcap_uri.specs.readers.Words.{resource_lists, rls_services, xcap_caps, no_patching, xcap_patching, aggregate}
+use Rattle.xcap_uri.specs.readers.Words.{resource_lists, rls_services, xcap_caps, no_patching}
+use Rattle.xcap_uri.specs.readers.Words.{xcap_patching, aggregate}
 use Rattle.doc_names.specs.declared.doc_id.Auid.{Auid}
 use Rattle.doc_names.specs.declared.doc_id.Auid.TheVariants.{ResourceLists, RlsServices, XcapCaps}
 use Rattle.doc_names.specs.declared.doc_id.Home.{Home}
@@ -16,7 +18,8 @@ use Rattle.xcap_uri.specs.declared.fault.UriFault.TheVariants.{BadShape, Unknown
 use Rattle.xcap_uri.specs.declared.target.Mode.{Mode}
 use Rattle.xcap_uri.specs.declared.target.Mode.TheVariants.{NoPatching, XcapPatching, Aggregate}
 use Rattle.xcap_uri.specs.declared.shape.Shape.{Shape}
-use Rattle.xcap_uri.specs.declared.shape.Shape.TheVariants.{Document, Node, Deep, Feed, ElementFeed, Flat}
+use Rattle.xcap_uri.specs.declared.shape.Shape.TheVariants.{Document, Node, Deep, Feed, ElementFeed}
+use Rattle.xcap_uri.specs.declared.shape.Shape.TheVariants.{Flat}
 
 -- ---- the words
 
@@ -74,7 +77,9 @@ in_usage auid (tree ∷ rest) selector =
 
 -- the document of a stored AUID and a user
 abbrev pub stored_doc : List ℕ → List ℕ → List ℕ → List ℕ → Option DocId
-stored_doc auid tree xui name = if bytes_eq tree users then option_map (λ a. doc_of a (User xui) name) (stored_auid_of auid) else None
+stored_doc auid tree xui name =
+    if bytes_eq tree users then option_map (λ a. doc_of a (User xui) name) (stored_auid_of auid)
+    else None
 
 -- the feed of an element has a selector, which isn't empty
 abbrev pub element_feed : ℕ → DocId → Option (List ℕ) → Result Shape UriError
@@ -92,11 +97,13 @@ abbrev pub either_feed : List ℕ → Option ℕ → Option DocId → Option (Li
 either_feed mode None doc selector = Err (Fault BadShape)
 either_feed mode (Some tag) None selector = Err (Fault BadShape)
 either_feed mode (Some tag) (Some doc) selector =
-    if bytes_eq mode element_word then element_feed tag doc selector else document_feed (mode_of mode) tag doc selector
+    if bytes_eq mode element_word then element_feed tag doc selector
+    else document_feed (mode_of mode) tag doc selector
 
 -- after `~feed`: a mode or `element`, an etag, a stored AUID, `users`, a user and a name
 abbrev pub feed_shape : List (List ℕ) → Option (List ℕ) → Result Shape UriError
-feed_shape (mode ∷ tag ∷ auid ∷ tree ∷ xui ∷ name ∷ []) selector = either_feed mode (tag_spelled tag) (stored_doc auid tree xui name) selector
+feed_shape (mode ∷ tag ∷ auid ∷ tree ∷ xui ∷ name ∷ []) selector =
+    either_feed mode (tag_spelled tag) (stored_doc auid tree xui name) selector
 feed_shape _ selector = Err (Fault BadShape)
 
 -- after `~flat`: a user, a name and the address of a service, without separator
@@ -123,4 +130,5 @@ is_empty (c ∷ cs) = false
 
 -- what the segments name, none of which is empty
 abbrev pub shape_of : List (List ℕ) → Option (List ℕ) → Result Shape UriError
-shape_of segments selector = if list_any is_empty segments then Err (Fault BadShape) else named segments selector
+shape_of segments selector =
+    if list_any is_empty segments then Err (Fault BadShape) else named segments selector

@@ -1,6 +1,6 @@
 -- The steps in which a target is read: the first fault is reported. RFC 4825, section 6.
 use Rattle.std.specs.Prelude.{Result, Ok, Err}
-use Rattle.xml_tree.specs.declared.read_error.ReadError.{ReadError}
+use Rattle.xml_names.specs.declared.read_error.ReadError.{ReadError}
 use Rattle.xcap_uri.specs.declared.fault.UriFault.{UriFault}
 
 -- a fault of a target, or out of memory

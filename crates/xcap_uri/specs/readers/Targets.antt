@@ -1,15 +1,16 @@
 -- Targets, read from left to right.
-use Rattle.std.specs.Prelude.{ℕ, List, [], ◌∷◌, encode_utf8_all, Option, None, Some, Result, Ok, Err, if◌then◌else◌, chars}
+use Rattle.std.specs.Prelude.{ℕ, List, [], ◌∷◌, encode_utf8_all, Option, None, Some, Result, Ok}
+use Rattle.std.specs.Prelude.{Err, if◌then◌else◌, chars}
 use Rattle.std.specs.Str.{bytes_eq}
 use Rattle.std.specs.List.{join_with_byte}
-use Rattle.xml_tree.specs.declared.names.Decl.{Decl}
+use Rattle.xml_names.specs.declared.names.Decl.{Decl}
 use Rattle.node_select.specs.readers.Whole.{selector_read}
 use Rattle.node_select.specs.declared.fault.SelectorFault.{SelectorFault}
 use Rattle.node_select.specs.declared.selector.Selector.{Selector}
 use Rattle.node_select.specs.declared.selector.End.{End}
 use Rattle.node_select.specs.declared.selector.End.TheVariants as ends
-use Rattle.xml_tree.specs.declared.read_error.ReadError.{ReadError}
-use Rattle.xml_tree.specs.declared.read_error.ReadError.TheVariants.{Fault, NoMemory}
+use Rattle.xml_names.specs.declared.read_error.ReadError.{ReadError}
+use Rattle.xml_names.specs.declared.read_error.ReadError.TheVariants.{Fault, NoMemory}
 use Rattle.doc_names.specs.Ids.{separator}
 use Rattle.doc_names.specs.Usages.{namespace_of}
 use Rattle.doc_names.specs.declared.doc_id.Auid.{Auid}
@@ -24,7 +25,8 @@ use Rattle.xcap_uri.specs.declared.fault.UriFault.TheVariants.{OutsideRoot, BadS
 use Rattle.xcap_uri.specs.declared.shape.Shape.{Shape}
 use Rattle.xcap_uri.specs.declared.shape.Shape.TheVariants as shapes
 use Rattle.xcap_uri.specs.declared.target.Target.{Target}
-use Rattle.xcap_uri.specs.declared.target.Target.TheVariants.{Document, Node, Deep, Feed, ElementFeed, Flat}
+use Rattle.xcap_uri.specs.declared.target.Target.TheVariants.{Document, Node, Deep, Feed}
+use Rattle.xcap_uri.specs.declared.target.Target.TheVariants.{ElementFeed, Flat}
 
 -- the segments before the first one that decodes to the separator, each decoded; and where there
 -- is one, the text after it
@@ -52,7 +54,8 @@ as_target_part (Err fault) = Err (Fault (target_fault fault))
 
 -- the selector that a text spells in a document of this AUID
 abbrev pub part_read : List Decl → Auid → List ℕ → Result Selector UriError
-part_read bindings auid text = as_target_part (selector_read bindings (chars (namespace_of auid)) (encode_utf8_all text))
+part_read bindings auid text =
+    as_target_part (selector_read bindings (chars (namespace_of auid)) (encode_utf8_all text))
 
 -- a feed of a node is about an element, and about nothing else
 abbrev pub ends_in_element : End → Selector → Result Selector UriError
@@ -66,10 +69,13 @@ about_element selector = ends_in_element selector.end selector
 -- the target of a shape
 abbrev pub target_of : Shape → List Decl → List ℕ → Result Target UriError
 target_of (shapes.Document doc) bindings raw = Ok (Document doc)
-target_of (shapes.Node doc text) bindings raw = part_read bindings doc.auid text >>= λ selector. Ok (Node doc selector)
+target_of (shapes.Node doc text) bindings raw =
+    part_read bindings doc.auid text >>= λ selector. Ok (Node doc selector)
 target_of (shapes.Deep auid home) bindings raw = Ok (Deep auid home)
 target_of (shapes.Feed mode tag doc) bindings raw = Ok (Feed mode tag doc)
-target_of (shapes.ElementFeed tag doc text) bindings raw = part_read bindings doc.auid text >>= about_element >>= λ selector. Ok (ElementFeed tag doc selector raw)
+target_of (shapes.ElementFeed tag doc text) bindings raw =
+    part_read bindings doc.auid text >>= about_element >>= λ selector.
+    Ok (ElementFeed tag doc selector raw)
 target_of (shapes.Flat doc service) bindings raw = Ok (Flat doc service)
 
 -- escapes, then the shape, then the query, then the selector

@@ -1,7 +1,7 @@
 -- What the code finds next in the URI of an item.
 use Rattle.std.specs.Prelude.{◌≡◌, ◌<◌, ◌≤◌, ℕ, ◌+◌, List, [], ◌++◌, length, Result, Ok, Err}
-use Rattle.xml_tree.specs.declared.names.Decl.{Decl}
-use Rattle.xml_tree.specs.declared.read_error.ReadError.TheVariants.{Fault}
+use Rattle.xml_names.specs.declared.names.Decl.{Decl}
+use Rattle.xml_names.specs.declared.read_error.ReadError.TheVariants.{Fault}
 use Rattle.xcap_uri.specs.readers.Steps.{UriError, ◌>>=◌}
 use Rattle.xcap_uri.specs.readers.Queries.{Read, uri_chars, with_char}
 use Rattle.xcap_uri.specs.declared.fault.UriFault.TheVariants.{BadQuery}
@@ -17,7 +17,8 @@ StepsTo Breaks read = read ≡ Err (Fault BadQuery)
 -- what comes after a character is shorter, by at least the number of newly opened brackets
 abbrev pub IsShorter : ℕ → List ℕ → UriStep → Type 0
 IsShorter open_count text (Ends rest) = Unit {0}
-IsShorter open_count text (Goes c more rest) = (length rest.now < length text) × (more + length rest.now ≤ open_count + length text)
+IsShorter open_count text (Goes c more rest) =
+    (length rest.now < length text) × (more + length rest.now ≤ open_count + length text)
 IsShorter open_count text Breaks = Unit {0}
 
 -- characters before those that are read

@@ -1,9 +1,13 @@
 -- Reading functions: each reads a text from left to right by a rule, and returns a value and the
 -- rest of the text, or a stop with the rest there. There is one for each way to make a rule, and
 -- code that reads equals one of them.
-use Rattle.std.specs.Prelude.{ℕ, zero, suc, ◌+◌, ◌-◌, ◌*◌, Bool, true, false, ◌&&◌, List, [], ◌∷◌, ◌++◌, Result, Ok, Err, if◌then◌else◌, nat_le, length, drop, encode_utf8_all, Option, Some, None}
+use Rattle.std.specs.Prelude.{ℕ, zero, suc, ◌+◌, ◌-◌, ◌*◌, Bool, true, false, ◌&&◌, List, [], ◌∷◌}
+use Rattle.std.specs.Prelude.{◌++◌, Result, Ok, Err, if◌then◌else◌, nat_le, length, drop}
+use Rattle.std.specs.Prelude.{encode_utf8_all, Option, Some, None}
 use Rattle.xml_grammar.specs.Digits.{Digits}
-use Rattle.xml_grammar.specs.Reading.{Faulty, Reader, Stop, Syntax, after_front, head_is, read_one, read_run, read_sequence, read_valued, read_word, starts, ◌>>=◌}
+use Rattle.xml_grammar.specs.Reading.{Faulty, Reader, Stop, Syntax, after_front, head_is, read_one}
+use Rattle.xml_grammar.specs.Reading.{read_run, read_sequence, read_valued, read_word, starts}
+use Rattle.xml_grammar.specs.Reading.{◌>>=◌}
 
 -- at least one character of the first class is at the front, and after all of them one of the
 -- second
@@ -55,18 +59,22 @@ abbrev pub read_digits : {Kind : Type 0} → Digits → ℕ → (ℕ → Bool) �
 read_digits d most p n any [] = number_end p n any []
 read_digits d most p n any (c ∷ cs) =
     if d.is_digit c
-    then if nat_le (n * d.base + d.value c) most then read_digits d most p (n * d.base + d.value c) true cs else Err (Syntax (c ∷ cs))
+    then if nat_le (n * d.base + d.value c) most
+    then read_digits d most p (n * d.base + d.value c) true cs
+    else Err (Syntax (c ∷ cs))
     else number_end p n any (c ∷ cs)
 
 abbrev pub read_number : {Kind : Type 0} → Digits → ℕ → (ℕ → Bool) → Reader Kind ℕ
 read_number d most p = read_digits d most p 0 false
 
 -- the test chooses which of the two is read
-abbrev pub read_either : {Kind A : Type 0} → (List ℕ → Bool) → Reader Kind A → Reader Kind A → Reader Kind A
+abbrev pub read_either : {Kind A : Type 0} → (List ℕ → Bool) → Reader Kind A → Reader Kind A
+    → Reader Kind A
 read_either test p q text = if test text then p text else q text
 
 -- members while the test holds, at most n
-abbrev pub read_at_most : {Kind A : Type 0} → (List ℕ → Bool) → Reader Kind A → ℕ → Reader Kind (List A)
+abbrev pub read_at_most : {Kind A : Type 0} → (List ℕ → Bool) → Reader Kind A → ℕ
+    → Reader Kind (List A)
 read_at_most test p zero text = Ok ([], text)
 read_at_most test p (suc n) text =
     if test text
@@ -84,7 +92,8 @@ abbrev pub read_only : {Kind A : Type 0} → (A → Bool) → Reader Kind A → 
 read_only test p text = p text >>= λ x. if test x.0 then Ok x else Err (Syntax x.1)
 
 -- where the text can't be read, reading stops at its start
-abbrev pub whole_or_stop : {Kind A : Type 0} → List ℕ → Result (A × List ℕ) (Stop Kind) → Result (A × List ℕ) (Stop Kind)
+abbrev pub whole_or_stop : {Kind A : Type 0} → List ℕ → Result (A × List ℕ) (Stop Kind)
+    → Result (A × List ℕ) (Stop Kind)
 whole_or_stop text (Ok x) = Ok x
 whole_or_stop text (Err e) = Err (Syntax text)
 
@@ -96,7 +105,8 @@ abbrev pub read_marked : {Kind A : Type 0} → Kind → (List ℕ → Bool) → 
 read_marked kind test p text = if test text then Err (Faulty kind text) else p text
 
 -- what was read, unless a fault marks a place this many characters back
-abbrev pub judgement : {Kind A : Type 0} → List ℕ → A × List ℕ → Option (Kind × ℕ) → Result (A × List ℕ) (Stop Kind)
+abbrev pub judgement : {Kind A : Type 0} → List ℕ → A × List ℕ → Option (Kind × ℕ)
+    → Result (A × List ℕ) (Stop Kind)
 judgement text x None = Ok x
 judgement text x (Some said) = Err (Faulty said.0 (drop (length text - length x.1 - said.1) text))
 
@@ -104,16 +114,22 @@ abbrev pub read_judged : {Kind A : Type 0} → (A → Option (Kind × ℕ)) → 
 read_judged judge p text = p text >>= λ x. judgement text x (judge x.0)
 
 abbrev pub read_trap : {Kind A : Type 0} → Kind → List ℕ → List ℕ → Reader Kind A
-read_trap kind seen rest text = if starts (seen ++ rest) text then Err (Faulty kind text) else (read_word seen text >>= λ x. Err (Syntax x.1))
+read_trap kind seen rest text =
+    if starts (seen ++ rest) text then Err (Faulty kind text)
+    else (read_word seen text >>= λ x. Err (Syntax x.1))
 
-abbrev pub read_optional : {Kind A : Type 0} → (List ℕ → Bool) → Reader Kind A → Reader Kind (Option A)
+abbrev pub read_optional : {Kind A : Type 0} → (List ℕ → Bool) → Reader Kind A
+    → Reader Kind (Option A)
 read_optional test p = read_either test (read_valued Some p) (read_empty None)
 
-abbrev pub read_between : {Kind A B : Type 0} → (List ℕ → Bool) → Reader Kind A → Reader Kind B → Reader Kind (A × List (B × A))
-read_between test gap member = read_sequence gap (λ _. read_many test (read_sequence member (λ _. gap)))
+abbrev pub read_between : {Kind A B : Type 0} → (List ℕ → Bool) → Reader Kind A → Reader Kind B
+    → Reader Kind (A × List (B × A))
+read_between test gap member =
+    read_sequence gap (λ _. read_many test (read_sequence member (λ _. gap)))
 
 abbrev pub read_name_of : {Kind : Type 0} → (ℕ → Bool) → (ℕ → Bool) → Reader Kind (List ℕ)
-read_name_of first others = read_valued (λ x. x.0 ∷ x.1) (read_sequence (read_one first) (λ _. read_run others))
+read_name_of first others =
+    read_valued (λ x. x.0 ∷ x.1) (read_sequence (read_one first) (λ _. read_run others))
 
 abbrev pub read_before : {Kind A B : Type 0} → Reader Kind A → Reader Kind B → Reader Kind A
 read_before p q = read_valued (λ x. x.0) (read_sequence p (λ _. q))
@@ -122,7 +138,9 @@ abbrev pub read_behind : {Kind A B : Type 0} → Reader Kind A → Reader Kind B
 read_behind p q = read_valued (λ x. x.1) (read_sequence p (λ _. q))
 
 abbrev pub read_quoted : {Kind A : Type 0} → (ℕ → Bool) → (ℕ → Reader Kind A) → Reader Kind A
-read_quoted is_quote inside = read_valued (λ x. x.1) (read_sequence (read_one is_quote) (λ q. read_before (inside q) (read_word (q ∷ []))))
+read_quoted is_quote inside =
+    read_valued (λ x. x.1)
+    (read_sequence (read_one is_quote) (λ q. read_before (inside q) (read_word (q ∷ []))))
 
 -- nothing is left
 abbrev pub all_of : {Kind A : Type 0} → A → List ℕ → Result A (Stop Kind)

@@ -1,6 +1,6 @@
 -- Linked scopes.
 use Rattle.std.specs.Prelude.{List, [], ◌∷◌, ◌++◌}
-use Rattle.xml_tree.specs.declared.names.Decl.{Decl}
+use Rattle.xml_names.specs.declared.names.Decl.{Decl}
 use Rattle.xml_tree.specs.declared.linked_scope.Place.{Place}
 use Rattle.xml_tree.specs.declared.linked_scope.Place.TheVariants.{Nothing, Outermost, Within}
 

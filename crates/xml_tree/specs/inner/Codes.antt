@@ -1,13 +1,14 @@
 -- How a ghost variable stores a tree: an injective map into pairs and numbers.
 use Rattle.std.specs.Prelude.{◌≡◌, ℕ, List}
-use Rattle.std.specs.Coded.{Coded, code_by, coded×, coded_ℕ, coded_list}
+use Rattle.std.specs.Coded.{Coded, code_by, coded×}
 use Rattle.std.proofs.Common.{arith}
 use mathlib.Core.Path.{refl, ap}
 use base.Stored.{Gv, gnil, gnum, gcons, num}
 use Rattle.xml_tree.specs.Tree.{Content, last, more, comment_node, Tree, tree_of}
-use Rattle.xml_tree.specs.declared.names.Name.{Name}
-use Rattle.xml_tree.specs.declared.names.Decl.{Decl}
-use Rattle.xml_tree.specs.declared.names.Attr.{Attr}
+use Rattle.xml_names.specs.declared.names.Name.{Name}
+use Rattle.xml_names.specs.declared.names.Decl.{Decl}
+use Rattle.xml_names.specs.declared.names.Attr.{Attr}
+use Rattle.xml_names.specs.inner.Codes.{attrs_code, decls_code, name_code, text_code}
 
 abbrev pub left : Gv → Gv
 left gnil = gnil
@@ -19,29 +20,16 @@ right gnil = gnil
 right (gnum n) = gnil
 right (gcons a b) = b
 
-abbrev pub text_code : Coded (List ℕ)
-text_code = coded_list coded_ℕ
-
-abbrev pub name_code : Coded Name
-name_code = code_by (List ℕ × List ℕ) (coded× text_code text_code) (λ n. (n.prefix, n.local)) (λ p. record { prefix = p.0; local = p.1 }) (λ _. refl)
-
-abbrev pub decl_code : Coded Decl
-decl_code = code_by (List ℕ × List ℕ) (coded× text_code text_code) (λ d. (d.prefix, d.uri)) (λ p. record { prefix = p.0; uri = p.1 }) (λ _. refl)
-
-abbrev pub decls_code : Coded (List Decl)
-decls_code = coded_list decl_code
-
-abbrev pub attr_code : Coded Attr
-attr_code = code_by (Name × List ℕ) (coded× name_code text_code) (λ a. (a.name, a.value)) (λ p. record { name = p.0; value = p.1 }) (λ _. refl)
-
-abbrev pub attrs_code : Coded (List Attr)
-attrs_code = coded_list attr_code
-
 abbrev pub content_gv : Content → Gv
 content_gv (last t) = gcons (gnum 0) (text_code.code t)
 content_gv (more t n ds ats c rest) =
-    gcons (gnum 1) (gcons (text_code.code t) (gcons (name_code.code n) (gcons (decls_code.code ds) (gcons (attrs_code.code ats) (gcons (content_gv c) (content_gv rest))))))
-content_gv (comment_node t c rest) = gcons (gnum 2) (gcons (text_code.code t) (gcons (text_code.code c) (content_gv rest)))
+    gcons (gnum 1)
+    (gcons (text_code.code t)
+    (gcons (name_code.code n)
+    (gcons (decls_code.code ds)
+    (gcons (attrs_code.code ats) (gcons (content_gv c) (content_gv rest))))))
+content_gv (comment_node t c rest) =
+    gcons (gnum 2) (gcons (text_code.code t) (gcons (text_code.code c) (content_gv rest)))
 
 -- which constructor a content has, by its code
 abbrev pub form : Gv → ℕ
@@ -63,14 +51,18 @@ content_inj (comment_node t c rest) (comment_node t' c' rest') p = λ i.
 content_inj (last t) (more t' n' ds' ats' c' rest') p = absurd (omega (arith, ap form p))
 content_inj (last t) (comment_node t' c' rest') p = absurd (omega (arith, ap form p))
 content_inj (more t n ds ats c rest) (last u) p = absurd (omega (arith, ap form p))
-content_inj (more t n ds ats c rest) (comment_node t' c' rest') p = absurd (omega (arith, ap form p))
+content_inj (more t n ds ats c rest) (comment_node t' c' rest') p =
+    absurd (omega (arith, ap form p))
 content_inj (comment_node t c rest) (last u) p = absurd (omega (arith, ap form p))
-content_inj (comment_node t c rest) (more t' n' ds' ats' c' rest') p = absurd (omega (arith, ap form p))
+content_inj (comment_node t c rest) (more t' n' ds' ats' c' rest') p =
+    absurd (omega (arith, ap form p))
 
 abbrev pub content_code : Coded Content
 content_code = record { code = content_gv; inj = content_inj }
 
 abbrev pub tree_code : Coded Tree
 tree_code =
-    code_by (Name × (List Decl × (List Attr × Content))) (coded× name_code (coded× decls_code (coded× attrs_code content_code)))
-    (λ e. (e.name, (e.decls, (e.attrs, e.content)))) (λ p. tree_of p.0 p.1.0 p.1.1.0 p.1.1.1) (λ _. refl)
+    code_by (Name × (List Decl × (List Attr × Content)))
+    (coded× name_code (coded× decls_code (coded× attrs_code content_code)))
+    (λ e. (e.name, (e.decls, (e.attrs, e.content)))) (λ p. tree_of p.0 p.1.0 p.1.1.0 p.1.1.1) (λ _.
+    refl)

@@ -2,7 +2,8 @@
 use Rattle.std.specs.Prelude.{ℕ, List}
 use Rattle.xml_tree.specs.declared.tree.Node.{Node}
 use Rattle.xml_tree.specs.declared.tree.Node.TheVariants.{Elem, Chars, Comment}
-use Rattle.xml_tree.specs.Print.{print, print_comment, print_text}
+use Rattle.xml_names.specs.Markup.{print_comment, print_text}
+use Rattle.xml_tree.specs.Print.{print}
 
 -- a node
 abbrev pub print_node : Node → List ℕ

@@ -1,7 +1,7 @@
 -- Contents that are proper as a whole.
 use Rattle.std.specs.Prelude.{List}
 use Rattle.xml_tree.specs.Tree.{Content}
-use Rattle.xml_tree.specs.declared.names.Decl.{Decl}
+use Rattle.xml_names.specs.declared.names.Decl.{Decl}
 use Rattle.xml_tree.specs.Proper.{Everywhere, IsProperPart}
 
 -- a proper content, in the scope inside its element

@@ -5,7 +5,7 @@ use Rattle.client_commands.proofs.follow_command.follow_on.Given as goal
 abbrev pub invariant-rounds : goal.invariant-rounds
 invariant-rounds g l = record {
   within : l.made ≤ l.rounds;
-  rounds_made : RoundsMade l.made l.fn.follower l.follower (g.C.Line.state l.fn.peer) (g.C.Line.state l.peer) (g.O.Line.state l.fn.output) (g.O.Line.state l.output);
+  rounds_made : RoundsMade l.made l.fn.follower l.follower (record { peer = g.C.Line.state l.fn.peer; output = g.O.Line.state l.fn.output }) (record { peer = g.C.Line.state l.peer; output = g.O.Line.state l.output });
 }
 
 abbrev pub decreases-rounds : goal.decreases-rounds

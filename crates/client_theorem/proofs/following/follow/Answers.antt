@@ -13,7 +13,8 @@ pub returns-clause-follows_machine : goal.returns-clause-follows_machine
 returns-clause-follows_machine c =
     let held = stored_in c.args.replica.now.held in
     let asks = subst (λ (r : List ℕ). AsksFrom r c.args.mode c.args.doc.now held c.in_ok-request.request) c.root.ensures.exact c.in_ok-request.ensures.asks_since in
-    follows c.args.server.now.root c.args.server.now.content c.args.mode c.args.doc.now c.args.replica.now.doc held c.take.result (stored_in c.take.new.replica.held) c.in_ok-request.request
+    follows (record { root = c.args.server.now.root; content = c.args.server.now.content; mode = c.args.mode; doc = c.args.doc.now }) c.args.replica.now.doc
+    (record { old = held; result = c.take.result; new = stored_in c.take.new.replica.held }) c.in_ok-request.request
     c.in_ok-answered.answered.reply asks (c.in_ok-answered.ensures.machine_feed c.args.mode asks.number c.args.doc.now asks.asks).0 c.take.ensures.takes_reply
 
 pub returns-clause-server_unchanged : goal.returns-clause-server_unchanged

@@ -5,11 +5,15 @@ use Rattle.store_core.specs.ValidStates.{IsValidState}
 use Rattle.store_core.specs.State.{State}
 use Rattle.xcap_machine.specs.Answers.{unchanged}
 use Rattle.client_theorem.specs.FeedRequests.{AsksForFeed, feed_request}
+use Rattle.client_theorem.specs.FollowResults.{FeedQuery}
 use Rattle.patch_apply.specs.Views.{stored_in}
 use Rattle.client_theorem.proofs.Holds.{Lawful, drops_gone, holds_present}
 use Rattle.client_theorem.proofs.following.followed.Goals as goal
 
-lawful : (c : goal.After-follow) (m : State) → IsValidState m → Represents c.args.server.now.content m → Lawful c.args.server.now.root c.args.server.now.content m c.args.mode c.args.doc.now
+abbrev query_of : goal.After-follow → FeedQuery
+query_of c = record { root = c.args.server.now.root; content = c.args.server.now.content; mode = c.args.mode; doc = c.args.doc.now }
+
+lawful : (c : goal.After-follow) (m : State) → IsValidState m → Represents c.args.server.now.content m → Lawful (query_of c) m
 lawful c m kept stands =
     let root = c.args.server.now.root in
     let is_root = ap is_root_text (sym c.root.ensures.exact) ∙ c.text-text.ensures.valid_root_text in
@@ -25,10 +29,10 @@ lawful c m kept stands =
 pub returns-clause-holds_present : goal.returns-clause-holds_present
 returns-clause-holds_present c m kept stands same =
     let last = c.last_number-last in
-    holds_present c.args.server.now.root c.args.server.now.content m c.args.mode c.args.doc.now c.args.replica.now.doc (stored_in c.args.replica.now.held) c.follow.result (stored_in c.follow.new.replica.held)
+    holds_present (query_of c) m c.args.replica.now.doc (record { old = stored_in c.args.replica.now.held; result = c.follow.result; new = stored_in c.follow.new.replica.held })
     (lawful c m kept stands) same c.follow.ensures.follows_machine last.result (last.ensures.below_next ∙ ap (λ (s : StoreContents). s.next) c.store.ensures.same_contents) (omega (arith, last.type_inv))
 
 pub returns-clause-drops_gone : goal.returns-clause-drops_gone
 returns-clause-drops_gone c m kept stands same =
-    drops_gone c.args.server.now.root c.args.server.now.content m c.args.mode c.args.doc.now c.args.replica.now.doc (stored_in c.args.replica.now.held) c.follow.result (stored_in c.follow.new.replica.held)
+    drops_gone (query_of c) m c.args.replica.now.doc (record { old = stored_in c.args.replica.now.held; result = c.follow.result; new = stored_in c.follow.new.replica.held })
     (lawful c m kept stands) same c.follow.ensures.follows_machine

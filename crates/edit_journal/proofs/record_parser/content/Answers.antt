@@ -1,5 +1,5 @@
 use Rattle.std.proofs.Common.{◌≡◌, ◌+◌, ◌-◌, ◌++◌, List, ℕ, length, Ok, Err, ap, sym, ◌∙◌, subst, arith, append_assoc, length-append}
-use Rattle.xml_tree.specs.contracts.text.Text.{the_view}
+use Rattle.xml_names.specs.contracts.text.Text.{the_view}
 use Rattle.std.specs.Borrow.{Bor}
 use Rattle.http_wire.specs.declared.request.Field.{Field}
 use Rattle.http_wire.specs.declared.request.Request.{Request}

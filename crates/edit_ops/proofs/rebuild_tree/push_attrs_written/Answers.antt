@@ -1,7 +1,7 @@
 use Rattle.std.proofs.Common.{◌≡◌, ◌+◌, ◌∷◌, drop, refl, sym, ◌∙◌, arith}
 use Rattle.std.proofs.lemmas.Grind.{common_steps}
 use Rattle.std.proofs.lemmas.Result.{on_ok_weaker}
-use Rattle.xml_tree.specs.Attributes.{with_new_value}
+use Rattle.xml_names.specs.Attributes.{with_new_value}
 use Rattle.edit_ops.proofs.TagLemmas.{tag_written}
 use Rattle.edit_ops.proofs.rebuild_tree.push_attrs_written.Goals as goal
 

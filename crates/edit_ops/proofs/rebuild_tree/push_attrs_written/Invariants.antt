@@ -1,5 +1,5 @@
 use Rattle.std.proofs.Common.{◌≡◌, ◌++◌, drop}
-use Rattle.xml_tree.specs.Attributes.{with_attr}
+use Rattle.xml_names.specs.Attributes.{with_attr}
 use Rattle.edit_ops.proofs.rebuild_tree.push_attrs_written.Given as goal
 
 abbrev pub invariant-loop-i : goal.invariant-loop-i

@@ -1,5 +1,5 @@
 use Rattle.std.proofs.Common.{◌≡◌, ◌++◌, drop}
-use Rattle.xml_tree.specs.Attributes.{without_attr}
+use Rattle.xml_names.specs.Attributes.{without_attr}
 use Rattle.edit_ops.proofs.rebuild_tree.push_other_attrs.Given as goal
 
 abbrev pub invariant-loop-i : goal.invariant-loop-i

@@ -1,5 +1,5 @@
 use Rattle.std.proofs.Common.{◌≡◌, ◌+◌, min, sym, ap, ◌∙◌, arith}
-use Rattle.xml_tree.specs.Print.{print_name}
+use Rattle.xml_names.specs.Markup.{print_name}
 use Rattle.xml_tree.specs.PathTexts.{path_text}
 use Rattle.edit_ops.specs.inner.RecordLengths.{written_len}
 use Rattle.edit_ops.proofs.Operations.{attr-path}

@@ -1,5 +1,5 @@
 use Rattle.std.proofs.Common.{flat_map, ap, ◌∙◌, arith}
-use Rattle.xml_tree.specs.Print.{byte_len, print_attr}
+use Rattle.xml_names.specs.Markup.{byte_len, print_attr}
 use Rattle.edit_ops.specs.Operations.{gap_attrs}
 use Rattle.edit_ops.proofs.Operations.{gap-first, gap-later}
 use Rattle.edit_ops.proofs.record_weight.gap_len.Goals as goal

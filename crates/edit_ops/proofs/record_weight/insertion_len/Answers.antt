@@ -1,5 +1,6 @@
 use Rattle.std.proofs.Common.{false, codes, flat_map}
-use Rattle.xml_tree.specs.Print.{byte_len, print, print_attr, print_decl}
+use Rattle.xml_names.specs.Markup.{byte_len, print_attr, print_decl}
+use Rattle.xml_tree.specs.Print.{print}
 use Rattle.edit_ops.specs.declared.change.Change.TheVariants.{Insert}
 use Rattle.edit_ops.specs.Operations.{gap_attrs, change_operation as told}
 use Rattle.edit_ops.proofs.Operations.{filled_stops, insertion}

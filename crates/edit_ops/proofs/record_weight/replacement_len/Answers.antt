@@ -1,5 +1,6 @@
 use Rattle.std.proofs.Common.{◌≡◌, ◌+◌, min, false, codes, flat_map, arith}
-use Rattle.xml_tree.specs.Print.{byte_len, print, print_decl}
+use Rattle.xml_names.specs.Markup.{byte_len, print_decl}
+use Rattle.xml_tree.specs.Print.{print}
 use Rattle.xml_tree.specs.PathTexts.{path_text}
 use Rattle.edit_ops.specs.declared.change.Change.TheVariants.{Replace}
 use Rattle.edit_ops.specs.inner.RecordLengths.{written_len}

@@ -36,6 +36,6 @@ returns c = record {
       inr (inr (
         c.is_found_in.ensures.exact.0 c.if-not-is_found_in.false,
         c.attrs_pass_in.ensures.exact.0 c.if-not-attrs_pass_in.false,
-        judged_by F G row scope xs tag q j c.check_insertion.result c.attrs_formed_in-formed.ensures.exact (subst (λ (l : List Tree). IsJudgedIn F row scope l tag q j c.check_insertion.result) same c.check_insertion.ensures.judged_by_form),
+        judged_by F G row scope xs tag q j c.check_insertion.result c.attrs_formed_in-formed.ensures.exact (subst (λ (l : List Tree). IsJudgedIn F (record { kind = row; scope = scope; elements = l; path = q }) tag j c.check_insertion.result) same c.check_insertion.ensures.judged_by_form),
       ));
 }

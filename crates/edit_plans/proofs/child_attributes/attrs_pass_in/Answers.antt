@@ -1,5 +1,5 @@
 use Rattle.std.proofs.Common.{IsTrue, rules}
-use Rattle.xml_tree.specs.Scopes.{inside}
+use Rattle.xml_tree.specs.TreeScopes.{inside}
 use Rattle.usage_docs.specs.Keys.{attrs_pass}
 use Rattle.usage_docs.specs.Kinds.{kind_of_child}
 use Rattle.edit_plans.proofs.TagLemmas.{by_kind}

@@ -1,10 +1,10 @@
 use Rattle.std.proofs.Common.{◌≡◌, ◌-◌, ◌++◌, ◌∷◌, [], ℕ, List, Option, Some, Result, IsSome, length, take, drop, get_or, slice_get, option_and_then, sym, ap, ◌∙◌, subst, rules}
 use Rattle.std.specs.Option.{option_copied}
 use Rattle.xml_tree.specs.Tree.{Tree, at, child_elements_of}
-use Rattle.xml_tree.specs.declared.names.Decl.{Decl}
-use Rattle.xml_tree.specs.declared.names.Name.{Name}
+use Rattle.xml_names.specs.declared.names.Decl.{Decl}
+use Rattle.xml_names.specs.declared.names.Name.{Name}
 use Rattle.usage_docs.specs.declared.schema_table.ElementKind.{ElementKind}
-use Rattle.xml_tree.specs.Scopes.{inside}
+use Rattle.xml_tree.specs.TreeScopes.{inside}
 use Rattle.usage_docs.specs.SchemaTable.{Scope, kind_of}
 use Rattle.edit_rules.specs.declared.refusal.EditRefusal.{EditRefusal}
 use Rattle.edit_plans.specs.inner.ChildChanges.{Answers, MayAsk}
@@ -15,7 +15,7 @@ use Rattle.edit_plans.proofs.child_changes.+answer_below.Goals as goal
 -- at the parent
 pub answer_in-requires : goal.answer_in-requires
 answer_in-requires t c =
-    let P : Option ElementKind → Scope → Tree → Type 0 = λ r d parent. MayAsk r d c.args.step.now parent c.args.place.now c.args.asked.now in
+    let P : Option ElementKind → Scope → Tree → Type 0 = λ r d parent. MayAsk (record { kind = r; scope = d; step = c.args.step.now; element = parent }) c.args.place.now c.args.asked.now in
     record {
       change_asked =
           here_below P c.args.row c.args.scope.now c.args.element.now
@@ -25,7 +25,7 @@ answer_in-requires t c =
 pub returns-in_default : goal.returns-in_default
 returns-in_default t c = record {
   answers_below =
-      let P : Result ℕ EditRefusal → Option ElementKind → Scope → Tree → Type 0 = λ x r d parent. Answers r d c.args.step.now parent c.args.place.now c.args.asked.now x in
+      let P : Result ℕ EditRefusal → Option ElementKind → Scope → Tree → Type 0 = λ x r d parent. Answers (record { kind = r; scope = d; step = c.args.step.now; element = parent }) c.args.place.now c.args.asked.now x in
       let x = c.answer_in.result in
       subst (λ (w : List ℕ). Below (P x) c.args.row c.args.scope.now c.args.element.now w) (sym (empty_way c.args.way.now c.in_default.len_below)) (below_here (P x) c.args.row c.args.scope.now c.args.element.now c.answer_in.ensures.request_answer);
 }
@@ -33,7 +33,7 @@ returns-in_default t c = record {
 -- one child further
 pub answer_below-requires : goal.answer_below-requires
 answer_below-requires t c =
-    let P : Option ElementKind → Scope → Tree → Type 0 = λ r d parent. MayAsk r d c.args.step.now parent c.args.place.now c.args.asked.now in
+    let P : Option ElementKind → Scope → Tree → Type 0 = λ r d parent. MayAsk (record { kind = r; scope = d; step = c.args.step.now; element = parent }) c.args.place.now c.args.asked.now in
     let e = c.args.element.now in
     let row = c.args.row in
     let scope = c.args.scope.now in
@@ -57,7 +57,7 @@ answer_below-requires t c =
 pub returns : goal.returns
 returns t c = record {
   answers_below =
-      let P : Result ℕ EditRefusal → Option ElementKind → Scope → Tree → Type 0 = λ x r d parent. Answers r d c.args.step.now parent c.args.place.now c.args.asked.now x in
+      let P : Result ℕ EditRefusal → Option ElementKind → Scope → Tree → Type 0 = λ x r d parent. Answers (record { kind = r; scope = d; step = c.args.step.now; element = parent }) c.args.place.now c.args.asked.now x in
       let e = c.args.element.now in
       let row = c.args.row in
       let scope = c.args.scope.now in

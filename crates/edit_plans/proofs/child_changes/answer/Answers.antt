@@ -1,6 +1,6 @@
 use Rattle.std.proofs.Common.{◌≡◌, ◌++◌, ◌∷◌, [], ℕ, List, Option, Some, Result, sym, ap, ◌∙◌, subst}
 use Rattle.xml_tree.specs.Tree.{Tree}
-use Rattle.xml_tree.specs.declared.names.Decl.{Decl}
+use Rattle.xml_names.specs.declared.names.Decl.{Decl}
 use Rattle.usage_docs.specs.declared.schema_table.ElementKind.{ElementKind}
 use Rattle.usage_docs.specs.SchemaTable.{Scope, root_kind}
 use Rattle.edit_rules.specs.declared.refusal.EditRefusal.{EditRefusal}
@@ -10,7 +10,7 @@ use Rattle.edit_plans.proofs.child_changes.answer.Goals as goal
 
 pub answer_below-requires-clause-change_asked : goal.answer_below-requires-clause-change_asked
 answer_below-requires-clause-change_asked c =
-    let P : Option ElementKind → Scope → Tree → Type 0 = λ r d parent. MayAsk r d c.args.step.now parent c.args.place.now c.args.asked.now in
+    let P : Option ElementKind → Scope → Tree → Type 0 = λ r d parent. MayAsk (record { kind = r; scope = d; step = c.args.step.now; element = parent }) c.args.place.now c.args.asked.now in
     let t = c.args.root.now in
     let scope : c.inside.result ≡ t.decls ∷ [] = c.inside.ensures.adds_declarations ∙ ap (λ (d : List (List Decl)). d ++ c.declared_in-declared.result ∷ []) c.empty.ensures.declares_nothing ∙ ap (λ (ds : List Decl). ds ∷ []) (c.declared_in-declared.ensures.holds_declarations ∙ c.decls.ensures.exact) in
     subst (λ (k : ElementKind). Below P (Some k) c.inside.result t c.numbers.result.now) (sym c.root_kind.ensures.exact)
@@ -20,7 +20,7 @@ answer_below-requires-clause-change_asked c =
 pub returns : goal.returns
 returns c = record {
   answer_at_place =
-      let P : Result ℕ EditRefusal → Option ElementKind → Scope → Tree → Type 0 = λ x r d parent. Answers r d c.args.step.now parent c.args.place.now c.args.asked.now x in
+      let P : Result ℕ EditRefusal → Option ElementKind → Scope → Tree → Type 0 = λ x r d parent. Answers (record { kind = r; scope = d; step = c.args.step.now; element = parent }) c.args.place.now c.args.asked.now x in
       let t = c.args.root.now in
       let scope : c.inside.result ≡ t.decls ∷ [] = c.inside.ensures.adds_declarations ∙ ap (λ (d : List (List Decl)). d ++ c.declared_in-declared.result ∷ []) c.empty.ensures.declares_nothing ∙ ap (λ (ds : List Decl). ds ∷ []) (c.declared_in-declared.ensures.holds_declarations ∙ c.decls.ensures.exact) in
       subst (λ (q : List ℕ). Below (P c.answer_below.result) (Some (root_kind c.args.usage)) (t.decls ∷ []) t q) c.numbers.ensures.exact

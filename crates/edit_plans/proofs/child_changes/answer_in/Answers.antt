@@ -6,11 +6,11 @@ use Rattle.edit_plans.proofs.child_changes.answer_in.Goals as goal
 pub returns-in-Exchange : goal.returns-in-Exchange
 returns-in-Exchange c = record {
   request_answer =
-      subst (λ (a : ChildChange). Answers c.args.row c.args.scope.now c.args.step.now c.args.parent.now c.args.place.now a c.replacement_in_parent.result) (sym c.in-Exchange.is) c.replacement_in_parent.ensures.replacement_plan;
+      subst (λ (a : ChildChange). Answers (record { kind = c.args.row; scope = c.args.scope.now; step = c.args.step.now; element = c.args.parent.now }) c.args.place.now a c.replacement_in_parent.result) (sym c.in-Exchange.is) c.replacement_in_parent.ensures.replacement_plan;
 }
 
 pub returns-in-SetAttributes : goal.returns-in-SetAttributes
 returns-in-SetAttributes c = record {
   request_answer =
-      subst (λ (a : ChildChange). Answers c.args.row c.args.scope.now c.args.step.now c.args.parent.now c.args.place.now a c.attribute_change_in_parent.result) (sym c.in-SetAttributes.is) c.attribute_change_in_parent.ensures.new_tag_plan;
+      subst (λ (a : ChildChange). Answers (record { kind = c.args.row; scope = c.args.scope.now; step = c.args.step.now; element = c.args.parent.now }) c.args.place.now a c.attribute_change_in_parent.result) (sym c.in-SetAttributes.is) c.attribute_change_in_parent.ensures.new_tag_plan;
 }

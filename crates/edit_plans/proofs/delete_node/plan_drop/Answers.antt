@@ -4,8 +4,8 @@ use Rattle.edit_plans.specs.declared.child_attributes.AttributeEdit.{AttributeEd
 use Rattle.edit_plans.proofs.DropLemmas.{attr_found, dropped_by, place_is, scope_is}
 use Rattle.edit_plans.proofs.PlanTag.{drop_nothing, selected_there}
 use Rattle.edit_plans.proofs.TagLemmas.{none_at_position}
-use Rattle.xml_tree.specs.Scopes.{scope_at}
-use Rattle.xml_tree.specs.declared.names.Attr.{Attr}
+use Rattle.xml_tree.specs.TreeScopes.{scope_at}
+use Rattle.xml_names.specs.declared.names.Attr.{Attr}
 use Rattle.node_select.specs.Selection.{is_attr}
 use Rattle.edit_plans.proofs.delete_node.plan_drop.Goals as goal
 

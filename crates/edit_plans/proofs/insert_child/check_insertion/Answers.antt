@@ -30,7 +30,7 @@ pub returns-in-Some-first_clash_beside : goal.returns-in-Some-first_clash_beside
 returns-in-Some-first_clash_beside c = record {
   judged_by_form =
       let xs = others c.args.siblings.now.left_out (child_elements_of c.args.siblings.now.parent.now) in
-      let first = subst (λ (o : Option Clash). IsFirst (ClashesBeside c.in-Some.kind c.args.scope.now xs c.args.new.now c.args.gap) c.args.place.now o) c.in-Some-first_clash_beside.is c.first_clash_beside.ensures.first_of_clashes in
+      let first = subst (λ (o : Option Clash). IsFirst (ClashesBeside (record { kind = c.in-Some.kind; scope = c.args.scope.now; elements = xs }) c.args.new.now c.args.gap) c.args.place.now o) c.in-Some-first_clash_beside.is c.first_clash_beside.ensures.first_of_clashes in
       judged_clash (IsTrue c.args.formed) c.args.row c.args.scope.now xs c.args.new.now c.args.place.now c.args.gap c.in-Some.kind c.in-Some-first_clash_beside.clash c.in-Some.is c.if-not-formed.false first;
 }
 
@@ -38,6 +38,6 @@ pub returns-in-None : goal.returns-in-None
 returns-in-None c = record {
   judged_by_form =
       let xs = others c.args.siblings.now.left_out (child_elements_of c.args.siblings.now.parent.now) in
-      let first = subst (λ (o : Option Clash). IsFirst (ClashesBeside c.in-Some.kind c.args.scope.now xs c.args.new.now c.args.gap) c.args.place.now o) c.in-None.is c.first_clash_beside.ensures.first_of_clashes in
+      let first = subst (λ (o : Option Clash). IsFirst (ClashesBeside (record { kind = c.in-Some.kind; scope = c.args.scope.now; elements = xs }) c.args.new.now c.args.gap) c.args.place.now o) c.in-None.is c.first_clash_beside.ensures.first_of_clashes in
       judged_ok (IsTrue c.args.formed) c.args.row c.args.scope.now xs c.args.new.now c.args.place.now c.args.gap c.in-Some.kind c.in-Some.is c.if-not-formed.false first;
 }

@@ -1,8 +1,8 @@
 use Rattle.std.proofs.Common.{◌≡◌, List, Some, bytes_eq, refl, ap, ◌∙◌}
 use Rattle.std.proofs.lemmas.Option.{none-some, same_Some}
 use Rattle.std.specs.Str.{chars}
-use Rattle.xml_tree.specs.Scopes.{bound, xml_prefix, xml_uri}
-use Rattle.xml_tree.specs.declared.names.Decl.{Decl}
+use Rattle.xml_names.specs.Scopes.{bound, xml_prefix, xml_uri}
+use Rattle.xml_names.specs.declared.names.Decl.{Decl}
 use Rattle.edit_plans.proofs.put_attribute.is_xml_space.Goals as goal
 
 letters : chars xml_prefix ≡ xml_prefix

@@ -1,8 +1,8 @@
 use Rattle.std.proofs.Common.{◌≡◌, ℕ, Bool, true, false, if◌then◌else◌, List, [], Option, Some, bytes_eq, find, option_map, IfOk, refl, sym, ap, ◌∙◌, subst}
 use Rattle.std.proofs.lemmas.Str.{chars-nil}
 use Rattle.std.specs.Str.{chars}
-use Rattle.xml_tree.specs.Scopes.{bindings_in, xml_prefix, xml_uri}
-use Rattle.xml_tree.specs.declared.names.Decl.{Decl}
+use Rattle.xml_names.specs.Scopes.{bindings_in, xml_prefix, xml_uri}
+use Rattle.xml_names.specs.declared.names.Decl.{Decl}
 use Rattle.edit_rules.specs.Attributes.{is_binding, new_prefix}
 use Rattle.edit_plans.proofs.put_attribute.new_prefix.Goals as goal
 

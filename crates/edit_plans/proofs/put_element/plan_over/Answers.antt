@@ -3,7 +3,7 @@ use Rattle.node_select.specs.Selection.{SelectsPath}
 use Rattle.edit_ops.specs.declared.change.Change.TheVariants.{Replace}
 use Rattle.edit_rules.specs.declared.refusal.EditRefusal.TheVariants.{CannotInsert}
 use Rattle.edit_rules.specs.LawfulPlaces.{IsLawfulReplacement}
-use Rattle.edit_rules.specs.Plans.{IsTested}
+use Rattle.edit_rules.specs.Plans.{IsJudged, IsTested}
 use Rattle.edit_plans.specs.inner.CheckedChanges.{allowed_change}
 use Rattle.edit_plans.proofs.PlanTag.{only_the_root, root_over}
 use Rattle.edit_plans.proofs.SpotLemmas.{last_parts}
@@ -29,7 +29,7 @@ returns-in_default c = record {
       let steps = c.args.steps.now in
       let new = c.args.element in
       let root : c.args.path.now ≡ [] = empty_path c.split_last.result c.args.path.now c.split_last.ensures.some_below_root c.in_default.is in
-      subst (λ (l : List ℕ). IsTested CannotInsert (IsLawfulReplacement steps t new l) u t (Replace l new) c.element_replacement.result) (sym root)
+      subst (λ (l : List ℕ). IsTested CannotInsert (IsLawfulReplacement steps t new l) (IsJudged u t (Replace l new)) c.element_replacement.result) (sym root)
       (root_over u t new steps c.root_replacement-found.result c.element_replacement.result c.root_replacement-found.ensures.new_root_plan (c.element_replacement.ensures.exact ∙ ap (λ (l : List ℕ). allowed_change (Replace l new) c.root_replacement-found.result) root));
 }
 
@@ -57,7 +57,7 @@ answer-found-requires-clause-change_asked c =
     let p = parent_of t steps e.0 s q j e.1 (subst (λ (p : List ℕ). SelectsPath steps t p) at_p c.requires.selected) in
     let room = c.requires.room_left in
     let deep : length c.args.path.now ≡ length q + 1 = ap (λ (l : List ℕ). length l) at_p ∙ length-append q (j ∷ []) in
-    tell_at_root c.args.usage t q (λ row d x. IsSelected row d s x j × HasRoom q c.args.element) (λ parent there. (may_select c.args.usage t steps e.0 s q j p c.requires.faultless.2 parent there, omega arith))
+    tell_at_root c.args.usage t q (λ row d x. IsSelected (record { kind = row; scope = d; step = s; element = x }) j × HasRoom q c.args.element) (λ parent there. (may_select c.args.usage t steps e.0 s q j p c.requires.faultless.2 parent there, omega arith))
 
 pub returns : goal.returns
 returns c = record {
@@ -73,6 +73,6 @@ returns c = record {
       let e = ends_with steps steps s refl c.in-len1-up.len_at_least c.step-item.is in
       let sel = subst (λ (p : List ℕ). SelectsPath steps t p) at_p c.requires.selected in
       let p = parent_of t steps e.0 s q j e.1 sel in
-      subst (λ (l : List ℕ). IsTested CannotInsert (IsLawfulReplacement steps t new l) u t (Replace l new) c.element_replacement-2.result) (sym at_p)
-      (over_by u t new steps e.0 s q j p c.requires.faultless sel c.answer-found.result c.element_replacement-2.result (told_at_root u t q (λ row d x. IsExchangedIn row d s x j new q c.answer-found.result) c.answer-found.ensures.answer_at_place) (c.element_replacement-2.ensures.exact ∙ ap (λ (l : List ℕ). allowed_change (Replace l new) c.answer-found.result) at_p));
+      subst (λ (l : List ℕ). IsTested CannotInsert (IsLawfulReplacement steps t new l) (IsJudged u t (Replace l new)) c.element_replacement-2.result) (sym at_p)
+      (over_by u t new steps e.0 s q j p c.requires.faultless sel c.answer-found.result c.element_replacement-2.result (told_at_root u t q (λ row d x. IsExchangedIn (record { kind = row; scope = d; step = s; element = x }) j new q c.answer-found.result) c.answer-found.ensures.answer_at_place) (c.element_replacement-2.ensures.exact ∙ ap (λ (l : List ℕ). allowed_change (Replace l new) c.answer-found.result) at_p));
 }

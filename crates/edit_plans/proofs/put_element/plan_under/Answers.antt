@@ -29,7 +29,7 @@ returns c = record {
       let parent = c.requires.selects_parent in
       let le = c.in-len1-up.len_at_least in
       let same : c.step-item.result ≡ parent.step = c.step-item.is ∙ last_step_is steps parent.before parent.step c.step-item.result (length steps - 1) parent.are (omega arith) in
-      let placed = subst (λ (s : Step). Below (λ row d x. IsPlacedIn row d s x new q c.answer-gap.result) (Some (root_kind u)) (t.decls ∷ []) t q) same c.answer-gap.ensures.answer_at_place in
+      let placed = subst (λ (s : Step). Below (λ row d x. IsPlacedIn (record { kind = row; scope = d; step = s; element = x }) new q c.answer-gap.result) (Some (root_kind u)) (t.decls ∷ []) t q) same c.answer-gap.ensures.answer_at_place in
       planned u t new q steps parent.before parent.step c.answer-gap.result c.element_insertion.result parent.are parent.selects c.requires.faultless
-      (told_at_root u t q (λ row d x. IsPlacedIn row d parent.step x new q c.answer-gap.result) placed) c.element_insertion.ensures.exact;
+      (told_at_root u t q (λ row d x. IsPlacedIn (record { kind = row; scope = d; step = parent.step; element = x }) new q c.answer-gap.result) placed) c.element_insertion.ensures.exact;
 }

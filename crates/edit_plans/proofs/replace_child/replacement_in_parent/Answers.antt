@@ -30,5 +30,5 @@ returns c = record {
       let j = c.args.child in
       let F = FormedIn row scope new in
       let same = others_without c.without-siblings.result parent j c.without-siblings.ensures.same_parent c.without-siblings.ensures.leaves_out_child in
-      inr (inr (c.passes.ensures.exact.0 c.if-not-passes.false, c.fits_over.ensures.exact.0 c.if-not-fits_over.false, subst (λ (xs : List Tree). IsJudgedIn F row scope xs new q j c.check_new_child.result) same c.check_new_child.ensures.judged_by_rules));
+      inr (inr (c.passes.ensures.exact.0 c.if-not-passes.false, c.fits_over.ensures.exact.0 c.if-not-fits_over.false, subst (λ (xs : List Tree). IsJudgedIn F (record { kind = row; scope = scope; elements = xs; path = q }) new j c.check_new_child.result) same c.check_new_child.ensures.judged_by_rules));
 }

@@ -5,6 +5,6 @@ use Rattle.edit_rules.proofs.puts_and_deletes.planned_changes_leave_proper_docum
 pub returns : goal.returns
 returns c = record {
   for_element = put_leaves;
-  for_attribute = λ u t selector uri local p value change h. written_leaves u t selector.steps uri local p value change (written_is u t selector.steps uri local p value change h);
+  for_attribute = λ k uri local p value change h. written_leaves k.usage k.document k.steps uri local p value change (written_is k.usage k.document k.steps uri local p value change h);
   for_deletion = delete_leaves;
 }

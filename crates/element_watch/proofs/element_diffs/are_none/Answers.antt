@@ -1,4 +1,4 @@
-use Rattle.patch_write.proofs.Listing.{some-older}
+use Rattle.patch_rules.proofs.Lists.{some-older}
 use Rattle.element_watch.proofs.element_diffs.are_none.Goals as goal
 
 pub returns-else-is_empty : goal.returns-else-is_empty

@@ -1,5 +1,5 @@
 use Rattle.std.proofs.Common.{◌∙◌}
-use Rattle.xml_tree.proofs.Letters.{bytes_eq-chars}
+use Rattle.xml_names.proofs.Letters.{bytes_eq-chars}
 use Rattle.list_resolve.proofs.flat.is_same_text.Goals as goal
 
 pub returns : goal.returns

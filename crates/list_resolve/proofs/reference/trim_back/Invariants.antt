@@ -1,5 +1,5 @@
 use Rattle.std.proofs.Common.{◌≡◌, length}
-use Rattle.xml_tree.specs.Characters.{is_space}
+use Rattle.xml_names.specs.Characters.{is_space}
 use Rattle.usage_docs.specs.Forms.{trim_back}
 use Rattle.list_resolve.proofs.reference.trim_back.Given as goal
 

@@ -1,8 +1,8 @@
 use Rattle.std.proofs.Common.{◌≡◌, ◌+◌, ◌-◌, ◌++◌, ◌∷◌, [], List, ℕ, length, length-append, take, drop, Some, slice_get, refl, sym, ap, ◌∙◌, subst, arith, rules}
 use Rattle.std.specs.Option.{option_copied}
 use Rattle.xml_tree.specs.Tree.{child_elements_of}
-use Rattle.xml_tree.specs.declared.names.Decl.{Decl}
-use Rattle.xml_tree.specs.Scopes.{inside}
+use Rattle.xml_names.specs.declared.names.Decl.{Decl}
+use Rattle.xml_tree.specs.TreeScopes.{inside}
 use Rattle.node_select.specs.declared.descent.Reached.{Reached}
 use Rattle.node_select.specs.declared.selector.Step.{Step}
 use Rattle.node_select.specs.inner.LongestMatches.{ReachesBelow}

@@ -1,7 +1,7 @@
 use Rattle.std.proofs.Common.{◌<◌, ◌+◌, ◌-◌, ◌∷◌, [], List, length, take, drop, Some, IsTrue, refl, sym, ◌∙◌, subst, arith}
 use Rattle.node_select.specs.StepSelection.{child_matches, matches}
 use Rattle.xml_tree.specs.Tree.{child_elements_of}
-use Rattle.xml_tree.specs.declared.names.Decl.{Decl}
+use Rattle.xml_names.specs.declared.names.Decl.{Decl}
 use Rattle.node_select.specs.declared.descent.Reached.{Reached}
 use Rattle.node_select.specs.declared.selector.Step.{Step}
 use Rattle.node_select.specs.Selection.{IsLongestMatch, SelectsPath, is_named, is_tested}

@@ -1,5 +1,5 @@
 use Rattle.std.proofs.Common.{◌<◌, ◌^◌, chars, length, sym, rules, arith}
-use Rattle.tree_text.proofs.TextBytes.{chars_le}
+use Rattle.xml_tokens.proofs.TextBytes.{chars_le}
 use Rattle.node_select.specs.readers.Selectors.{read_patch_selector}
 use Rattle.node_select.specs.readers.Views.{patch_selector_in}
 use Rattle.node_select.proofs.Widths.{patch_selector_room, whole_read}

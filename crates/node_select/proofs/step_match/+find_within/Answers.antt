@@ -1,5 +1,5 @@
 use Rattle.std.proofs.Common.{◌-◌, ◌++◌, ◌∷◌, [], List, length, map, take, drop, position, chars, ap, sym, ◌∙◌}
-use Rattle.xml_tree.specs.declared.names.Decl.{Decl}
+use Rattle.xml_names.specs.declared.names.Decl.{Decl}
 use Rattle.node_select.specs.Selection.{is_attr}
 use Rattle.node_select.proofs.Lists.{first_inside, none_inside}
 use Rattle.node_select.proofs.step_match.+find_within.Goals as goal

@@ -1,6 +1,6 @@
 use Rattle.std.proofs.Common.{◌++◌, List, map, position, chars, ap, ◌∙◌}
-use Rattle.xml_tree.specs.declared.names.Attr.{Attr}
-use Rattle.xml_tree.specs.declared.names.Decl.{Decl}
+use Rattle.xml_names.specs.declared.names.Attr.{Attr}
+use Rattle.xml_names.specs.declared.names.Decl.{Decl}
 use Rattle.node_select.specs.Selection.{is_attr}
 use Rattle.node_select.proofs.step_match.find_attr.Goals as goal
 

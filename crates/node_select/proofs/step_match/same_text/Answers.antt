@@ -1,7 +1,7 @@
 use Rattle.std.specs.Prelude.{chars}
 use Rattle.std.proofs.Common.{sym, ◌∙◌}
 use Rattle.std.proofs.lemmas.Slice.Eq.{bytes_eq-Decides}
-use Rattle.xml_tree.proofs.Letters.{bytes_eq-chars}
+use Rattle.xml_names.proofs.Letters.{bytes_eq-chars}
 use Rattle.node_select.proofs.step_match.same_text.Goals as goal
 
 pub returns : goal.returns

@@ -1,6 +1,6 @@
 use Rattle.std.proofs.Common.{ℕ, ◌+◌, ◌≡◌, Bool, List, Some, cond, sym, ◌∙◌, ap, add-one, arith}
 use Rattle.xml_tree.specs.Tree.{Tree, child_elements_of}
-use Rattle.xml_tree.specs.declared.names.Decl.{Decl}
+use Rattle.xml_names.specs.declared.names.Decl.{Decl}
 use Rattle.node_select.specs.declared.selector.Step.{Step}
 use Rattle.node_select.specs.StepSelection.{child_matches}
 use Rattle.node_select.proofs.OnePass.{only_is_selected, second_is_none}

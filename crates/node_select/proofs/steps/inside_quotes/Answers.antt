@@ -4,10 +4,10 @@ use denote.Shadow.{shadow}
 use Rattle.std.proofs.lemmas.Str.{encodes-chars}
 use Rattle.std.proofs.lemmas.List.{append-nil}
 use Rattle.std.proofs.lemmas.Result.{err_from_is_err_and}
-use Rattle.tree_text.specs.readers.Texts.{read_reference, read_raw, reference_follows}
-use Rattle.tree_text.proofs.Loops.{start, both_ok, first_stops, goes_on, ends, is_done, is_stopped}
+use Rattle.xml_tokens.specs.readers.Tokens.{read_reference, read_raw, reference_follows}
+use Rattle.xml_tokens.proofs.Loops.{start, both_ok, first_stops, goes_on, ends, is_done, is_stopped}
 use Rattle.node_select.specs.Grammar.{literal_value, more_plain}
-use Rattle.tree_text.specs.readers.Members.{read_piece}
+use Rattle.xml_tokens.specs.readers.ValueParts.{read_piece}
 use Rattle.node_select.specs.readers.Members.{value_with}
 use Rattle.node_select.specs.readers.Selectors.{read_inside_quotes}
 use Rattle.node_select.proofs.steps.inside_quotes.Goals as goal

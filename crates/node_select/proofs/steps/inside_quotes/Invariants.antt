@@ -2,9 +2,9 @@ use Rattle.std.proofs.Common.{◌≡◌, ◌-◌, chars}
 use denote.Text.{Utf8}
 use denote.Shadow.{shadow}
 use Rattle.xml_grammar.specs.readers.Functions.{read_at_most}
-use Rattle.tree_text.specs.readers.Texts.{reference_follows}
-use Rattle.tree_text.proofs.Loops.{finish}
-use Rattle.tree_text.specs.readers.Members.{read_piece}
+use Rattle.xml_tokens.specs.readers.Tokens.{reference_follows}
+use Rattle.xml_tokens.proofs.Loops.{finish}
+use Rattle.xml_tokens.specs.readers.ValueParts.{read_piece}
 use Rattle.node_select.specs.readers.Members.{value_with}
 use Rattle.node_select.specs.readers.Selectors.{read_inside_quotes}
 use Rattle.node_select.proofs.steps.inside_quotes.Given as goal

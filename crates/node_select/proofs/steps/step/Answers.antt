@@ -1,6 +1,6 @@
 use Rattle.std.proofs.Common.{chars, option_map}
-use Rattle.tree_text.specs.readers.Views.{name_in}
-use Rattle.tree_text.proofs.Shrinks.{more_left}
+use Rattle.xml_tokens.specs.readers.TokenViews.{name_in}
+use Rattle.xml_tokens.proofs.Shrinks.{more_left}
 use Rattle.node_select.specs.readers.Views.{test_in}
 use Rattle.node_select.proofs.Widths.{front_ends, test_ends}
 use Rattle.node_select.proofs.steps.step.Goals as goal

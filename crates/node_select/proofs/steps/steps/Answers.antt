@@ -4,11 +4,11 @@ use denote.Shadow.{shadow}
 use Rattle.std.proofs.lemmas.Str.{encodes-chars}
 use Rattle.xml_grammar.specs.Reading.{Stop, ◌>>=◌}
 use Rattle.xml_grammar.specs.readers.Functions.{read_many}
-use Rattle.tree_text.specs.declared.fault_kind.FaultKind.{FaultKind}
+use Rattle.xml_tokens.specs.declared.fault_kind.FaultKind.{FaultKind}
 use Rattle.node_select.specs.readers.SelectorValues.{first_step_of}
 use Rattle.std.proofs.lemmas.List.{append-nil, map_push}
 use Rattle.std.proofs.lemmas.Result.{err_from_is_err_and}
-use Rattle.tree_text.proofs.Loops.{finish, goes_on, ends, is_done, is_stopped}
+use Rattle.xml_tokens.proofs.Loops.{finish, goes_on, ends, is_done, is_stopped}
 use Rattle.node_select.specs.readers.Raw.{RawStep}
 use Rattle.node_select.specs.readers.Members.{steps_with}
 use Rattle.node_select.specs.readers.Selectors.{read_next_step, read_step, read_steps}

@@ -2,7 +2,7 @@ use Rattle.std.proofs.Common.{◌≡◌, ◌-◌, map, chars}
 use denote.Text.{Utf8}
 use denote.Shadow.{shadow}
 use Rattle.xml_grammar.specs.readers.Functions.{read_at_most}
-use Rattle.tree_text.proofs.Loops.{finish}
+use Rattle.xml_tokens.proofs.Loops.{finish}
 use Rattle.node_select.specs.readers.Members.{steps_with}
 use Rattle.node_select.specs.readers.Selectors.{read_steps, read_next_step}
 use Rattle.node_select.specs.readers.Views.{follows_in, step_in}

@@ -1,5 +1,5 @@
 use Rattle.std.proofs.Common.{◌≡◌, ℕ, drop, map, min}
-use Rattle.xml_tree.specs.Limits.{u64_max}
+use Rattle.xml_names.specs.Limits.{u64_max}
 use Rattle.patch_rules.specs.readers.Replay.{all_taken}
 use Rattle.patch_apply.specs.Views.{IsWithinLevels, stored_in}
 use Rattle.patch_apply.proofs.apply_diffs.all_taken.Given as goal

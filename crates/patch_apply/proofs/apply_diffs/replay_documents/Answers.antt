@@ -1,11 +1,11 @@
-use Rattle.std.proofs.Common.{◌≡◌, ◌<◌, ℕ, zero, suc, eqb, true, false, Option, Ok, List, [], ◌∷◌, ◌++◌, length, sym, subst, ap, ◌∙◌, arith}
+use Rattle.std.proofs.Common.{◌≡◌, ◌<◌, ℕ, zero, suc, eqb, true, false, Ok, List, [], ◌∷◌, ◌++◌, length, sym, subst, ap, ◌∙◌, arith}
 use Rattle.xml_tree.specs.Tree.{Tree}
 use Rattle.patch_rules.specs.Replay.{CopyAnswer, documents, is_all_mine}
 use Rattle.patch_rules.specs.readers.Replay.{all_taken}
 use Rattle.xcap_uri.specs.Naming.{is_name_of}
 use Rattle.patch_apply.specs.Views.{stored_in}
-use Rattle.patch_apply.specs.inner.PrivateTypes.{outcome_in}
-use Rattle.patch_apply.specs.declared.replica.ReplicaVersion.{ReplicaVersion}
+use Rattle.patch_apply.specs.inner.PrivateTypes.{contents_in}
+use Rattle.patch_apply.specs.declared.document_outcomes.DocumentOutcome.{DocumentOutcome}
 use Rattle.patch_apply.proofs.Replaying.{done_with}
 use Rattle.patch_apply.proofs.Turning.{some_item}
 use Rattle.patch_apply.proofs.apply_diffs.replay_documents.Goals as goal
@@ -14,8 +14,8 @@ some_if : (n : ℕ) → eqb n 0 ≡ false → 0 < n
 some_if zero e = absurd (cc)
 some_if (suc n) e = omega arith
 
-pub returns-clause-as_specified : goal.returns-clause-as_specified
-returns-clause-as_specified c =
+pub returns-in-Updated-clause-as_specified : goal.returns-in-Updated-clause-as_specified
+returns-in-Updated-clause-as_specified c =
     let notice = c.args.notice.now in
     let is_mine = is_name_of c.args.replica.now.doc in
     let docs = c.requires.diff_documents in
@@ -23,5 +23,6 @@ returns-clause-as_specified c =
     let some = subst (λ (l : List Tree). 0 < length l) docs (some_item c.args.documents.now (some_if (length c.args.documents.now) (sym c.is_empty.ensures ∙ c.if-is_empty.false))) in
     let scope = c.with-scope.ensures.exact ∙ (λ i. c.empty.ensures.declares_nothing i ++ c.decls.ensures.exact i ∷ []) in
     let held = c.in_ok-held.ensures.equal_copy in
-    let document_outcome = (λ i. all_taken 0 (sym scope i) (sym docs i) (stored_in (sym held i))) ∙ c.in_ok-outcome.ensures.as_specified ∙ ap (λ (o : Option (Option ReplicaVersion)). Ok (outcome_in o)) c.in-Some.is in
-    done_with is_mine notice (stored_in c.args.replica.now.held) mine (stored_in c.in-Some.held) some document_outcome ∙ ap (λ (a : CopyAnswer). Ok (a, stored_in c.in-Some.held)) (sym c.outcome_with-answer.ensures.patched_or_removed)
+    let new = stored_in c.all_taken.new.held in
+    let document_outcome = (λ i. all_taken 0 (sym scope i) (sym docs i) (stored_in (sym held i))) ∙ c.in_ok-outcome.ensures.as_specified ∙ ap (λ (o : DocumentOutcome). Ok (contents_in o new)) c.in-Updated.is in
+    done_with is_mine notice (stored_in c.args.replica.now.held) mine new some document_outcome ∙ ap (λ (a : CopyAnswer). Ok (a, new)) (sym c.outcome_with-answer.ensures.patched_or_removed)

@@ -1,8 +1,8 @@
 use Rattle.std.proofs.Common.{ℕ, List, [], ◌∷◌, ◌++◌, ap, ◌∙◌}
 use Rattle.std.proofs.lemmas.Result.{err_from_is_err_and}
-use Rattle.xml_tree.specs.declared.names.Decl.{Decl}
+use Rattle.xml_names.specs.declared.names.Decl.{Decl}
 use Rattle.patch_rules.specs.readers.Replay.{by_tags}
-use Rattle.patch_apply.specs.inner.Stages.{ours_in}
+use Rattle.patch_parse.specs.Operations.{ours_in}
 use Rattle.patch_apply.specs.Views.{stored_in}
 use Rattle.patch_apply.specs.inner.PrivateTypes.{turn_in}
 use Rattle.patch_apply.specs.declared.document_outcomes.DocumentOutcome.{DocumentOutcome}
@@ -15,9 +15,10 @@ returns-in_err-turn-clause-as_specified c =
     let d = c.args.document.now in
     let here = c.with-here.ensures.exact ∙ ap (λ (ds : List Decl). c.args.scope.now ++ ds ∷ []) c.decls.ensures.exact in
     let told = c.in_ok-told.ensures in
+    let new = stored_in c.document_outcome.new.held in
     λ n e.
     rw (p.1, p.2) (
-    error_alike turn_in (λ (x : DocumentOutcome × ℕ). turn_in x.0) _ _ c.in_err-turn.field-0.0
-    (λ i. by_tags n (here i) ((told.same_operations ∙ (λ j. ours_in (here j) d)) i) (told.tag_before_diff i) (told.tag_after_diff i) (stored_in c.args.held))
+    error_alike (λ (t : DocumentOutcome). turn_in t new) (λ (x : DocumentOutcome × ℕ). turn_in x.0 new) _ _ c.in_err-turn.field-0.0
+    (λ i. by_tags n (here i) ((told.same_operations ∙ (λ j. ours_in (here j) d)) i) (told.tag_before_diff i) (told.tag_after_diff i) (stored_in c.args.held.now))
     (c.in_err-turn.ensures.as_specified n e)
     )

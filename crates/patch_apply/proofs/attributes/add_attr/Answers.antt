@@ -5,20 +5,20 @@ use Rattle.patch_apply.proofs.attributes.add_attr.Goals as goal
 
 pub returns-in_default : goal.returns-in_default
 returns-in_default c = record {
-  as_specified = attr_no_value c.args.here.now c.args.name c.args.path.now c.args.operation.now.content c.args.tree (sym c.in_ok-found.ensures.ok ∙ c.in_default.is);
+  as_specified = attr_no_value c.args.here.now c.args.name c.args.path.now c.args.operation.now.content c.args.tree.now (sym c.in_ok-found.ensures.ok ∙ c.in_default.is);
 }
 
 pub returns-then-has_attr_at : goal.returns-then-has_attr_at
 returns-then-has_attr_at c = record {
   as_specified =
-      attr_twice c.args.here.now c.args.name c.args.path.now c.args.operation.now.content c.args.tree c.in-Some.value (sym c.in_ok-found.ensures.ok ∙ c.in-Some.is)
+      attr_twice c.args.here.now c.args.name c.args.path.now c.args.operation.now.content c.args.tree.now c.in-Some.value (sym c.in_ok-found.ensures.ok ∙ c.in-Some.is)
       (sym c.has_attr_at.ensures.exact ∙ c.if-has_attr_at.true);
 }
 
 pub returns-then-not-attr_alike_at : goal.returns-then-not-attr_alike_at
 returns-then-not-attr_alike_at c = record {
   as_specified =
-      attr_unlike c.args.path.now c.args.operation.now.content c.args.tree c.requires.place_exists c.requires.height_bounded c.args.here.now c.args.name c.in-Some.value
+      attr_unlike c.args.path.now c.args.operation.now.content c.args.tree.now c.requires.place_exists c.requires.height_bounded c.args.here.now c.args.name c.in-Some.value
       (sym c.in_ok-found.ensures.ok ∙ c.in-Some.is) (sym c.has_attr_at.ensures.exact ∙ c.if-has_attr_at.false)
       (sym c.attr_alike_at.ensures.exact ∙ c.if-not-attr_alike_at.true);
 }
@@ -26,7 +26,7 @@ returns-then-not-attr_alike_at c = record {
 pub returns : goal.returns
 returns c = record {
   as_specified =
-      attr_made c.args.path.now c.args.operation.now.content c.args.tree c.requires.place_exists c.requires.height_bounded c.args.here.now c.args.name c.in-Some.value
+      attr_made c.args.path.now c.args.operation.now.content c.args.tree.now c.requires.place_exists c.requires.height_bounded c.args.here.now c.args.name c.in-Some.value
       (sym c.in_ok-found.ensures.ok ∙ c.in-Some.is) (sym c.has_attr_at.ensures.exact ∙ c.if-has_attr_at.false)
       (sym c.attr_alike_at.ensures.exact ∙ c.if-not-attr_alike_at.false)
       ∙ ap Ok (sym c.in_ok-push_at.ensures.tree_changed);

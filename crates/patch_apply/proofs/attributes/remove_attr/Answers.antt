@@ -7,13 +7,13 @@ use Rattle.patch_apply.proofs.attributes.remove_attr.Goals as goal
 
 pub returns-then-not-is_bare : goal.returns-then-not-is_bare
 returns-then-not-is_bare c = record {
-  as_specified = take_not c.args.path.now c.args.place c.args.operation.now.content c.args.tree (sym c.is_bare.ensures.exact ∙ c.if-not-is_bare.true);
+  as_specified = take_not c.args.path.now c.args.place c.args.operation.now.content c.args.tree.now (sym c.is_bare.ensures.exact ∙ c.if-not-is_bare.true);
 }
 
 pub returns : goal.returns
 returns c = record {
   as_specified =
-      let p = c.args.path.now in let t = c.args.tree in
+      let p = c.args.path.now in let t = c.args.tree.now in
       take_made p c.args.operation.now.content t (some_if (at p t) _ c.requires.place_exists) c.requires.height_bounded c.args.place
       (sym c.is_bare.ensures.exact ∙ c.if-not-is_bare.false)
       ∙ ap Ok (sym c.take_at.ensures.tree_changed);

@@ -10,13 +10,13 @@ use Rattle.patch_apply.proofs.attributes.remove_text.Goals as goal
 
 pub returns-then-not-is_bare : goal.returns-then-not-is_bare
 returns-then-not-is_bare c = record {
-  as_specified = λ before after. cut_not c.args.path.now c.args.place c.args.operation.now.content c.args.tree before after (sym c.is_bare.ensures.exact ∙ c.if-not-is_bare.true);
+  as_specified = λ before after. cut_not c.args.path.now c.args.place c.args.operation.now.content c.args.tree.now before after (sym c.is_bare.ensures.exact ∙ c.if-not-is_bare.true);
 }
 
 pub returns : goal.returns
 returns c = record {
   as_specified = λ before after.
-      let p = c.args.path.now in let i = c.args.place in let t = c.args.tree in
+      let p = c.args.path.now in let i = c.args.place in let t = c.args.tree.now in
       cut_made p c.args.operation.now.content t (some_if (at p t) _ c.requires.place_exists) c.requires.height_bounded before after i
       (sym c.is_bare.ensures.exact ∙ c.if-not-is_bare.false)
       ∙ ap (λ (ns : List Node). Ok (change_at p (exchange_nodes i (suc i) ns) t)) (sym c.new.ensures.items)

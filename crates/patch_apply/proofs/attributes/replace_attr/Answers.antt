@@ -7,13 +7,13 @@ use Rattle.patch_apply.proofs.attributes.replace_attr.Goals as goal
 
 pub returns-in_default : goal.returns-in_default
 returns-in_default c = record {
-  as_specified = value_none c.args.path.now c.args.place c.args.operation.now.content c.args.tree (sym c.in_ok-found.ensures.ok ∙ c.in_default.is);
+  as_specified = value_none c.args.path.now c.args.place c.args.operation.now.content c.args.tree.now (sym c.in_ok-found.ensures.ok ∙ c.in_default.is);
 }
 
 pub returns : goal.returns
 returns c = record {
   as_specified =
-      let p = c.args.path.now in let t = c.args.tree in
+      let p = c.args.path.now in let t = c.args.tree.now in
       value_made p c.args.operation.now.content t (some_if (at p t) _ c.requires.place_exists) c.requires.height_bounded c.args.place c.in-Some.value
       (sym c.in_ok-found.ensures.ok ∙ c.in-Some.is)
       ∙ ap Ok (sym c.write_at.ensures.tree_changed);

@@ -10,13 +10,13 @@ use Rattle.patch_apply.proofs.attributes.replace_text.Goals as goal
 
 pub returns-in_default : goal.returns-in_default
 returns-in_default c = record {
-  as_specified = λ scope. text_none scope c.args.path.now c.args.place c.args.operation.now.content c.args.tree (sym c.in_ok-found.ensures.ok ∙ c.in_default.is);
+  as_specified = λ scope. text_none scope c.args.path.now c.args.place c.args.operation.now.content c.args.tree.now (sym c.in_ok-found.ensures.ok ∙ c.in_default.is);
 }
 
 pub returns : goal.returns
 returns c = record {
   as_specified = λ scope.
-      let p = c.args.path.now in let i = c.args.place in let t = c.args.tree in
+      let p = c.args.path.now in let i = c.args.place in let t = c.args.tree.now in
       text_made p c.args.operation.now.content t (some_if (at p t) _ c.requires.place_exists) c.requires.height_bounded scope i c.in-Some.value
       (sym c.in_ok-found.ensures.ok ∙ c.in-Some.is)
       ∙ ap (λ (ns : List Node). Ok (change_at p (exchange_nodes i (suc i) ns) t)) (sym c.in_ok-nodes.ensures.ok)

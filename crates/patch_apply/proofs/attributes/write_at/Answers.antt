@@ -1,5 +1,5 @@
 use Rattle.std.proofs.Common.{◌<◌, length, sym, subst, ap, ◌∙◌}
-use Rattle.xml_tree.specs.Attributes.{with_value}
+use Rattle.xml_names.specs.Attributes.{with_value}
 use Rattle.xml_tree.specs.Tree.{Tree, at}
 use Rattle.xml_tree.proofs.PathLemmas.{from_there, made_at}
 use Rattle.patch_rules.specs.PatchOperations.{with_attrs}

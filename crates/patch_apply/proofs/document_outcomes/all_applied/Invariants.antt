@@ -1,5 +1,5 @@
 use Rattle.std.proofs.Common.{◌≡◌, ◌≤◌, ℕ, drop, map, min}
-use Rattle.xml_tree.specs.Limits.{u64_max}
+use Rattle.xml_names.specs.Limits.{u64_max}
 use Rattle.xml_tree.specs.Tree.{height}
 use Rattle.patch_rules.specs.readers.Replay.{all_applied}
 use Rattle.patch_apply.proofs.document_outcomes.all_applied.Given as goal

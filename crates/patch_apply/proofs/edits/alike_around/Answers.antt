@@ -1,5 +1,5 @@
 use Rattle.std.proofs.Common.{List, sym, ap, ◌∙◌}
-use Rattle.xml_tree.specs.declared.names.Decl.{Decl}
+use Rattle.xml_names.specs.declared.names.Decl.{Decl}
 use Rattle.patch_rules.specs.PatchOperations.{means_alike}
 use Rattle.patch_apply.proofs.Sites.{scope_above, there_above}
 use Rattle.patch_apply.proofs.edits.alike_around.Goals as goal

@@ -1,30 +1,30 @@
 use Rattle.std.proofs.Common.{sym, ◌∙◌}
 use Rattle.patch_apply.specs.inner.Stages.{gap_done}
-use Rattle.patch_apply.specs.inner.PrivateTypes.{position_in}
+use Rattle.patch_parse.specs.Views.{position_in}
 use Rattle.patch_apply.proofs.Done.{put_beside_root, put_nothing, put_somewhere}
-use Rattle.patch_apply.proofs.Operating.{gives_same}
+use Rattle.patch_apply.proofs.Operating.{edits_same}
 use Rattle.patch_apply.proofs.elements.put_content.Goals as goal
 
 pub returns-then-not-is_off_root : goal.returns-then-not-is_off_root
 returns-then-not-is_off_root c = record {
-  as_specified = put_beside_root c.args.here.now (position_in c.args.position) c.args.path c.args.operation.now.content c.args.tree (sym c.is_off_root.ensures.exact ∙ c.if-not-is_off_root.true);
+  as_specified = put_beside_root c.args.here.now (position_in c.args.position) c.args.path c.args.operation.now.content c.args.tree.now (sym c.is_off_root.ensures.exact ∙ c.if-not-is_off_root.true);
 }
 
 pub returns-then-not-has_nodes : goal.returns-then-not-has_nodes
 returns-then-not-has_nodes c = record {
   as_specified =
-      put_nothing c.args.here.now (position_in c.args.position) c.args.path c.args.operation.now.content c.args.tree (sym c.is_off_root.ensures.exact ∙ c.if-not-is_off_root.false)
+      put_nothing c.args.here.now (position_in c.args.position) c.args.path c.args.operation.now.content c.args.tree.now (sym c.is_off_root.ensures.exact ∙ c.if-not-is_off_root.false)
       (sym c.has_nodes.ensures.exact ∙ c.if-not-has_nodes.true);
 }
 
 pub returns : goal.returns
 returns c = record {
   as_specified =
-      gives_same _ _ c.put_in_gap.result
+      edits_same _ _ c.put_in_gap.new.tree c.put_in_gap.result
       (
-      (λ i. gap_done c.args.here.now (c.gap_of-gap.ensures.insert_path i) (c.gap_of-gap.ensures.insert_place i) c.args.operation.now.content c.args.tree)
+      (λ i. gap_done c.args.here.now (c.gap_of-gap.ensures.insert_path i) (c.gap_of-gap.ensures.insert_place i) c.args.operation.now.content c.args.tree.now)
       ∙ sym (
-      put_somewhere c.args.here.now (position_in c.args.position) c.args.path c.args.operation.now.content c.args.tree
+      put_somewhere c.args.here.now (position_in c.args.position) c.args.path c.args.operation.now.content c.args.tree.now
       (sym c.is_off_root.ensures.exact ∙ c.if-not-is_off_root.false) (sym c.has_nodes.ensures.exact ∙ c.if-not-has_nodes.false)
       )
       )

@@ -10,13 +10,13 @@ use Rattle.patch_apply.proofs.Making.{gap_deep, gap_made, gap_unlike}
 use Rattle.patch_apply.proofs.elements.put_in_gap.Goals as goal
 
 pub means_alike_at-requires : goal.means_alike_at-requires
-means_alike_at-requires c = record { place_exists = some_if (at c.args.gap.path c.args.tree) _ c.requires.within }
+means_alike_at-requires c = record { place_exists = some_if (at c.args.gap.now.path c.args.tree.now) _ c.requires.within }
 
 pub returns-then-not-may_hold : goal.returns-then-not-may_hold
 returns-then-not-may_hold c = record {
   as_specified =
-      let p = c.args.gap.path in let t = c.args.tree in
-      gap_deep c.args.here.now p c.args.gap.place c.args.operation.now.content t (some_if (at p t) _ c.requires.within) c.requires.height_bounded
+      let p = c.args.gap.now.path in let t = c.args.tree.now in
+      gap_deep c.args.here.now p c.args.gap.now.place c.args.operation.now.content t (some_if (at p t) _ c.requires.within) c.requires.height_bounded
       (
       ap (λ (ns : List Node). nat_le (length p + suc (nodes_height ns)) 64) (sym c.nodes-nodes.ensures.content_nodes) ∙ sym c.may_hold.ensures.exact
       ∙ c.if-not-may_hold.true
@@ -26,8 +26,8 @@ returns-then-not-may_hold c = record {
 pub returns-then-not-means_alike_at : goal.returns-then-not-means_alike_at
 returns-then-not-means_alike_at c = record {
   as_specified =
-      let p = c.args.gap.path in let t = c.args.tree in
-      gap_unlike c.args.here.now p c.args.gap.place c.args.operation.now.content t (some_if (at p t) _ c.requires.within) c.requires.height_bounded
+      let p = c.args.gap.now.path in let t = c.args.tree.now in
+      gap_unlike c.args.here.now p c.args.gap.now.place c.args.operation.now.content t (some_if (at p t) _ c.requires.within) c.requires.height_bounded
       (
       ap (λ (ns : List Node). nat_le (length p + suc (nodes_height ns)) 64) (sym c.nodes-nodes.ensures.content_nodes) ∙ sym c.may_hold.ensures.exact
       ∙ c.if-not-may_hold.false
@@ -38,7 +38,7 @@ returns-then-not-means_alike_at c = record {
 pub returns : goal.returns
 returns c = record {
   as_specified =
-      let p = c.args.gap.path in let i = c.args.gap.place in let t = c.args.tree in
+      let p = c.args.gap.now.path in let i = c.args.gap.now.place in let t = c.args.tree.now in
       gap_made c.args.here.now p i c.args.operation.now.content t (some_if (at p t) _ c.requires.within) c.requires.height_bounded
       (
       ap (λ (ns : List Node). nat_le (length p + suc (nodes_height ns)) 64) (sym c.nodes-nodes.ensures.content_nodes) ∙ sym c.may_hold.ensures.exact

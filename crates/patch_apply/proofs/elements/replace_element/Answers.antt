@@ -7,20 +7,20 @@ use Rattle.patch_apply.proofs.elements.replace_element.Goals as goal
 
 pub returns-in_default : goal.returns-in_default
 returns-in_default c = record {
-  as_specified = replace_none c.args.here.now c.args.path.now c.args.operation.now.content c.args.tree (sym (c.in_default.ensures {u = tt}).exact);
+  as_specified = replace_none c.args.here.now c.args.path.now c.args.operation.now.content c.args.tree.now (sym (c.in_default.ensures {u = tt}).exact);
 }
 
 pub returns-then-not-may_stand : goal.returns-then-not-may_stand
 returns-then-not-may_stand c = record {
   as_specified =
-      element_deep c.args.here.now c.args.path.now c.in-Some.new.now c.args.operation.now.content c.args.tree c.requires.place_exists c.requires.height_bounded
+      element_deep c.args.here.now c.args.path.now c.in-Some.new.now c.args.operation.now.content c.args.tree.now c.requires.place_exists c.requires.height_bounded
       (sym (c.in-Some.ensures {u = tt}).exact) (sym c.may_stand.ensures.exact ∙ c.if-not-may_stand.true);
 }
 
 pub returns-then-not-alike_around : goal.returns-then-not-alike_around
 returns-then-not-alike_around c = record {
   as_specified =
-      element_unlike c.args.here.now c.args.path.now c.in-Some.new.now c.args.operation.now.content c.args.tree c.requires.place_exists c.requires.height_bounded
+      element_unlike c.args.here.now c.args.path.now c.in-Some.new.now c.args.operation.now.content c.args.tree.now c.requires.place_exists c.requires.height_bounded
       (sym (c.in-Some.ensures {u = tt}).exact) (sym c.may_stand.ensures.exact ∙ c.if-not-may_stand.false)
       (sym c.alike_around.ensures.exact ∙ c.if-not-alike_around.true);
 }
@@ -28,7 +28,7 @@ returns-then-not-alike_around c = record {
 pub returns : goal.returns
 returns c = record {
   as_specified =
-      let p = c.args.path.now in let t = c.args.tree in
+      let p = c.args.path.now in let t = c.args.tree.now in
       element_made c.args.here.now p c.in-Some.new.now c.args.operation.now.content t c.requires.place_exists c.requires.height_bounded
       (sym (c.in-Some.ensures {u = tt}).exact) (sym c.may_stand.ensures.exact ∙ c.if-not-may_stand.false)
       (sym c.alike_around.ensures.exact ∙ c.if-not-alike_around.false)

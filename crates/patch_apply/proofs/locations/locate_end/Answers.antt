@@ -1,5 +1,5 @@
 use Rattle.std.proofs.Common.{Some, sym, subst}
-use Rattle.xml_tree.specs.Scopes.{scope_at}
+use Rattle.xml_tree.specs.TreeScopes.{scope_at}
 use Rattle.node_select.specs.declared.selector.PatchEnd.{PatchEnd}
 use Rattle.patch_rules.specs.PatchOperations.{locate_end}
 use Rattle.patch_apply.specs.inner.Locating.{Spots}

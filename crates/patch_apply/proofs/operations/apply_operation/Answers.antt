@@ -1,24 +1,24 @@
 use Rattle.std.proofs.Common.{◌++◌, ◌∷◌, [], List, sym, ap, ◌∙◌}
 use Rattle.std.specs.List.{list_all}
-use Rattle.xml_tree.specs.declared.names.Decl.{Decl}
+use Rattle.xml_names.specs.declared.names.Decl.{Decl}
 use Rattle.patch_rules.specs.PatchOperations.{is_known}
 use Rattle.patch_apply.specs.inner.Stages.{said_done}
-use Rattle.patch_apply.proofs.Operating.{gives_same, known_attrs, plain_is, unknown_attrs, without_selector}
-use Rattle.patch_apply.proofs.Words.{sel}
+use Rattle.patch_apply.proofs.Operating.{edits_same, known_attrs, plain_is, unknown_attrs, without_selector}
+use Rattle.patch_parse.proofs.Words.{sel}
 use Rattle.patch_apply.proofs.operations.apply_operation.Goals as goal
 
 pub returns-in_default : goal.returns-in_default
 returns-in_default c = record {
   as_specified =
       let o = c.args.operation.now in
-      without_selector c.args.scope.now o c.args.tree (plain_is _ _ o.attrs c.attrs-attrs.result.now _ sel c.attrs-attrs.ensures.exact (c.in_default.ensures {u = tt}).exact);
+      without_selector c.args.scope.now o c.args.tree.now (plain_is _ _ o.attrs c.attrs-attrs.result.now _ sel c.attrs-attrs.ensures.exact (c.in_default.ensures {u = tt}).exact);
 }
 
 pub returns-then-not-are_known_attributes : goal.returns-then-not-are_known_attributes
 returns-then-not-are_known_attributes c = record {
   as_specified =
       let o = c.args.operation.now in
-      unknown_attrs c.args.scope.now o c.args.tree c.in-Some.sel.now
+      unknown_attrs c.args.scope.now o c.args.tree.now c.in-Some.sel.now
       (plain_is _ _ o.attrs c.attrs-attrs.result.now _ sel c.attrs-attrs.ensures.exact (c.in-Some.ensures {u = tt}).exact)
       (ap (list_all is_known) (sym c.attrs-attrs.ensures.exact) ∙ sym c.are_known_attributes.ensures.exact ∙ c.if-not-are_known_attributes.true);
 }
@@ -28,11 +28,11 @@ returns c = record {
   as_specified =
       let o = c.args.operation.now in
       let inside = c.with-here.ensures.exact ∙ ap (λ (ds : List Decl). c.args.scope.now ++ ds ∷ []) c.decls.ensures.exact in
-      gives_same _ _ c.apply_selected.result
+      edits_same _ _ c.apply_selected.new.tree c.apply_selected.result
       (
-      ap (λ (h : List (List Decl)). said_done h c.in-Some.sel.now o c.args.tree) inside
+      ap (λ (h : List (List Decl)). said_done h c.in-Some.sel.now o c.args.tree.now) inside
       ∙ sym (
-      known_attrs c.args.scope.now o c.args.tree c.in-Some.sel.now
+      known_attrs c.args.scope.now o c.args.tree.now c.in-Some.sel.now
       (plain_is _ _ o.attrs c.attrs-attrs.result.now _ sel c.attrs-attrs.ensures.exact (c.in-Some.ensures {u = tt}).exact)
       (ap (list_all is_known) (sym c.attrs-attrs.ensures.exact) ∙ sym c.are_known_attributes.ensures.exact ∙ c.if-not-are_known_attributes.false)
       )

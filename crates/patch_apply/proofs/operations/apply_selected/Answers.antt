@@ -1,14 +1,14 @@
 use Rattle.std.proofs.Common.{option_map, sym, ap, ◌∙◌}
-use Rattle.patch_apply.specs.inner.Stages.{task_said}
-use Rattle.patch_apply.specs.inner.PrivateTypes.{task_in}
-use Rattle.patch_apply.proofs.Operating.{gives_same, said_error, said_next, said_nothing}
+use Rattle.patch_parse.specs.Operations.{task_said}
+use Rattle.patch_parse.specs.Views.{task_in}
+use Rattle.patch_apply.proofs.Operating.{edits_same, said_error, said_next, said_nothing}
 use Rattle.patch_apply.proofs.operations.apply_selected.Goals as goal
 
 pub returns-in_default : goal.returns-in_default
 returns-in_default c = record {
   as_specified =
       let o = c.args.operation.now in
-      said_nothing c.args.here.now c.args.sel.now o c.args.tree
+      said_nothing c.args.here.now c.args.sel.now o c.args.tree.now
       ((λ i. task_said (sym c.name.ensures.exact i) (sym c.attrs.ensures.exact i)) ∙ sym c.in_ok-meant.ensures.ok ∙ ap (option_map task_in) c.in_default.is);
 }
 
@@ -16,7 +16,7 @@ pub returns-in-Err : goal.returns-in-Err
 returns-in-Err c = record {
   as_specified =
       let o = c.args.operation.now in
-      said_error c.args.here.now c.args.sel.now o c.args.tree (task_in c.in-Some.task) c.in-Err.error
+      said_error c.args.here.now c.args.sel.now o c.args.tree.now (task_in c.in-Some.task) c.in-Err.error c.args.tree.now
       ((λ i. task_said (sym c.name.ensures.exact i) (sym c.attrs.ensures.exact i)) ∙ sym c.in_ok-meant.ensures.ok ∙ ap (option_map task_in) c.in-Some.is)
       c.in-Err.ensures.grammar_answer;
 }
@@ -25,10 +25,10 @@ pub returns-in-Ok : goal.returns-in-Ok
 returns-in-Ok c = record {
   as_specified =
       let o = c.args.operation.now in
-      gives_same _ _ c.done_where.result
+      edits_same _ _ c.done_where.new.tree c.done_where.result
       (
       sym (
-      said_next c.args.here.now c.args.sel.now o c.args.tree (task_in c.in-Some.task) c.in-Ok.selector
+      said_next c.args.here.now c.args.sel.now o c.args.tree.now (task_in c.in-Some.task) c.in-Ok.selector
       ((λ i. task_said (sym c.name.ensures.exact i) (sym c.attrs.ensures.exact i)) ∙ sym c.in_ok-meant.ensures.ok ∙ ap (option_map task_in) c.in-Some.is)
       c.in-Ok.ensures.grammar_answer
       )

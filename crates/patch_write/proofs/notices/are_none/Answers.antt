@@ -1,4 +1,4 @@
-use Rattle.patch_write.proofs.Listing.{none-older, some-older}
+use Rattle.patch_rules.proofs.Lists.{none-older, some-older}
 use Rattle.patch_write.proofs.notices.are_none.Goals as goal
 
 pub returns-then-is_empty : goal.returns-then-is_empty

@@ -5,7 +5,7 @@ use Rattle.xml_tree.specs.Tree.{Tree}
 use Rattle.edit_ops.specs.Notes.{Note}
 use Rattle.edit_ops.specs.Operations.{operation}
 use Rattle.patch_rules.specs.Notices.{document, one_by_one}
-use Rattle.patch_write.specs.inner.Lists.{with_all}
+use Rattle.patch_rules.specs.inner.Lists.{with_all}
 use Rattle.patch_write.proofs.Listing.{next-put}
 use Rattle.patch_write.proofs.notices.push_each.Goals as goal
 

@@ -5,7 +5,7 @@ use Rattle.xml_tree.specs.Tree.{Tree}
 use Rattle.edit_ops.specs.Operations.{operation}
 use Rattle.edit_ops.specs.Notes.{Note}
 use Rattle.patch_rules.specs.Notices.{operations}
-use Rattle.patch_write.specs.inner.Lists.{with_all}
+use Rattle.patch_rules.specs.inner.Lists.{with_all}
 use Rattle.patch_write.proofs.Listing.{next-put}
 use Rattle.patch_write.proofs.notices.push_operations.Goals as goal
 

@@ -1,6 +1,6 @@
 use Rattle.std.proofs.Common.{◌≡◌, take}
 use Rattle.patch_rules.specs.Notices.{operations}
-use Rattle.patch_write.specs.inner.Lists.{with_all}
+use Rattle.patch_rules.specs.inner.Lists.{with_all}
 use Rattle.patch_write.proofs.notices.push_operations.Given as goal
 
 abbrev pub invariant-loop-note : goal.invariant-loop-note

@@ -1,7 +1,7 @@
 use Rattle.std.proofs.Common.{ℕ, List, ◌++◌, codes, append_assoc, ap, ◌∙◌}
 use Rattle.std.specs.Str.{chars}
 use Rattle.xml_tree.specs.PathTexts.{path_text}
-use Rattle.xml_tree.specs.Print.{print_name}
+use Rattle.xml_names.specs.Markup.{print_name}
 use Rattle.patch_write.proofs.Words.{behind_slash}
 use Rattle.patch_write.proofs.operations.attribute_text.Goals as goal
 

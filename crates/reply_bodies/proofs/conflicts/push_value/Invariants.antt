@@ -1,5 +1,5 @@
 use Rattle.std.proofs.Common.{◌≡◌, ◌++◌, drop, flat_map}
-use Rattle.xml_tree.specs.Print.{value_escape}
+use Rattle.xml_names.specs.Markup.{value_escape}
 use Rattle.reply_bodies.proofs.conflicts.push_value.Given as goal
 
 abbrev pub invariant-loop-byte : goal.invariant-loop-byte

@@ -1,7 +1,7 @@
 use Rattle.std.proofs.Common.{◌≡◌, List, None, Some, slice_get, sym, ap, ◌∙◌}
 use Rattle.std.specs.List.{position}
 use Rattle.std.specs.Option.{option_copied}
-use Rattle.xml_tree.specs.declared.names.Attr.{Attr}
+use Rattle.xml_names.specs.declared.names.Attr.{Attr}
 use Rattle.node_select.specs.Selection.{is_attr}
 use Rattle.reply_bodies.proofs.Attributes.{found_place, item_is, no_found_place}
 use Rattle.reply_bodies.proofs.nodes.attribute.Goals as goal

@@ -4,10 +4,12 @@ use denote.Shadow.{shadow}
 use Rattle.std.proofs.lemmas.Str.{encodes-chars}
 use Rattle.std.proofs.lemmas.List.{append-nil}
 use Rattle.std.proofs.lemmas.Result.{err_from_is_err_and}
-use Rattle.tree_text.specs.Pieces.{raw, more_value, value_spelled as value_of}
-use Rattle.tree_text.specs.readers.Members.{read_spelled_piece, value_with}
-use Rattle.tree_text.specs.readers.Texts.{read_whole_reference, read_plain, reference_follows, read_spelling}
-use Rattle.tree_text.proofs.Loops.{start, both_ok, first_stops, goes_on, ends, is_done, is_stopped}
+use Rattle.xml_tokens.specs.Values.{raw, more_value, value_spelled as value_of}
+use Rattle.xml_tokens.specs.readers.ValueParts.{value_with}
+use Rattle.tree_text.specs.readers.Members.{read_spelled_piece}
+use Rattle.xml_tokens.specs.readers.Tokens.{reference_follows}
+use Rattle.tree_text.specs.readers.Texts.{read_whole_reference, read_plain, read_spelling}
+use Rattle.xml_tokens.proofs.Loops.{start, both_ok, first_stops, goes_on, ends, is_done, is_stopped}
 use Rattle.tree_text.proofs.attribute_bodies.read_body_value.Goals as goal
 use Rattle.tree_text.proofs.attribute_bodies.read_body_value.Goals.{else-loop-test, then-loop-test+then-not-reference_follows}
 

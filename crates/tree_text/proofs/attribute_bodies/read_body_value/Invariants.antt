@@ -2,9 +2,11 @@ use Rattle.std.proofs.Common.{◌≡◌, ◌-◌, chars}
 use denote.Text.{Utf8}
 use denote.Shadow.{shadow}
 use Rattle.xml_grammar.specs.readers.Functions.{read_at_most}
-use Rattle.tree_text.specs.readers.Members.{read_spelled_piece, value_with}
-use Rattle.tree_text.specs.readers.Texts.{reference_follows, read_spelling}
-use Rattle.tree_text.proofs.Loops.{finish}
+use Rattle.xml_tokens.specs.readers.ValueParts.{value_with}
+use Rattle.tree_text.specs.readers.Members.{read_spelled_piece}
+use Rattle.xml_tokens.specs.readers.Tokens.{reference_follows}
+use Rattle.tree_text.specs.readers.Texts.{read_spelling}
+use Rattle.xml_tokens.proofs.Loops.{finish}
 use Rattle.tree_text.proofs.attribute_bodies.read_body_value.Given as goal
 
 abbrev pub invariant-loop : goal.invariant-loop

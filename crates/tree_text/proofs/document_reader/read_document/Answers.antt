@@ -1,6 +1,6 @@
 use Rattle.std.proofs.Common.{◌≡◌, List, [], subst}
-use Rattle.xml_tree.specs.declared.names.Decl.{Decl}
-use Rattle.xml_tree.specs.Memory.{Answered}
+use Rattle.xml_names.specs.declared.names.Decl.{Decl}
+use Rattle.xml_names.specs.Memory.{Answered}
 use Rattle.tree_text.specs.readers.Whole.{text_read}
 use Rattle.tree_text.proofs.ReadProper.{text_answers, text_good}
 use Rattle.tree_text.proofs.document_reader.read_document.Goals as goal

@@ -1,10 +1,11 @@
 use Rattle.std.proofs.Common.{◌≡◌, ℕ, ◌==◌, false, List, [], ◌∷◌, length, chars, Ok, Err, refl, sym, subst}
 use Rattle.xml_grammar.specs.Reading.{Reader, Syntax}
 use Rattle.xml_grammar.specs.readers.Functions.{read_whole}
-use Rattle.xml_tree.specs.declared.names.Decl.{Decl}
-use Rattle.tree_text.specs.declared.fault_kind.FaultKind.{FaultKind}
-use Rattle.tree_text.specs.readers.Texts.{read_mark_if, read_declaration_if, read_prolog, read_element, read_epilog, read_text}
-use Rattle.tree_text.proofs.ReadFronts.{Reads, reads_before, reads_behind}
+use Rattle.xml_names.specs.declared.names.Decl.{Decl}
+use Rattle.xml_tokens.specs.declared.fault_kind.FaultKind.{FaultKind}
+use Rattle.xml_tokens.specs.readers.Tokens.{read_mark_if, read_declaration_if}
+use Rattle.tree_text.specs.readers.Texts.{read_prolog, read_element, read_epilog, read_text}
+use Rattle.xml_tokens.proofs.ReadFronts.{Reads, reads_before, reads_behind}
 use Rattle.tree_text.proofs.document_reader.root.Goals as goal
 
 -- a non-empty rest stops the reading of a whole text

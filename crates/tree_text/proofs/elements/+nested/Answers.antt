@@ -10,10 +10,12 @@ use Rattle.tree_text.specs.Names.{attrs_of}
 use Rattle.tree_text.specs.Pieces.{StartTag}
 use Rattle.tree_text.specs.declared.raw_attribute.RawAttribute.{RawAttribute}
 use Rattle.tree_text.specs.declared.start_tags.RawStartTag.{RawStartTag as CodeTag}
-use Rattle.tree_text.specs.readers.Texts.{markup_follows, read_tag, read_markup, read_chars, read_element}
-use Rattle.tree_text.specs.readers.Views.{name_in, tag_in}
+use Rattle.xml_tokens.specs.readers.Tokens.{read_chars}
+use Rattle.tree_text.specs.readers.Texts.{markup_follows, read_tag, read_markup, read_element}
+use Rattle.xml_tokens.specs.readers.TokenViews.{name_in}
+use Rattle.tree_text.specs.readers.Views.{tag_in}
 use Rattle.tree_text.proofs.ChildLemmas.{there, is_bare, still_normal, in_place}
-use Rattle.tree_text.proofs.Loops.{both_ok, first_stops, goes_on, ends, is_done, is_stopped, valued_ok, valued_fails}
+use Rattle.xml_tokens.proofs.Loops.{both_ok, first_stops, goes_on, ends, is_done, is_stopped, valued_ok, valued_fails}
 use Rattle.tree_text.proofs.ElementLemmas.{begins, piece_more, judged_is, misjudged, element_ok, element_err, tag_err, untagged, child_ok, child_stops, level_ok, level_stops, onto_ok, onto_stops, still, back_again, closed}
 use Rattle.tree_text.proofs.elements.+nested.Goals as goal
 use Rattle.tree_text.proofs.elements.+nested.Goals.{content-else-loop-test, content-then-loop-test+then-not-markup_follows}

@@ -5,7 +5,7 @@ use Rattle.xml_grammar.specs.readers.Functions.{read_at_most}
 use Rattle.tree_text.specs.readers.Bindings.{AreBack, lists}
 use Rattle.tree_text.specs.readers.Members.{tree_with, read_member, read_filled}
 use Rattle.tree_text.specs.readers.Texts.{markup_follows, read_element}
-use Rattle.tree_text.proofs.Loops.{finish}
+use Rattle.xml_tokens.proofs.Loops.{finish}
 use Rattle.tree_text.proofs.elements.+nested.Given as goal
 
 abbrev pub decreases-push_child : goal.decreases-push_child

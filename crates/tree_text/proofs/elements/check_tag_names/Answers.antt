@@ -1,7 +1,7 @@
 use Rattle.std.proofs.Common.{◌<◌, ◌^◌, chars, length, rules, arith}
 use Rattle.tree_text.specs.readers.Views.{tag_in}
-use Rattle.tree_text.proofs.NameLemmas.{parts_size}
-use Rattle.tree_text.proofs.TextBytes.{chars_le}
+use Rattle.xml_tokens.proofs.NameLemmas.{parts_size}
+use Rattle.xml_tokens.proofs.TextBytes.{chars_le}
 use Rattle.tree_text.proofs.TagSizes.{tag_room}
 use Rattle.tree_text.proofs.elements.check_tag_names.Goals as goal
 

@@ -1,6 +1,6 @@
 use Rattle.std.proofs.Common.{List, [], ◌∷◌, ◌++◌, ap, ◌∙◌, append_assoc}
 use Rattle.xml_tree.specs.Tree.{Tree}
-use Rattle.xml_tree.specs.declared.names.Attr.{Attr}
+use Rattle.xml_names.specs.declared.names.Attr.{Attr}
 use Rattle.tree_text.specs.Names.{attrs_of}
 use Rattle.tree_text.proofs.JudgeLemmas.{attrs-append}
 use Rattle.tree_text.proofs.elements.push_all_said.Goals as goal

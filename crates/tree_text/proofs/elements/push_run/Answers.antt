@@ -1,5 +1,5 @@
 use Rattle.std.proofs.Common.{sym, chars}
-use Rattle.tree_text.proofs.PlainFronts.{nothing_onto}
+use Rattle.tree_text.proofs.ContentFronts.{nothing_onto}
 use Rattle.tree_text.proofs.elements.push_run.Goals as goal
 
 pub returns-then-run_ends : goal.returns-then-run_ends

@@ -1,7 +1,8 @@
 use Rattle.std.proofs.Common.{chars, sym}
-use Rattle.tree_text.specs.readers.Runs.{is_plain_in_content}
-use Rattle.tree_text.proofs.PlainFronts.{plain_chars, chars_onto}
-use Rattle.tree_text.proofs.TextBytes.{run_whole, run_all}
+use Rattle.xml_tokens.specs.readers.Runs.{is_plain_in_content}
+use Rattle.xml_tokens.proofs.PlainFronts.{plain_chars}
+use Rattle.tree_text.proofs.ContentFronts.{chars_onto}
+use Rattle.xml_tokens.proofs.TextBytes.{run_whole, run_all}
 use Rattle.tree_text.proofs.elements.push_some.Goals as goal
 
 pub returns-then-run_ends : goal.returns-then-run_ends

@@ -5,8 +5,9 @@ use Rattle.std.proofs.lemmas.Str.{encodes-chars}
 use Rattle.std.proofs.lemmas.Result.{err_from_is_err_and}
 use Rattle.xml_grammar.specs.Reading.{read_sequence}
 use Rattle.tree_text.specs.readers.Members.{nothing_with}
-use Rattle.tree_text.specs.readers.Texts.{misc_follows, read_dropped, read_spaces, read_prolog_misc, read_prolog}
-use Rattle.tree_text.proofs.Loops.{start, both_ok, first_stops, goes_on, ends, is_done, is_stopped, dropped_ok}
+use Rattle.xml_tokens.specs.readers.Tokens.{read_dropped, read_spaces}
+use Rattle.tree_text.specs.readers.Texts.{misc_follows, read_prolog_misc, read_prolog}
+use Rattle.xml_tokens.proofs.Loops.{start, both_ok, first_stops, goes_on, ends, is_done, is_stopped, dropped_ok}
 use Rattle.tree_text.proofs.markup.prolog.Goals as goal
 use Rattle.tree_text.proofs.markup.prolog.Goals.{else-loop-test, then-loop-test+then-not-misc_follows}
 

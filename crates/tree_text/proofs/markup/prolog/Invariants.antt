@@ -4,8 +4,9 @@ use denote.Shadow.{shadow}
 use Rattle.xml_grammar.specs.Reading.{read_sequence}
 use Rattle.xml_grammar.specs.readers.Functions.{read_at_most}
 use Rattle.tree_text.specs.readers.Members.{nothing_with}
-use Rattle.tree_text.specs.readers.Texts.{misc_follows, read_dropped, read_spaces, read_prolog_misc, read_prolog}
-use Rattle.tree_text.proofs.Loops.{finish}
+use Rattle.xml_tokens.specs.readers.Tokens.{read_dropped, read_spaces}
+use Rattle.tree_text.specs.readers.Texts.{misc_follows, read_prolog_misc, read_prolog}
+use Rattle.xml_tokens.proofs.Loops.{finish}
 use Rattle.tree_text.proofs.markup.prolog.Given as goal
 
 abbrev pub invariant-loop : goal.invariant-loop

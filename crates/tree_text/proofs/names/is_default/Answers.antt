@@ -2,7 +2,7 @@ use Rattle.std.proofs.Common.{[], length, sym, ◌∙◌, chars, eq-eqb}
 use Rattle.std.proofs.lemmas.Bool.{eqb-true}
 use Rattle.std.specs.Cmp.{both_ways}
 use Rattle.std.specs.Cmp.Lexicographic.{bytes_decides}
-use Rattle.xml_tree.proofs.Letters.{chars_empty, chars_none}
+use Rattle.xml_names.proofs.Letters.{chars_empty, chars_none}
 use Rattle.tree_text.proofs.names.is_default.Goals as goal
 
 pub returns : goal.returns

@@ -1,6 +1,6 @@
 use Rattle.std.proofs.Common.{◌≡◌, bytes_eq, refl, ap, ◌∙◌}
 use Rattle.std.specs.Str.{chars}
-use Rattle.xml_tree.specs.Scopes.{xml_uri}
+use Rattle.xml_names.specs.Scopes.{xml_uri}
 use Rattle.tree_text.proofs.names.is_xml_uri.Goals as goal
 
 letters : chars xml_uri ≡ xml_uri

@@ -1,6 +1,6 @@
 use Rattle.std.proofs.Common.{◌≡◌, bytes_eq, refl, ap, ◌∙◌}
 use Rattle.std.specs.Str.{chars}
-use Rattle.xml_tree.specs.Scopes.{xmlns_uri}
+use Rattle.xml_names.specs.Scopes.{xmlns_uri}
 use Rattle.tree_text.proofs.names.is_xmlns_uri.Goals as goal
 
 letters : chars xmlns_uri ≡ xmlns_uri

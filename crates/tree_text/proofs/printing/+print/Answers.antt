@@ -1,5 +1,5 @@
 use Rattle.std.proofs.Common.{◌++◌, length, sym, ap, ◌∙◌, eqb-true, eq-eqb}
-use Rattle.xml_tree.specs.Print.{closing}
+use Rattle.xml_names.specs.Markup.{closing}
 use Rattle.tree_text.proofs.PrintLemmas.{node_next, bare_end, filled_end}
 use Rattle.tree_text.proofs.printing.+print.Goals as goal
 

@@ -1,5 +1,5 @@
 use Rattle.std.proofs.Common.{◌≡◌, ◌++◌, take, flat_map}
-use Rattle.xml_tree.specs.Print.{print_attr}
+use Rattle.xml_names.specs.Markup.{print_attr}
 use Rattle.tree_text.proofs.printing.push_attrs.Given as goal
 
 abbrev pub invariant-loop-attr : goal.invariant-loop-attr

@@ -1,5 +1,5 @@
 use Rattle.std.proofs.Common.{◌≡◌, ◌++◌, take, flat_map}
-use Rattle.xml_tree.specs.Print.{print_decl}
+use Rattle.xml_names.specs.Markup.{print_decl}
 use Rattle.tree_text.proofs.printing.push_decls.Given as goal
 
 abbrev pub invariant-loop-decl : goal.invariant-loop-decl

@@ -1,7 +1,7 @@
 use Rattle.std.proofs.Common.{chars, sym}
-use Rattle.xml_tree.specs.Characters.{is_space}
-use Rattle.tree_text.proofs.FirstRuns.{run_read}
-use Rattle.tree_text.proofs.TextBytes.{run_all}
+use Rattle.xml_names.specs.Characters.{is_space}
+use Rattle.xml_tokens.proofs.FirstRuns.{run_read}
+use Rattle.xml_tokens.proofs.TextBytes.{run_all}
 use Rattle.tree_text.proofs.start_tags.before_raw_attribute.Goals as goal
 
 pub returns-clause-reads_space : goal.returns-clause-reads_space

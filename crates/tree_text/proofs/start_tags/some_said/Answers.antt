@@ -2,15 +2,16 @@ use Rattle.std.proofs.Common.{rules, ◌≡◌, ℕ, ◌-◌, List, [], ◌∷�
 use Rattle.std.proofs.lemmas.Str.{encodes-chars}
 use Rattle.xml_grammar.specs.Reading.{Stop, ◌>>=◌, read_valued}
 use Rattle.xml_grammar.specs.readers.Functions.{read_sized}
-use Rattle.xml_tree.specs.declared.names.Name.{Name}
-use Rattle.tree_text.specs.declared.fault_kind.FaultKind.{FaultKind}
+use Rattle.xml_names.specs.declared.names.Name.{Name}
+use Rattle.xml_tokens.specs.declared.fault_kind.FaultKind.{FaultKind}
 use Rattle.std.proofs.lemmas.List.{append-nil}
 use Rattle.std.proofs.lemmas.Result.{err_from_is_err_and}
 use Rattle.tree_text.specs.declared.raw_attribute.RawAttribute.{RawAttribute}
-use Rattle.tree_text.specs.readers.Results.{Fails}
+use Rattle.xml_tokens.specs.readers.Results.{Fails}
 use Rattle.tree_text.specs.readers.TagValues.{said_of}
-use Rattle.tree_text.specs.readers.Texts.{said_follows, read_some_spaces, read_attribute, read_said, read_all_said}
-use Rattle.tree_text.proofs.Loops.{finish, goes_on, ends, is_done, is_stopped, valued_ok, valued_fails}
+use Rattle.xml_tokens.specs.readers.Tokens.{read_some_spaces}
+use Rattle.tree_text.specs.readers.Texts.{said_follows, read_attribute, read_said, read_all_said}
+use Rattle.xml_tokens.proofs.Loops.{finish, goes_on, ends, is_done, is_stopped, valued_ok, valued_fails}
 use Rattle.tree_text.proofs.start_tags.some_said.Goals as goal
 use Rattle.tree_text.proofs.start_tags.some_said.Goals.{else-loop-test, then-loop-test+in_default}
 

@@ -3,7 +3,7 @@ use denote.Text.{Utf8}
 use denote.Shadow.{shadow}
 use Rattle.xml_grammar.specs.readers.Functions.{read_at_most}
 use Rattle.tree_text.specs.readers.Texts.{said_follows, read_said, read_all_said}
-use Rattle.tree_text.proofs.Loops.{finish}
+use Rattle.xml_tokens.proofs.Loops.{finish}
 use Rattle.tree_text.proofs.start_tags.some_said.Given as goal
 
 abbrev pub invariant-loop : goal.invariant-loop

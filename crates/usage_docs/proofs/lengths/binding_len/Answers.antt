@@ -1,7 +1,7 @@
 use Rattle.std.proofs.Common.{List, [], ◌∷◌, ◌≡◌, ◌∙◌, rules, min, ap, sym}
 use Rattle.std.proofs.lemmas.Fn.{always_returns_same}
-use Rattle.xml_tree.specs.Print.{print_decl, byte_len}
-use Rattle.xml_tree.specs.declared.names.Decl.{Decl}
+use Rattle.xml_names.specs.Markup.{print_decl, byte_len}
+use Rattle.xml_names.specs.declared.names.Decl.{Decl}
 use Rattle.usage_docs.specs.readers.Lengths.{binding_of, decls_len}
 use Rattle.usage_docs.proofs.HiddenLemmas.{found, not_found, to_prefix}
 use Rattle.usage_docs.proofs.LengthLemmas.{only_one}

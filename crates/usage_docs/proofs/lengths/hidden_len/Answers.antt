@@ -1,7 +1,7 @@
 use Rattle.std.proofs.Common.{List, [], ◌∷◌, ◌++◌, ◌+◌, ◌≡◌, ◌∙◌, true, false, is_some, take, min, ap, sym, subst}
 use Rattle.std.proofs.lemmas.List.{take_more, take_all}
-use Rattle.xml_tree.specs.Scopes.{declared}
-use Rattle.xml_tree.specs.declared.names.Decl.{Decl}
+use Rattle.xml_names.specs.Scopes.{declared}
+use Rattle.xml_names.specs.declared.names.Decl.{Decl}
 use Rattle.usage_docs.specs.readers.Lengths.{binding_of, decls_len, hidden}
 use Rattle.usage_docs.proofs.HiddenLemmas.{HasSeen, hides_more, hides_same, lent, none_hidden, none_seen, seen_more, was_new, was_not_new}
 use Rattle.usage_docs.proofs.LengthLemmas.{two_capped}

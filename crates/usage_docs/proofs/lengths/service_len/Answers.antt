@@ -1,8 +1,8 @@
 use Rattle.std.proofs.Common.{◌≡◌, List, [], ◌∷◌, length, min, refl, ap, sym, subst, ◌∙◌, eqb-true}
-use Rattle.xml_tree.specs.declared.names.Decl.{Decl}
-use Rattle.xml_tree.specs.Scopes.{AreInOrder, bindings_in}
+use Rattle.xml_names.specs.declared.names.Decl.{Decl}
+use Rattle.xml_names.specs.Scopes.{AreInOrder, bindings_in}
 use Rattle.usage_docs.specs.readers.Lengths.{decls_len}
-use Rattle.xml_tree.proofs.BindingWords.{AreInOrder-bindings_in}
+use Rattle.xml_names.proofs.BindingWords.{AreInOrder-bindings_in}
 use Rattle.usage_docs.proofs.HiddenLemmas.{hid_within, own_within, shown_len}
 use Rattle.usage_docs.proofs.LengthLemmas.{plain_service, two_capped}
 use Rattle.usage_docs.proofs.lengths.service_len.Goals as goal

@@ -1,6 +1,6 @@
 use Rattle.std.proofs.Common.{ℕ, List, [], Option, refl, sym, ap, ◌∙◌, chars, option_map}
 use Rattle.std.specs.Option.{unwrap_or}
-use Rattle.xml_tree.proofs.Letters.{chars_empty}
+use Rattle.xml_names.proofs.Letters.{chars_empty}
 use Rattle.usage_docs.proofs.schema_table.element_namespace.Goals as goal
 
 pub returns-in-None : goal.returns-in-None

@@ -1,5 +1,5 @@
 use Rattle.std.proofs.Common.{◌∙◌, bytes_eq, chars, ap}
-use Rattle.xml_tree.proofs.Letters.{bytes_eq-chars}
+use Rattle.xml_names.proofs.Letters.{bytes_eq-chars}
 use Rattle.usage_docs.proofs.Words.{chars_ascii}
 use Rattle.usage_docs.proofs.schema_table.is_word.Goals as goal
 

@@ -1,6 +1,6 @@
 use Rattle.std.proofs.Common.{List, [], ◌∷◌, filter_map, ap, ◌∙◌}
 use Rattle.xml_tree.specs.Tree.{child_elements_of}
-use Rattle.xml_tree.specs.declared.names.Decl.{Decl}
+use Rattle.xml_names.specs.declared.names.Decl.{Decl}
 use Rattle.usage_docs.specs.Services.{service_uri}
 use Rattle.usage_docs.proofs.UriLemmas.{uris_are}
 use Rattle.usage_docs.proofs.service_uris.services.Goals as goal

@@ -1,6 +1,6 @@
 use Rattle.std.proofs.Common.{Option, refl, subst, sym}
 use Rattle.std.specs.Option.{ForSome}
-use Rattle.xml_tree.specs.Scopes.{inside}
+use Rattle.xml_tree.specs.TreeScopes.{inside}
 use Rattle.usage_docs.specs.declared.schema_table.ElementKind.{ElementKind}
 use Rattle.usage_docs.specs.readers.FirstFaults.{IsKnownFormed}
 use Rattle.usage_docs.specs.SchemaTable.{Scope}

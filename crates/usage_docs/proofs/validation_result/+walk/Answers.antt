@@ -4,7 +4,7 @@ use Rattle.std.proofs.lemmas.Grind.{common_steps}
 use Rattle.xml_tree.specs.Nodes.{node_height}
 use Rattle.xml_tree.specs.Tree.{height, child_elements_of}
 use Rattle.xml_tree.specs.declared.tree.Node.{Node}
-use Rattle.xml_tree.specs.Scopes.{inside}
+use Rattle.xml_tree.specs.TreeScopes.{inside}
 use Rattle.usage_docs.specs.declared.keys.KeyedChild.{KeyedChild}
 use Rattle.usage_docs.specs.declared.schema_table.ElementKind.{ElementKind}
 use Rattle.usage_docs.specs.UniqueKeys.{Mark}

@@ -1,6 +1,7 @@
 use Rattle.std.proofs.Common.{List, ℕ, refl, subst}
 use Rattle.xcap_app.specs.KeepCommand.{KeepsCommand}
-use Rattle.xcap_app.specs.declared.command.Command.TheVariants.{Keep, Sample, Fetch, Put, Delete, Follow}
+use Rattle.xcap_app.specs.Serves.{ServesCommand}
+use Rattle.xcap_app.specs.declared.command.Command.TheVariants.{Serve, Keep, Sample, Fetch, Put, Delete, Follow}
 use Rattle.xcap_app.proofs.Ends.{ran_as}
 use Rattle.xcap_app.proofs.entry_point.execute.Goals as goal
 
@@ -28,9 +29,23 @@ pub returns-in-Keep : goal.returns-in-Keep
 returns-in-Keep g c = record {
   runs_command =
       ran_as g.W.Watchers.keeps c.args.command.now (Keep c.in-Keep.address c.in-Keep.root c.in-Keep.count) c.keep.result _ _ _ _ _ _ _ _ _ _ c.in-Keep.is (
-        subst (λ (address : List ℕ). KeepsCommand g.W.Watchers.keeps address c.in-Keep.root c.in-Keep.count c.keep.result (g.P.Line.state c.args.port.now) (g.P.Line.state c.keep.new.port)
-            (g.I.Line.state c.args.input.now) (g.I.Line.state c.keep.new.input) (g.O.Line.state c.args.output.now) (g.O.Line.state c.keep.new.output) c.args.watchers.now c.keep.new.watchers)
+        subst (λ (address : List ℕ). KeepsCommand g.W.Watchers.keeps (record { address = address; root = c.in-Keep.root; count = c.in-Keep.count }) c.keep.result
+            (record { port = g.P.Line.state c.args.port.now; input = g.I.Line.state c.args.input.now; output = g.O.Line.state c.args.output.now; watchers = c.args.watchers.now })
+            (record { port = g.P.Line.state c.keep.new.port; input = g.I.Line.state c.keep.new.input; output = g.O.Line.state c.keep.new.output; watchers = c.keep.new.watchers }))
             c.as_str-in-Keep.ensures.utf8_bytes c.keep.ensures.keeps_journal,
+        refl,
+      );
+}
+
+pub returns-in-Serve : goal.returns-in-Serve
+returns-in-Serve g c = record {
+  runs_command =
+      ran_as g.W.Watchers.keeps c.args.command.now (Serve c.in-Serve.address c.in-Serve.root c.in-Serve.count) c.serve.result _ _ _ _ _ _ _ _ _ _ c.in-Serve.is (
+        subst (λ (address : List ℕ). ServesCommand g.W.Watchers.keeps (record { address = address; root = c.in-Serve.root; count = c.in-Serve.count }) c.serve.result
+            (record { port = g.P.Line.state c.args.port.now; output = g.O.Line.state c.args.output.now; watchers = c.args.watchers.now })
+            (record { port = g.P.Line.state c.serve.new.port; output = g.O.Line.state c.serve.new.output; watchers = c.serve.new.watchers }))
+            c.as_str.ensures.utf8_bytes c.serve.ensures.serves_command,
+        refl,
         refl,
       );
 }

@@ -21,6 +21,7 @@ returns g c = record {
       streams (o c.args.output.now) (o k.output.now) _ k.output.ghost_name made k.len k.faults c.new-journal.ensures.sink_state c.new-journal.ensures.starts_after_taken c.keep_over.ensures.goes_on in
       let r = c.keep_over.ensures.keeps_command (o c.args.output.now) (o k.output.now) s in
       let same = sym (same_name _ _ _ _ (c.keep_over.ensures.goes_on.same_holds ∙ ap (λ (x : JournalState). x.holds) c.new-journal.ensures.sink_state)) in
-      subst (λ output. KeepsCommand g.W.Watchers.keeps c.args.address.now c.args.server.now.root c.args.count c.keep_over.result (p c.args.port.now) (p c.keep_over.new.port)
-      (i c.args.input.now) (i c.keep_over.new.input) (o c.args.output.now) (o output) c.args.watchers.now c.keep_over.new.watchers) (search (rules, same)) r;
+      subst (λ output. KeepsCommand g.W.Watchers.keeps (record { address = c.args.address.now; root = c.args.server.now.root; count = c.args.count }) c.keep_over.result
+      (record { port = p c.args.port.now; input = i c.args.input.now; output = o c.args.output.now; watchers = c.args.watchers.now })
+      (record { port = p c.keep_over.new.port; input = i c.keep_over.new.input; output = o output; watchers = c.keep_over.new.watchers })) (search (rules, same)) r;
 }

@@ -6,7 +6,7 @@ use Rattle.edit_journal.specs.Texts.{text}
 use Rattle.edit_journal.specs.Journals.{JournalState}
 use Rattle.edit_journal.specs.Streams.{stream_state}
 use Rattle.edit_journal.proofs.Going.{goes_on}
-use Rattle.xcap_app.specs.KeepCommand.{KeepsOn, keeps_on, no_journal}
+use Rattle.xcap_app.specs.KeepCommand.{KeepsOn, OldJournal, keeps_on, no_journal}
 use Rattle.xcap_app.proofs.Keeping.{breaks_off, journal_read, keeps_so, short_text}
 use Rattle.xcap_app.proofs.Streams.{wrote}
 use Rattle.xcap_app.proofs.keep.keep_over.Goals as goal
@@ -33,13 +33,13 @@ returns-clause-keeps_command g c = λ output output' s.
     let later : JournalState = stream_state (o k.output.now) k.output.ghost_name k.len k.faults in
     let restarts = c.in-Ok.ensures.as_specified in
     let read = journal_read (i c.args.input.now) (i c.restart.new.source) _ _ c.args.server.now c.restart.new.replayer c.requires.empty c.restart.ensures.same_subject c.in-Ok.log restarts in
-    let state = read.0.state in
+    let journal : OldJournal = record { bytes = restarts.bytes; requests = restarts.requests; rest = restarts.rest; state = read.0.state } in
     let root : c.restart.new.replayer.root ≡ c.args.server.now.root = c.restart.ensures.same_subject in
-    let kept = c.serve_logged.ensures.keeps_on restarts.requests state read.0.kept read.0.stands read.0.redone restarts.told restarts.ending.4 in
-    keeps_on restarts.requests state read.1 s.just_written
-    (keeps_so g.W.Watchers.keeps (λ bytes. later.held ≡ bytes) (Took output.taken output'.taken) (0 < later.faults) (CountRises output.write_faults output'.write_faults) (λ bytes held. wrote output output' later bytes s held) s.cause c.args.address.now c.args.server.now.root c.args.count restarts.requests state
-    (p c.args.port.now) (p c.serve_logged.new.port) c.args.watchers.now c.serve_logged.new.watchers c.serve_logged.result
-    (subst (λ (root : List ℕ). KeepsOn g.W.Watchers.keeps (λ bytes. later.held ≡ bytes) (0 < later.faults) c.args.address.now root c.args.count c.serve_logged.result restarts.requests state (p c.args.port.now) (p c.serve_logged.new.port) c.args.watchers.now c.serve_logged.new.watchers) root kept))
+    let kept = c.serve_logged.ensures.keeps_on journal read.0.kept read.0.stands read.0.redone restarts.told restarts.ending.4 in
+    keeps_on journal read.1 s.just_written
+    (keeps_so g.W.Watchers.keeps (λ bytes. later.held ≡ bytes) (Took output.taken output'.taken) (0 < later.faults) (CountRises output.write_faults output'.write_faults) (λ bytes held. wrote output output' later bytes s held) s.cause (record { address = c.args.address.now; root = c.args.server.now.root; count = c.args.count }) journal
+    (record { port = p c.args.port.now; watchers = c.args.watchers.now }) (record { port = p c.serve_logged.new.port; watchers = c.serve_logged.new.watchers }) c.serve_logged.result
+    (subst (λ (root : List ℕ). KeepsOn g.W.Watchers.keeps (λ bytes. later.held ≡ bytes) (0 < later.faults) (record { address = c.args.address.now; root = root; count = c.args.count }) c.serve_logged.result journal (record { port = p c.args.port.now; watchers = c.args.watchers.now }) (record { port = p c.serve_logged.new.port; watchers = c.serve_logged.new.watchers })) root kept))
 
 pub serve_logged-requires-clause-not_torn : goal.serve_logged-requires-clause-not_torn
 serve_logged-requires-clause-not_torn g c = ap (λ (l : LogState). l.is_torn) c.in-Ok.ensures.as_specified.ending.5

@@ -1,7 +1,7 @@
 use Rattle.std.proofs.Common.{◌≡◌, bytes_eq, List, ℕ, IsUtf8, refl, ap, ◌∙◌}
 use Rattle.std.specs.Str.{chars}
 use lib.Utf8.{encode}
-use Rattle.xml_tree.proofs.Letters.{bytes_eq-chars}
+use Rattle.xml_names.proofs.Letters.{bytes_eq-chars}
 use Rattle.xcap_client.specs.Conflicts.{error_uri}
 use Rattle.xcap_client.proofs.conflicts.is_error_uri.Goals as goal
 

@@ -1,6 +1,6 @@
 use Rattle.std.proofs.Common.{subst}
-use Rattle.xml_tree.specs.Memory.{OfFault}
-use Rattle.xml_tree.specs.declared.read_error.ReadError.{ReadError}
+use Rattle.xml_names.specs.Memory.{OfFault}
+use Rattle.xml_names.specs.declared.read_error.ReadError.{ReadError}
 use Rattle.usage_docs.specs.declared.service_index.IndexFault.{IndexFault}
 use Rattle.xcap_get.specs.inner.FoundResources.{HasLongIndex}
 use Rattle.xcap_get.proofs.Leading.{leads_beyond, leads_index}

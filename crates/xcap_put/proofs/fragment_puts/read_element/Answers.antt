@@ -1,5 +1,5 @@
 use Rattle.std.proofs.Common.{◌+◌, ◌≤◌, List, ℕ, length, sym, subst}
-use Rattle.xml_tree.specs.declared.names.Decl.{Decl}
+use Rattle.xml_names.specs.declared.names.Decl.{Decl}
 use Rattle.xcap_machine.specs.NodeWrites.{levels_for}
 use Rattle.xcap_put.proofs.Spotted.{scope_fits}
 use Rattle.xcap_put.proofs.fragment_puts.read_element.Goals as goal

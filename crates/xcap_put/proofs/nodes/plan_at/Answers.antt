@@ -1,4 +1,5 @@
 use Rattle.xcap_machine.specs.NodeWrites.{PutsFragment, is_there}
+use Rattle.xcap_machine.specs.inner.Records.{write_of}
 use Rattle.xcap_put.proofs.Decided.{plan_stopped, plan_unstopped}
 use Rattle.xcap_put.proofs.nodes.plan_at.Goals as goal
 
@@ -6,13 +7,13 @@ pub returns-in-Some : goal.returns-in-Some
 returns-in-Some c = record {
   plans_put =
       plan_stopped c.args.usage c.args.tree.now c.args.request.now c.args.tag c.is_there-exists.result (is_there c.args.tree.now c.args.selector.now) c.is_there-exists.ensures.there_before
-      (λ d id a. PutsFragment d id c.args.usage c.args.selector.now c.args.tree.now c.args.spot.now c.args.request.now a) _ c.in_ok-reply.ensures.exact c.in-Some.reply c.in-Some.is;
+      (λ d id a. PutsFragment d (write_of id c.args.usage c.args.selector.now c.args.request.now) c.args.tree.now c.args.spot.now a) _ c.in_ok-reply.ensures.exact c.in-Some.reply c.in-Some.is;
 }
 
 pub returns-in-None : goal.returns-in-None
 returns-in-None c = record {
   plans_put =
       plan_unstopped c.args.usage c.args.tree.now c.args.request.now c.args.tag c.is_there-exists.result (is_there c.args.tree.now c.args.selector.now) c.is_there-exists.ensures.there_before
-      (λ d id a. PutsFragment d id c.args.usage c.args.selector.now c.args.tree.now c.args.spot.now c.args.request.now a) _ c.in_ok-reply.ensures.exact c.put_fragment.result c.in-None.is
+      (λ d id a. PutsFragment d (write_of id c.args.usage c.args.selector.now c.args.request.now) c.args.tree.now c.args.spot.now a) _ c.in_ok-reply.ensures.exact c.put_fragment.result c.in-None.is
       c.put_fragment.ensures.plans_put;
 }

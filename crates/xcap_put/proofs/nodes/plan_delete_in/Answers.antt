@@ -1,5 +1,6 @@
 use Rattle.std.proofs.Common.{Option, Some, Ok, true, refl, subst}
 use Rattle.xcap_machine.specs.NodeWrites.{CutsNode}
+use Rattle.xcap_machine.specs.inner.Records.{write_of}
 use Rattle.xcap_put.specs.inner.Planning.{IsRemovalPlan}
 use Rattle.xcap_put.specs.declared.plan.Plan.{Plan}
 use Rattle.xcap_put.proofs.Decided.{plan_unstopped, there}
@@ -13,6 +14,6 @@ returns-in-Ok-None c =
     record {
       plans_removal =
           there c.args.usage c.args.selector.now c.args.held.0.now c.args.held.1 c.args.request.now {E = Unit {0}} (Ok plan) cut.0
-          (plan_unstopped c.args.usage c.args.held.0.now c.args.request.now c.args.held.1 true true refl (λ d id a. CutsNode d id c.args.usage c.args.selector.now c.args.held.0.now c.args.request.now a)
+          (plan_unstopped c.args.usage c.args.held.0.now c.args.request.now c.args.held.1 true true refl (λ d id a. CutsNode d (write_of id c.args.usage c.args.selector.now c.args.request.now) c.args.held.0.now a)
           _ c.in-Ok-None.ensures.exact {E = Unit {0}} (Ok plan) c.in-Ok-None.field-0-is cut.1);
     }

@@ -1,9 +1,10 @@
+use Rattle.xcap_machine.specs.inner.Records.{server_of}
 use Rattle.xcap_server.proofs.Dispatch.{goes_on, turned}
 use Rattle.xcap_server.proofs.requests.decide_target.Goals as goal
 
 pub returns-in-Some-clause-machine_decision : goal.returns-in-Some-clause-machine_decision
 returns-in-Some-clause-machine_decision c =
-    turned c.args.root.now c.args.store.now.content c.args.target c.args.request.now c.args.store.now c.args.method c.in-Some.reply (c.in-Some.ensures.continues_or_replies c.args.root.now c.args.store.now.content)
+    turned c.args.root.now c.args.store.now.content c.args.target c.args.request.now c.args.store.now c.args.method c.in-Some.reply (c.in-Some.ensures.continues_or_replies (server_of c.args.root.now c.args.store.now.content))
 
 pub returns-in-None-clause-machine_decision : goal.returns-in-None-clause-machine_decision
 returns-in-None-clause-machine_decision c =

@@ -1,6 +1,6 @@
 use Rattle.std.proofs.Common.{ap, ◌∙◌, take, drop, arith}
-use Rattle.tree_text.proofs.RunLemmas.{take_run, drop_run, run_len_le}
-use Rattle.tree_text.specs.Faults.{is_other}
+use Rattle.xml_tokens.proofs.RunLemmas.{take_run, drop_run, run_len_le}
+use Rattle.xml_tokens.specs.Tokens.{is_other}
 use Rattle.xcap_uri.proofs.delimiters.cut_before.Goals as goal
 
 pub split_at-requires : goal.split_at-requires

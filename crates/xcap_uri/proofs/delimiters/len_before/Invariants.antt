@@ -1,6 +1,6 @@
 use Rattle.std.proofs.Common.{◌≡◌, ◌+◌, drop}
-use Rattle.tree_text.specs.readers.Runs.{run_len}
-use Rattle.tree_text.specs.Faults.{is_other}
+use Rattle.xml_tokens.specs.readers.Runs.{run_len}
+use Rattle.xml_tokens.specs.Tokens.{is_other}
 use Rattle.xcap_uri.proofs.delimiters.len_before.Given as goal
 
 abbrev pub invariant-loop-b : goal.invariant-loop-b

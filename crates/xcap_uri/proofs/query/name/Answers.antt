@@ -1,10 +1,10 @@
 use Rattle.std.proofs.Common.{◌≡◌, ℕ, Bool, true, List, Ok, Err, take, drop, sym, ap, ◌∙◌, if◌then◌else◌, arith}
 use Rattle.std.proofs.lemmas.Bool.{cond-true}
 use Rattle.xml_grammar.specs.Reading.{head_is, front_of, after_front}
-use Rattle.tree_text.specs.readers.Runs.{run_len}
-use Rattle.tree_text.proofs.RunLemmas.{take_run, drop_run, run_len_le}
-use Rattle.xml_tree.specs.Characters.{is_name_start, is_name_char}
-use Rattle.xml_tree.specs.declared.read_error.ReadError.TheVariants.{Fault}
+use Rattle.xml_tokens.specs.readers.Runs.{run_len}
+use Rattle.xml_tokens.proofs.RunLemmas.{take_run, drop_run, run_len_le}
+use Rattle.xml_names.specs.Characters.{is_name_start, is_name_char}
+use Rattle.xml_names.specs.declared.read_error.ReadError.TheVariants.{Fault}
 use Rattle.xcap_uri.specs.readers.Queries.{Read}
 use Rattle.xcap_uri.specs.declared.fault.UriFault.TheVariants.{BadQuery}
 use Rattle.xcap_uri.proofs.query.name.Goals as goal

@@ -1,5 +1,5 @@
 use Rattle.std.proofs.Common.{ap, ◌∙◌, drop, arith}
-use Rattle.tree_text.proofs.RunLemmas.{drop_run, run_len_le}
+use Rattle.xml_tokens.proofs.RunLemmas.{drop_run, run_len_le}
 use Rattle.xcap_uri.specs.Queries.{is_blank}
 use Rattle.xcap_uri.proofs.query.past_blanks.Goals as goal
 

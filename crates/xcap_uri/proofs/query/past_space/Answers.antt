@@ -1,6 +1,6 @@
 use Rattle.std.proofs.Common.{ap, ◌∙◌, drop, arith}
-use Rattle.tree_text.proofs.RunLemmas.{drop_run, run_len_le}
-use Rattle.xml_tree.specs.Characters.{is_space}
+use Rattle.xml_tokens.proofs.RunLemmas.{drop_run, run_len_le}
+use Rattle.xml_names.specs.Characters.{is_space}
 use Rattle.xcap_uri.proofs.query.past_space.Goals as goal
 
 pub split_at-requires : goal.split_at-requires

@@ -1,6 +1,6 @@
 use Rattle.std.proofs.Common.{◌≡◌, ◌+◌, drop}
-use Rattle.tree_text.specs.readers.Runs.{run_len}
-use Rattle.xml_tree.specs.Characters.{is_space}
+use Rattle.xml_tokens.specs.readers.Runs.{run_len}
+use Rattle.xml_names.specs.Characters.{is_space}
 use Rattle.xcap_uri.proofs.query.space_len.Given as goal
 
 abbrev pub invariant-loop-c : goal.invariant-loop-c

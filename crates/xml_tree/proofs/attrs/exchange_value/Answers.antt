@@ -1,5 +1,5 @@
 use Rattle.std.proofs.Common.{ap}
-use Rattle.xml_tree.specs.Attributes.{with_new_value}
+use Rattle.xml_names.specs.Attributes.{with_new_value}
 use Rattle.xml_tree.proofs.AttrLemmas.{set-change_item}
 use Rattle.xml_tree.proofs.attrs.exchange_value.Goals as goal
 

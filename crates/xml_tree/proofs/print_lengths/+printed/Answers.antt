@@ -1,9 +1,10 @@
 use Rattle.std.proofs.Common.{◌≡◌, ◌+◌, length, drop, sym, ap, ◌∙◌, arith, min, eqb-true, eq-eqb}
 use Rattle.std.proofs.lemmas.List.{drop_all}
 use Rattle.xml_tree.specs.Nodes.{content_of}
-use Rattle.xml_tree.specs.Print.{byte_len, opening, print, print_content, print_name}
+use Rattle.xml_names.specs.Markup.{byte_len, opening, print_name}
+use Rattle.xml_tree.specs.Print.{print, print_content}
 use Rattle.xml_tree.specs.inner.Print.{print_node}
-use Rattle.xml_tree.proofs.PrintLengths.{byte_len-closing}
+use Rattle.xml_names.proofs.PrintLengths.{byte_len-closing}
 use Rattle.xml_tree.proofs.PrintedNodes.{no_nodes, some_nodes, byte_len-bare, byte_len-whole, byte_len-nodes, bare_sum, next_sum, whole_sum}
 use Rattle.xml_tree.proofs.print_lengths.+printed.Goals as goal
 

@@ -1,6 +1,7 @@
 use Rattle.std.proofs.Common.{◌≡◌, ◌+◌, ◌≤◌, drop, min}
 use Rattle.xml_tree.specs.Nodes.{content_of}
-use Rattle.xml_tree.specs.Print.{byte_len, print_content}
+use Rattle.xml_names.specs.Markup.{byte_len}
+use Rattle.xml_tree.specs.Print.{print_content}
 use Rattle.xml_tree.proofs.print_lengths.+printed.Given as goal
 
 abbrev pub invariant-printed_len-loop-node : goal.invariant-printed_len-loop-node

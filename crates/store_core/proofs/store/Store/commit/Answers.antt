@@ -3,7 +3,7 @@ use Rattle.indexmap.specs.IndexMap.{spare}
 use Rattle.store_core.specs.PreparedChanges.{Readied}
 use Rattle.store_core.specs.Stored.{Room}
 use Rattle.store_core.specs.inner.Storing.{trees_in}
-use Rattle.store_core.proofs.Committed.{holds-next, keeps-addresses, may-step, still-storing}
+use Rattle.store_core.proofs.Committed.{holds-next, may-step, still-storing}
 use Rattle.store_core.proofs.store.Store.commit.Goals as goal
 
 pub take-created-requires-clause-fits : goal.take-created-requires-clause-fits
@@ -31,15 +31,5 @@ returns-clause-holds_change c =
     let room : Room = record { documents = spare s.documents; services = spare s.services; trees = trees_in s.documents.entries } in
     let seen : Readied = record { doc = p.doc; note = p.note; step = p.step; leaves = p.leaves; enters = p.enters; total = p.total } in
     holds-next s.documents.entries s.services.entries s.last s.total room c.args.self.now seen c.args.prepared c.self.view_is c.prepared.view_is c.self.invariant c.requires
-    c.leave.new.registry.entries c.enter.new.registry.entries c.take-created.new.documents.entries c.take-created.result c.next-number.result c.as_slice.result.now c.into_vec.result.items c.next-number.ensures.tag_after c.take-created.ensures.takes_step c.as_slice.ensures.exact c.into_vec.ensures.same_items
-    c.leave.ensures.frees_addresses c.enter.ensures.registers_these
-
-pub returns-clause-keeps_key_addresses : goal.returns-clause-keeps_key_addresses
-returns-clause-keeps_key_addresses c =
-    let s = c.self.inside in
-    let p = c.prepared.inside in
-    let room : Room = record { documents = spare s.documents; services = spare s.services; trees = trees_in s.documents.entries } in
-    let seen : Readied = record { doc = p.doc; note = p.note; step = p.step; leaves = p.leaves; enters = p.enters; total = p.total } in
-    keeps-addresses s.documents.entries s.services.entries s.last s.total room c.args.self.now seen c.args.prepared c.self.view_is c.prepared.view_is c.self.invariant c.requires
     c.leave.new.registry.entries c.enter.new.registry.entries c.take-created.new.documents.entries c.take-created.result c.next-number.result c.as_slice.result.now c.into_vec.result.items c.next-number.ensures.tag_after c.take-created.ensures.takes_step c.as_slice.ensures.exact c.into_vec.ensures.same_items
     c.leave.ensures.frees_addresses c.enter.ensures.registers_these

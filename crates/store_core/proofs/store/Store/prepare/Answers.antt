@@ -2,7 +2,6 @@ use Rattle.std.proofs.Common.{Result, subst}
 use Rattle.store_core.specs.PreparedChanges.{Readied}
 use Rattle.store_core.specs.declared.refusal.StoreRefusal.{StoreRefusal}
 use Rattle.store_core.specs.inner.Planning.{Plans}
-use Rattle.store_core.proofs.KeyAddresses.{change_stays}
 use Rattle.store_core.proofs.PlanAnswers.{prepared-ok, prepared-ready, reason-of}
 use Rattle.store_core.proofs.store.Store.prepare.Goals as goal
 
@@ -21,8 +20,3 @@ returns-in_ok-take_room-in-Ok-clause-prepared_is_ready c =
     let planned = subst (λ (r : Result Readied StoreRefusal). Plans c.args.self.now.content c.args.doc c.args.change r) c.in-Ok.is c.in_ok-prepared.ensures.plans_change in
     let room = c.in_ok-take_room-in-Ok.ensures in
     prepared-ready c.args.self.now c.take_room.new.self c.args.doc c.args.change c.in-Ok.prepared planned c.take_room.ensures.contents_unchanged room.document_room room.address_room room.tree_unshared
-
-pub returns-in_ok-take_room-in-Ok-clause-keeps_key_addresses : goal.returns-in_ok-take_room-in-Ok-clause-keeps_key_addresses
-returns-in_ok-take_room-in-Ok-clause-keeps_key_addresses c =
-    let s = c.represents_valid_state.ensures.valid_state in
-    change_stays c.args.self.now.content s.0 c.args.doc c.args.change s.1 s.2 c.requires

@@ -1,6 +1,6 @@
 use Rattle.std.proofs.Common.{List, Bor, [], ◌∷◌, ◌++◌, sym, ap, ap₂, ◌∙◌}
 use Rattle.std.proofs.lemmas.List.{map_more}
-use Rattle.xml_tree.specs.declared.names.Decl.{Decl}
+use Rattle.xml_names.specs.declared.names.Decl.{Decl}
 use Rattle.tree_text.proofs.bindings.Bindings.from_scope.Goals as goal
 
 pub loop-decls-preserved : goal.loop-decls-preserved

@@ -1,8 +1,8 @@
 use Rattle.std.proofs.Common.{◌≡◌, List, [], ◌∷◌, ◌++◌, map, sym, ap, ◌∙◌, subst}
 use Rattle.std.specs.Option.{option_to_list}
 use Rattle.std.proofs.lemmas.List.{map-append}
-use Rattle.xml_tree.specs.declared.names.Decl.{Decl}
-use Rattle.xml_tree.specs.Scopes.{joined}
+use Rattle.xml_names.specs.declared.names.Decl.{Decl}
+use Rattle.xml_names.specs.Scopes.{joined}
 use Rattle.tree_text.specs.readers.Bindings.{AreOf, lists}
 use Rattle.tree_text.proofs.StackLemmas.{joined-more}
 use Rattle.tree_text.proofs.bindings.Bindings.leave.Goals as goal

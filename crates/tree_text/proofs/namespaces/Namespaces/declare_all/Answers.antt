@@ -1,6 +1,6 @@
 use Rattle.std.proofs.Common.{List, ◌++◌, length, sym, ap, subst, ◌∙◌, append-nil, eqb-true}
 use Rattle.std.proofs.lemmas.List.{nil_from_length}
-use Rattle.xml_tree.specs.declared.names.Decl.{Decl}
+use Rattle.xml_names.specs.declared.names.Decl.{Decl}
 use Rattle.tree_text.specs.readers.Bindings.{AreOf}
 use Rattle.tree_text.proofs.namespaces.Namespaces.declare_all.Goals as goal
 

@@ -1,6 +1,6 @@
 use Rattle.std.proofs.Common.{◌≡◌, ◌+◌, List, [], ◌∷◌, ◌++◌, take, ap, sym, subst, ◌∙◌, append_assoc}
 use Rattle.std.proofs.lemmas.List.{take_all, take_more}
-use Rattle.xml_tree.specs.declared.names.Decl.{Decl}
+use Rattle.xml_names.specs.declared.names.Decl.{Decl}
 use Rattle.tree_text.specs.readers.Bindings.{AreOf}
 use Rattle.tree_text.proofs.namespaces.Namespaces.declare_each.Goals as goal
 

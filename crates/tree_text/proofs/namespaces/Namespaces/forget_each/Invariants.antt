@@ -1,5 +1,5 @@
 use Rattle.std.proofs.Common.{List, ◌++◌}
-use Rattle.xml_tree.specs.declared.names.Decl.{Decl}
+use Rattle.xml_names.specs.declared.names.Decl.{Decl}
 use Rattle.tree_text.specs.readers.Bindings.{AreOf}
 use Rattle.tree_text.proofs.namespaces.Namespaces.forget_each.Given as goal
 

@@ -1,6 +1,6 @@
 use Rattle.std.proofs.Common.{◌≡◌, [], Some, map, refl, sym, ap, ◌∙◌}
 use Rattle.std.specs.Str.{chars}
-use Rattle.xml_tree.specs.Scopes.{xml_uri}
+use Rattle.xml_names.specs.Scopes.{xml_uri}
 use Rattle.tree_text.specs.readers.Bindings.{at_text}
 use Rattle.tree_text.proofs.NumberLemmas.{AreNumbers-empty, numbers_at-empty}
 use Rattle.tree_text.proofs.namespaces.Namespaces.new.Goals as goal

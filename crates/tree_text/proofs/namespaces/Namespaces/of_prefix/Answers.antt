@@ -1,6 +1,6 @@
 use Rattle.std.proofs.Common.{◌≡◌, List, ℕ, Bool, true, false, None, Some, bytes_eq, refl, sym, ap, ◌∙◌}
 use Rattle.std.specs.Str.{chars}
-use Rattle.xml_tree.specs.Scopes.{xml_prefix}
+use Rattle.xml_names.specs.Scopes.{xml_prefix}
 use Rattle.tree_text.proofs.StackLemmas.{last_in, bound_xml, bound_nowhere, bound_empty, bound_to}
 use Rattle.tree_text.proofs.namespaces.Namespaces.of_prefix.Goals as goal
 

@@ -1,6 +1,6 @@
 use Rattle.std.proofs.Common.{◌≡◌, ◌++◌, OnOk, chars, encode_utf8, string_bytes, subst}
 use Rattle.std.proofs.lemmas.Str.{IsUtf8-string_bytes}
-use Rattle.xml_tree.proofs.TextGrows.{said, one}
+use Rattle.xml_names.proofs.TextGrows.{said, one}
 use Rattle.tree_text.proofs.output.Output.push.Goals as goal
 
 pub returns : goal.returns

@@ -1,6 +1,6 @@
 use Rattle.std.proofs.Common.{string_bytes}
 use Rattle.std.proofs.lemmas.Str.{IsUtf8-string_bytes}
-use Rattle.xml_tree.proofs.TextGrows.{said}
+use Rattle.xml_names.proofs.TextGrows.{said}
 use Rattle.tree_text.proofs.output.Output.push_str.Goals as goal
 
 pub returns : goal.returns

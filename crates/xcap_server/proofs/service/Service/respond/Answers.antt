@@ -1,7 +1,7 @@
 use Rattle.std.proofs.Common.{ap, subst, ◌∙◌}
 use Rattle.xcap_machine.specs.Requests.{IsAnswer}
 use Rattle.xcap_put.specs.Decisions.{Decides}
-use Rattle.xcap_server.specs.Servers.{ServerState}
+use Rattle.xcap_machine.specs.Servers.{ServerState}
 use Rattle.xcap_server.proofs.Answering.{answered_so}
 use Rattle.xcap_server.proofs.service.Service.respond.Goals as goal
 

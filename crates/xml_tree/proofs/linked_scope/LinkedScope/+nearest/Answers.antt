@@ -2,8 +2,8 @@ use Rattle.std.proofs.Common.{◌≡◌, List, [], Option, ℕ, length, ap, sym,
 use Rattle.std.proofs.lemmas.List.{nil_from_length}
 use Rattle.std.specs.Option.{option_copied, option_or}
 use Rattle.xml_tree.specs.inner.Around.{lists_at}
-use Rattle.xml_tree.specs.Scopes.{declared, joined}
-use Rattle.xml_tree.specs.declared.names.Decl.{Decl}
+use Rattle.xml_names.specs.Scopes.{declared, joined}
+use Rattle.xml_names.specs.declared.names.Decl.{Decl}
 use Rattle.xml_tree.proofs.AroundLemmas.{declared_inside}
 use Rattle.xml_tree.proofs.linked_scope.LinkedScope.+nearest.Goals as goal
 

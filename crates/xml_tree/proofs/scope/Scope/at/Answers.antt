@@ -2,8 +2,8 @@ use Rattle.std.proofs.Common.{◌≡◌, ◌∷◌, ◌++◌, [], ◌+◌, lengt
 use Rattle.std.specs.Option.{option_copied}
 use Rattle.std.proofs.lemmas.List.{drop_all}
 use Rattle.xml_tree.specs.Tree.{at, child_elements_of}
-use Rattle.xml_tree.specs.Scopes.{scope_at, scope_below}
-use Rattle.xml_tree.proofs.ScopeLemmas.{at_next, scope_next}
+use Rattle.xml_tree.specs.TreeScopes.{scope_at, scope_below}
+use Rattle.xml_tree.proofs.TreeScopeLemmas.{at_next, scope_next}
 use Rattle.xml_tree.proofs.scope.Scope.at.Goals as goal
 
 pub returns-in_err-here : goal.returns-in_err-here

@@ -1,6 +1,6 @@
 use Rattle.std.proofs.Common.{◌≡◌, ◌+◌, ◌++◌, length, drop}
 use Rattle.xml_tree.specs.Tree.{at}
-use Rattle.xml_tree.specs.Scopes.{scope_at, scope_below}
+use Rattle.xml_tree.specs.TreeScopes.{scope_at, scope_below}
 use Rattle.xml_tree.proofs.scope.Scope.at.Given as goal
 
 abbrev pub invariant-loop-number : goal.invariant-loop-number

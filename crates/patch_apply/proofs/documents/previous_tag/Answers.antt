@@ -1,7 +1,0 @@
-use Rattle.std.proofs.Common.{◌∙◌}
-use Rattle.patch_rules.specs.PatchOperations.{plain_value}
-use Rattle.patch_apply.proofs.Words.{former_tag}
-use Rattle.patch_apply.proofs.documents.previous_tag.Goals as goal
-
-pub returns : goal.returns
-returns c = record { exact = c.plain_value.ensures.exact ∙ (λ i. plain_value (former_tag i) (c.attrs.ensures.exact i)) }

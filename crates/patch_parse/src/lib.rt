@@ -1,0 +1,25 @@
+//! Reads diff documents: their form, and the parts of their operations, which are names, patch
+//! actions, selectors and contents.
+//! Promises upward that each part is the one that `patch_rules` specifies, or refused with the
+//! error that it specifies, and that names are compared by what they mean in their scopes.
+//! The standards are RFC 5874 (xcap-diff) and RFC 5261 (patch operations).
+#![tactic(auto)]
+
+mod document_elements;
+mod name_meanings;
+mod names;
+mod node_contents;
+mod operation_error;
+mod patch_actions;
+mod patch_forms;
+mod selectors;
+
+pub use document_elements::{
+    documents, is_body_unchanged, is_notice, new_tag, operations_in, previous_tag,
+};
+pub use name_meanings::{attr_alike, has_attr, means_alike};
+pub use names::{are_known_attributes, plain_value};
+pub use node_contents::{is_bare, is_blank, sole_element, value_in};
+pub use operation_error::OperationError;
+pub use patch_actions::{PatchAction, Position, task_of_operation};
+pub use selectors::selector_for;

@@ -1,0 +1,266 @@
+//! The patch action of an operation, by its name and its attributes (RFC 5261, sections 4.3 to
+//! 4.5).
+ghost use Rattle.std.specs.Prelude.{◌≡◌, [], IfOk, option_map};
+ghost use Rattle.std.specs.Option.{option_copied};
+ghost use Rattle.patch_rules.specs.PatchOperations.{adding, cutting, name_cut, no_declaration};
+ghost use Rattle.patch_rules.specs.PatchOperations.{add_position, name_of_text, white_space_of};
+ghost use Rattle.patch_rules.specs.PatchOperations.{task_of, type_of, with_prefix, operation_word};
+ghost use Rattle.patch_parse.specs.Operations.{task_said};
+ghost use Rattle.patch_parse.specs.Views.{position_in, task_in};
+ghost use Rattle.patch_parse.specs.inner.DiffNames.{word_in};
+
+use crate::names::plain_value;
+use std::alloc::{AllocError, Global};
+use xml_names::{Attr, LocalName, Name, Prefix, Text, is_name};
+use xml_tokens::{chars_of_text, name_part};
+
+/// Where an addition puts its content, relative to the element that is selected.
+#[derive(Clone, Copy, Drop)]
+pub enum Position {
+    /// In the element, after its other nodes.
+    Behind,
+    /// In the element, before its other nodes.
+    Prepend,
+    /// Before the element.
+    Before,
+    /// After the element.
+    After,
+}
+
+// The name of an operation.
+#[derive(Clone, Copy, Drop)]
+pub enum OperationName {
+    Add,
+    Exchange,
+    Cut,
+}
+
+/// What an operation asks for.
+#[derive(Drop)]
+pub enum PatchAction {
+    /// The content is put at this position.
+    Put(Position),
+    /// An attribute of this name is added.
+    NewAttr(Name),
+    /// What is at the location is replaced.
+    Replace,
+    /// What is at the location is removed, with the white space before it and after it as asked.
+    Remove(bool, bool),
+}
+
+// ---- the values of attributes
+
+#[tactic(auto, using(crate::proofs::Words::words))]
+fn word_of(local: &LocalName) -> Option<OperationName>
+    ensures exact { option_map word_in result ≡ operation_word local.now }
+{
+    if local.is("add") {
+        return Some(OperationName::Add);
+    }
+    if local.is("replace") {
+        return Some(OperationName::Exchange);
+    }
+    if local.is("remove") {
+        return Some(OperationName::Cut);
+    }
+    None
+}
+
+#[tactic(auto, using(crate::proofs::Words::words))]
+fn position_of(text: &Text) -> Option<Position>
+    ensures exact { option_map position_in result ≡ add_position text.now }
+{
+    if text.is("prepend") {
+        return Some(Position::Prepend);
+    }
+    if text.is("before") {
+        return Some(Position::Before);
+    }
+    if text.is("after") {
+        return Some(Position::After);
+    }
+    None
+}
+
+#[tactic(auto, using(crate::proofs::Words::words))]
+fn space_of(text: &Text) -> Option<(bool, bool)>
+    ensures exact { result ≡ white_space_of text.now }
+{
+    if text.is("before") {
+        return Some((true, false));
+    }
+    if text.is("after") {
+        return Some((false, true));
+    }
+    if text.is("both") {
+        return Some((true, true));
+    }
+    None
+}
+
+// ---- names of new attributes
+
+// A name of two parts, where both are NCNames.
+fn with_prefix(alloc: Global, prefix: &[char], local: &[char]) -> Result<Option<Name>, AllocError>
+    ensures ok { IfOk result (λ name. name ≡ with_prefix prefix.now local.now) }
+{
+    let prefix: Prefix = name_part(alloc, prefix)?;
+    let local: LocalName = name_part(alloc, local)?;
+    if is_name(prefix.as_str()) && is_name(local.as_str()) {
+        return Ok(Some(Name { prefix, local }));
+    }
+    Ok(None)
+}
+
+// A name without prefix, where it is an NCName.
+fn without_prefix(alloc: Global, local: &[char]) -> Result<Option<Name>, AllocError>
+    ensures ok { IfOk result (λ name. name ≡ name_cut local.now []) }
+{
+    let local: LocalName = name_part(alloc, local)?;
+    if !is_name(local.as_str()) {
+        return Ok(None);
+    }
+    let prefix = Prefix::empty();
+    Ok(Some(Name { prefix, local }))
+}
+
+// A QName, cut at its first colon.
+#[tactic(auto, using(patch_rules::proofs::Cutting::cut_from_front))]
+fn name_of_text(alloc: Global, text: &[char]) -> Result<Option<Name>, AllocError>
+    ensures ok { IfOk result (λ name. name ≡ name_of_text text.now) }
+{
+    for (i, &c) in text.iter().enumerate() {
+        if c == ':' {
+            return with_prefix(alloc, &text[..i], &text[i + 1..]);
+        }
+    }
+    without_prefix(alloc, text)
+}
+
+// A name that isn't `xmlns`.
+#[tactic(auto, using(crate::proofs::Words::words))]
+fn no_declaration(name: Name) -> Option<Name>
+    ensures exact { result ≡ no_declaration name }
+{
+    if name.has_no_prefix() && name.local.is("xmlns") {
+        return None;
+    }
+    Some(name)
+}
+
+// A QName after `@`, in characters.
+fn type_in(alloc: Global, text: &[char]) -> Result<Option<Name>, AllocError>
+    ensures ok { IfOk result (λ name. name ≡ type_of text.now) }
+{
+    match text {
+        ['@', rest @ ..] => match name_of_text(alloc, rest)? {
+            None => Ok(None),
+            Some(name) => Ok(no_declaration(name)),
+        },
+        _ => Ok(None),
+    }
+}
+
+// The name of a new attribute.
+fn type_of(alloc: Global, text: &Text) -> Result<Option<Name>, AllocError>
+    ensures ok { IfOk result (λ name. name ≡ type_of text.now) }
+{
+    let all = chars_of_text(alloc, text.as_str())?;
+    type_in(alloc, &all)
+}
+
+// ---- patch actions
+
+// An addition of content, or of an attribute.
+fn adding(
+    alloc: Global,
+    pos: Option<&Text>,
+    name: Option<&Text>,
+) -> Result<Option<PatchAction>, AllocError>
+    ensures ok { IfOk result
+        (λ task. option_map task_in task
+        ≡ adding (option_copied pos.entry) (option_copied name.entry)) }
+{
+    match (pos, name) {
+        (None, None) => Ok(Some(PatchAction::Put(Position::Behind))),
+        (Some(pos), None) => match position_of(pos) {
+            None => Ok(None),
+            Some(position) => Ok(Some(PatchAction::Put(position))),
+        },
+        (None, Some(name)) => match type_of(alloc, name)? {
+            None => Ok(None),
+            Some(name) => Ok(Some(PatchAction::NewAttr(name))),
+        },
+        (Some(_), Some(_)) => Ok(None),
+    }
+}
+
+// A removal.
+fn cutting(ws: Option<&Text>) -> Option<PatchAction>
+    ensures exact { option_map task_in result ≡ cutting (option_copied ws.entry) }
+{
+    match ws {
+        None => Some(PatchAction::Remove(false, false)),
+        Some(ws) => match space_of(ws) {
+            None => None,
+            Some((before, after)) => Some(PatchAction::Remove(before, after)),
+        },
+    }
+}
+
+// The action of an operation's name with the attributes `pos`, `type` and `ws`.
+fn task_of(
+    alloc: Global,
+    word: OperationName,
+    pos: Option<&Text>,
+    name: Option<&Text>,
+    ws: Option<&Text>,
+) -> Result<Option<PatchAction>, AllocError>
+    ensures ok { IfOk result
+        (λ task. option_map task_in task
+        ≡ task_of (word_in word) (option_copied pos.entry) (option_copied name.entry)
+        (option_copied ws.entry)) }
+{
+    match word {
+        OperationName::Add => {
+            if ws.is_some() {
+                return Ok(None);
+            }
+            adding(alloc, pos, name)
+        }
+        OperationName::Exchange => {
+            if pos.is_some() || name.is_some() || ws.is_some() {
+                return Ok(None);
+            }
+            Ok(Some(PatchAction::Replace))
+        }
+        OperationName::Cut => {
+            if pos.is_some() || name.is_some() {
+                return Ok(None);
+            }
+            Ok(cutting(ws))
+        }
+    }
+}
+
+/// The action of an operation with this name and these attributes (RFC 5261, sections 4.3 to 4.5);
+/// none where they are no directive.
+///
+/// # Errors
+/// `NoMemory` when out of memory.
+#[tactic(auto, using(crate::proofs::Words::words))]
+pub fn task_of_operation(
+    alloc: Global,
+    name: &Name,
+    attrs: &[Attr],
+) -> Result<Option<PatchAction>, AllocError>
+    ensures ok { IfOk result (λ task. option_map task_in task ≡ task_said name.now attrs.now) }
+{
+    let Some(word) = word_of(&name.local) else {
+        return Ok(None);
+    };
+    let pos = plain_value(attrs, "pos");
+    let name = plain_value(attrs, "type");
+    let ws = plain_value(attrs, "ws");
+    task_of(alloc, word, pos, name, ws)
+}

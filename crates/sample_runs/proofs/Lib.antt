@@ -1,4 +1,0 @@
-mod Stepping
-mod Steps
-mod Together
-mod Whole

@@ -1,6 +1,0 @@
-use Rattle.sample_runs.specs.Requests.{document_body}
-use Rattle.sample_runs.proofs.requests.put_document.Goals as goal
-
-pub returns : goal.returns
-unfolding document_body
-returns c = record { ok = rw (c.as_str.ensures.value, c.in_ok-path.ensures.ok) at c.put.ensures.ok }

@@ -1,4 +1,0 @@
-pub mod Requests
-pub mod Samples
-pub mod StatusRecorders
-pub mod inner

@@ -1,3 +1,0 @@
--- What private functions and proofs use. No clause of a public call needs it.
-pub mod Counting
-pub mod Ports

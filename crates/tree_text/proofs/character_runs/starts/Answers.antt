@@ -1,7 +1,0 @@
-use Rattle.std.proofs.Common.{chars, sym, ap, ◌∙◌}
-use Rattle.xml_grammar.specs.Reading.{starts}
-use Rattle.tree_text.proofs.RunLemmas.{starts_before}
-use Rattle.tree_text.proofs.character_runs.starts.Goals as goal
-
-pub returns-in-Some : goal.returns-in-Some
-returns-in-Some c = record { exact = sym (ap (starts c.args.word.now) c.in-Some.ensures.word_and_rest ∙ starts_before c.args.word.now (chars c.in-Some.field-0.now)) }

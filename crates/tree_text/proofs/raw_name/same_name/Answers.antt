@@ -1,5 +1,0 @@
-use Rattle.std.proofs.Common.{length, ap, arith}
-use Rattle.tree_text.proofs.raw_name.same_name.Goals as goal
-
-pub same_prefixed-requires : goal.same_prefixed-requires
-same_prefixed-requires c = omega (arith, ap length c.in-Some.ensures.first_and_rest)

@@ -1,0 +1,31 @@
+-- A server that records statuses follows the machine that records them.
+use Rattle.std.proofs.Common.{ℕ, List, [], ◌∷◌, ◌++◌, Option, refl, sym, ap, subst, ◌∙◌, arith}
+use Rattle.http_wire.specs.declared.request.Request.{Request}
+use Rattle.http_serve.specs.ReplyBytes.{InBytes}
+use Rattle.edit_ops.specs.declared.edit.Edit.{Edit}
+use Rattle.store_core.proofs.KeptAfter.{kept-first}
+use Rattle.xcap_machine.specs.SubscriberVersions.{FollowedStep}
+use Rattle.xcap_app.specs.StatusRecorders.{Noted, NotedStep, none_noted}
+use Rattle.xcap_app.specs.SampleRequests.{root_text}
+use Rattle.xcap_app.specs.inner.Counting.{AnswersNoting, NotingState, RepresentsRecorded, is_new}
+
+-- one step
+pub noted_step : (root : List ℕ) (s s' : NotingState) (m : Noted) (request : Request) (bytes : List ℕ) (edit : Option Edit) → RepresentsRecorded root s m → InBytes AnswersNoting s request bytes s' edit
+    → (m' : Noted) × RepresentsRecorded root s' m' × InBytes (NotedStep root) m request bytes m' edit
+noted_step root s s' m request bytes edit here a =
+    let t = a.step.follows m.state here.kept here.stands in
+    let statuses : List ℕ = m.statuses ++ a.reply.status ∷ [] in
+    let step : FollowedStep root m.state request a.reply t.0 edit = subst (λ (r : List ℕ). FollowedStep r m.state request a.reply t.0 edit) here.same_root t.3 in (
+      record { state = t.0; statuses = statuses },
+      record {
+        same_root = a.step.same_root ∙ here.same_root;
+        kept = t.1;
+        stands = t.2;
+        noted = ap (λ (l : List ℕ). l ++ a.reply.status ∷ []) here.noted ∙ sym a.step.notes;
+      },
+      record { reply = a.reply; written = a.written; step = record { step = step; notes = refl } },
+    )
+
+-- a new one represents the state without documents and replies
+pub new_stands : (room : ℕ) → RepresentsRecorded root_text (is_new room) none_noted
+new_stands room = record { same_root = refl; kept = kept-first 1 (omega arith); stands = refl; noted = refl }

@@ -1,0 +1,14 @@
+use Rattle.std.proofs.Common.{List, ℕ, subst}
+use Rattle.xcap_app.specs.Serves.{ServesCommand}
+use Rattle.xcap_app.proofs.serve.serve.Goals as goal
+
+pub returns : goal.returns
+returns g c = record {
+  serves_command =
+      let p = g.P.Line.state in
+      let o = g.O.Line.state in
+      subst (λ (root : List ℕ). ServesCommand g.W.Watchers.keeps (record { address = c.args.address.now; root = root; count = c.args.count }) c.serve_at.result
+      (record { port = p c.args.port.now; output = o c.args.output.now; watchers = c.args.watchers.now })
+      (record { port = p c.serve_at.new.port; output = o c.serve_at.new.output; watchers = c.serve_at.new.watchers }))
+      c.in-Ok.ensures.given_root c.serve_at.ensures.serves_command;
+}

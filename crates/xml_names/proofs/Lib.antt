@@ -1,0 +1,11 @@
+pub mod BindingLaws
+pub mod BindingWords
+pub mod ByteOrder
+pub mod Escapes
+pub mod GatheringLemmas
+pub mod IndexLemmas
+pub mod Letters
+pub mod PrintLengths
+pub mod ReferenceLetters
+pub mod ScopeLemmas
+pub mod TextGrows

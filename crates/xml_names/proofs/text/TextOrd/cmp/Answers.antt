@@ -1,0 +1,7 @@
+use Rattle.std.proofs.Common.{nat_cmp, ◌∙◌}
+use Rattle.std.specs.Cmp.Lexicographic.{slice_cmp}
+use Rattle.xml_names.proofs.ByteOrder.{order-encodes}
+use Rattle.xml_names.proofs.text.TextOrd.cmp.Goals as goal
+
+pub returns : goal.returns
+returns c = c.cmp.ensures ∙ (λ i. slice_cmp nat_cmp (c.as_str.ensures.utf8_bytes i) (c.as_str-2.ensures.utf8_bytes i)) ∙ order-encodes c.args.self.now c.args.other.now

@@ -1,0 +1,9 @@
+pub mod Attributes
+pub mod Characters
+pub mod Comments
+pub mod Expanded
+pub mod Limits
+pub mod Markup
+pub mod Memory
+pub mod Scopes
+pub mod inner

@@ -1,0 +1,17 @@
+pub mod AheadLemmas
+pub mod Answering
+pub mod ClassLemmas
+pub mod FirstRuns
+pub mod Loops
+pub mod NameFronts
+pub mod NameLemmas
+pub mod Passing
+pub mod PlainFronts
+pub mod PlainRuns
+pub mod RawLetters
+pub mod ReadFronts
+pub mod RunLemmas
+pub mod Shrinks
+pub mod TagLemmas
+pub mod TextBytes
+pub mod WordLoops

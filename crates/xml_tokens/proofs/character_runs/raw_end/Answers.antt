@@ -1,0 +1,45 @@
+use Rattle.std.proofs.Common.{◌≡◌, ℕ, false, List, ◌∷◌, chars, refl, sym, ap, ◌∙◌}
+use Rattle.std.specs.Prelude.{◌==◌}
+use Rattle.xml_grammar.specs.Reading.{starts}
+use Rattle.xml_tokens.specs.Tokens.{is_raw}
+use Rattle.xml_tokens.specs.readers.Words.{section_end}
+use Rattle.xml_tokens.proofs.RunLemmas.{without_more, without_found, without_stops}
+use Rattle.xml_tokens.proofs.character_runs.raw_end.Goals as goal
+
+-- a character other than `]` begins no end of a section
+no_section : (text cs : List ℕ) (c : ℕ) → text ≡ c ∷ cs → (93 == c) ≡ false → starts section_end text ≡ false
+no_section text cs c is other = ap (starts section_end) is ∙ rw other refl
+
+pub returns-then-is_inner : goal.returns-then-is_inner
+returns-then-is_inner c =
+    let text = chars c.args.text.now in
+    let after = chars c.args.after.now in
+    let is = c.requires in
+    record {
+      some_raw_ends = tt;
+      none_raw_continues = without_more is_raw section_end text after c.args.first is (no_section text after c.args.first is (c.if-is_inner.ensures.no_end refl)) (c.if-is_inner.ensures.inner_is_raw refl);
+    }
+
+pub returns-in-Some : goal.returns-in-Some
+returns-in-Some c =
+    let text = chars c.args.text.now in
+    record {
+      some_raw_ends = c.in-Some.ensures.rest_after_end ∙ sym (without_found is_raw section_end text (chars c.args.after.now) c.args.first c.requires c.in-Some.ensures.section_ends_here);
+      none_raw_continues = tt;
+    }
+
+pub returns-then-not-is_raw : goal.returns-then-not-is_raw
+returns-then-not-is_raw c =
+    let text = chars c.args.text.now in
+    record {
+      some_raw_ends = sym (without_stops is_raw section_end text (chars c.args.after.now) c.args.first c.requires c.in_default.ensures.none_no_end (sym c.if-not-is_raw.ensures.exact));
+      none_raw_continues = tt;
+    }
+
+pub returns : goal.returns
+returns c =
+    let text = chars c.args.text.now in
+    record {
+      some_raw_ends = tt;
+      none_raw_continues = without_more is_raw section_end text (chars c.args.after.now) c.args.first c.requires c.in_default.ensures.none_no_end (sym c.if-not-is_raw.ensures.exact);
+    }

@@ -1,6 +1,0 @@
-use Rattle.std.proofs.Common.{◌≡◌, take, flat_map}
-use Rattle.xml_tree.specs.Print.{value_escape}
-use Rattle.xml_tree.proofs.print_lengths.is_plain_value.Given as goal
-
-abbrev pub invariant-loop-byte : goal.invariant-loop-byte
-invariant-loop-byte l = flat_map value_escape (take l.byte-index l.value) ≡ take l.byte-index l.value

@@ -1,9 +1,0 @@
-use Rattle.std.proofs.Common.{◌≡◌, drop, map, chars}
-use Rattle.std.specs.Option.{option_or, option_copied}
-use Rattle.xml_tree.specs.Scopes.{declared, joined}
-use Rattle.xml_tree.proofs.scope.nearest.Given as goal
-
-abbrev pub invariant-loop-list : goal.invariant-loop-list
-invariant-loop-list l =
-    option_or (declared (joined (map (λ x. x.now) (drop l.list-index l.lists))) (chars l.prefix)) (option_copied l.found)
-    ≡ declared (joined (map (λ x. x.now) l.lists)) (chars l.prefix)

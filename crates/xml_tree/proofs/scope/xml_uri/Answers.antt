@@ -1,8 +1,0 @@
-use Rattle.std.proofs.Common.{refl}
-use Rattle.std.specs.Str.{chars}
-use Rattle.xml_tree.specs.Scopes.{xml_uri}
-use Rattle.xml_tree.proofs.scope.xml_uri.Goals as goal
-
-pub returns : goal.returns
-unfolding chars xml_uri
-returns c = record { namespace_of_xml = refl }
