@@ -1,0 +1,158 @@
+-- Every state of a run from a new server keeps the limits of documents.
+use Rattle.std.proofs.Common.{◌≡◌, inl, inr, ℕ, ◌+◌, ◌<◌, ◌≤◌, Bool, true, false, cond, ◌&&◌, List, [], ◌∷◌, length, map, sum_by, Option, None, Some, Ok, refl, sym, ap, subst, arith, encode_utf8_all}
+use Rattle.std.specs.Prelude.{nat_le}
+use Rattle.std.proofs.lemmas.Bool.Decides.{nat_tests}
+use Rattle.std.specs.List.{AllByRecursion}
+use Rattle.std.specs.Option.{option_or as or_else}
+use Rattle.xml_tree.specs.Print.{document_print}
+use Rattle.xml_tree.specs.Tree.{Tree}
+use Rattle.usage_docs.specs.Services.{document_len}
+use Rattle.doc_names.specs.Usages.{usage_of}
+use Rattle.doc_names.specs.declared.usages.Usage.{Usage}
+use Rattle.doc_names.specs.declared.doc_id.DocId.{DocId}
+use Rattle.edit_ops.specs.Changes.{edited}
+use Rattle.edit_ops.specs.Notes.{Note}
+use Rattle.edit_ops.specs.Operations.{weight}
+use Rattle.edit_ops.specs.declared.change.Change.{Change}
+use Rattle.edit_ops.specs.declared.edit.Edit.{Edit}
+use Rattle.http_wire.specs.declared.request.Request.{Request}
+use Rattle.reply_text.specs.ReplyHeads.{SentReply}
+use Rattle.request_checks.specs.Methods.{method_of}
+use Rattle.request_checks.specs.declared.method.Method.{Method}
+use Rattle.store_core.specs.Contents.{StoredDocument, StoreContents as Content, stock_of, stored_of}
+use Rattle.store_core.specs.DocumentChanges.{Act, Makes, Edits, Removes, act_of, after_act, against, against_number, against_tree, answered, changing, content_after, document_in, note_for, stored_name}
+use Rattle.store_core.specs.Queries.{Asks, AsksAct}
+use Rattle.store_core.specs.State.{Document, State, Version, first_state, is_small, notes, small_end, versions}
+use Rattle.store_core.specs.ValidStates.{IsKept, IsSoundFor, IsValidState}
+use Rattle.store_core.specs.declared.refusal.StoreRefusal.{StoreRefusal}
+use Rattle.store_core.specs.declared.refusal.StoreRefusal.TheVariants.{NoNumber}
+use Rattle.store_core.proofs.Accepted.{sum-first}
+use Rattle.store_core.proofs.KeptAfter.{kept-first}
+use Rattle.store_core.proofs.PutLengths.{print_len}
+use Rattle.store_core.proofs.SoundHeld.{all_sound}
+use Rattle.xcap_machine.specs.Answers.{Answer}
+use Rattle.xcap_machine.specs.Machine.{Step, after_answer, answer_as}
+use Rattle.xcap_machine.proofs.Steps.{kept_after}
+use Rattle.xcap_machine.proofs.Ways.{Way, changes, stays, way_of}
+use Rattle.xcap_laws.specs.DocumentLimits.{AreFew, IsDocumentWithin, IsWithin, KeepsLimits, printed_len}
+use Rattle.xcap_laws.specs.Runs.{Reaches, goes_on, stays as ends}
+
+-- ---- the retained records
+
+both : (a b : Bool) → (a && b) ≡ true → (a ≡ true) × (b ≡ true)
+both true b h = (refl, h)
+both false b h = absurd cc
+
+low : (n k : ℕ) → nat_le n k ≡ true → n ≤ k
+low n k h = grind (arith, nat_tests)
+
+few_end : (xs : List Note) → AreFew xs (small_end weight xs)
+few_end [] = record { newest = ([], refl); some = λ h. refl; few = omega arith; light = inl (omega arith) }
+few_end (x ∷ []) = record { newest = ([], refl); some = λ h. h; few = omega arith; light = inr refl }
+few_end (x ∷ y ∷ xs) = by (is_small weight (x ∷ y ∷ xs)) refl (few_end (y ∷ xs))
+  where
+    by : (b : Bool) → is_small weight (x ∷ y ∷ xs) ≡ b → AreFew (y ∷ xs) (small_end weight (y ∷ xs)) → AreFew (x ∷ y ∷ xs) (small_end weight (x ∷ y ∷ xs))
+    by true e r =
+        let small = both (nat_le (length (x ∷ y ∷ xs)) 64) (nat_le (sum_by weight (x ∷ y ∷ xs)) 65536) e in
+        rw e (record { newest = ([], refl); some = λ h. h; few = low (length (x ∷ y ∷ xs)) 64 small.0; light = inl (low (sum_by weight (x ∷ y ∷ xs)) 65536 small.1) })
+    by false e r =
+        rw e (record { newest = (x ∷ r.newest.0, ap (λ (l : List Note). x ∷ l) r.newest.1); some = λ h. absurd (let no : y ∷ xs ≡ [] = r.some h in cc); few = r.few; light = r.light })
+
+-- ---- one document
+
+printed : (t : Tree) → printed_len t ≡ document_len t
+printed t = print_len t (encode_utf8_all (document_print t)) refl
+
+module _ (next : ℕ) (low_next : next ≤ 18446744073709551616) where
+  within : (usage : Option Usage) (v : Version) → IsSoundFor usage v.tree → (1 ≤ v.tag) × (v.tag < next) → IsWithin v
+  within None v sound dated = absurd sound
+  within (Some usage) v sound dated =
+      record { levels = sound.low; bytes = omega (arith, printed v.tree, sound.short); tag = (dated.0, omega (arith, dated.1, low_next)) }
+
+  all_within : (usage : Option Usage) (vs : List Version) → AllByRecursion (λ v. IsSoundFor usage v.tree) vs → AllByRecursion (λ v. (1 ≤ v.tag) × (v.tag < next)) vs → AllByRecursion IsWithin vs
+  all_within usage [] sound dated = tt
+  all_within usage (v ∷ vs) sound dated = (within usage v sound.0 dated.0, all_within usage vs sound.1 dated.1)
+
+  documents_within : (ds : List Document) → AllByRecursion (IsKept next) ds → AllByRecursion IsDocumentWithin ds
+  documents_within [] kept = tt
+  documents_within (d ∷ ds) kept =
+      (record { versions_within = all_within (usage_of d.id.auid) (versions d) kept.0.sound kept.0.tags; records = few_end (notes d) }, documents_within ds kept.1)
+
+sums : (ds : List Document) → sum_by (λ (h : StoredDocument). printed_len h.tree) (map stored_of ds) ≡ sum_by (λ d. document_len d.now.tree) ds
+sums [] = refl
+sums (d ∷ ds) =
+    let first = sum-first (λ (h : StoredDocument). printed_len h.tree) (stored_of d) (map stored_of ds) in
+    let same = sum-first (λ (e : Document). document_len e.now.tree) d ds in
+    omega (arith, first, same, printed d.now.tree, sums ds)
+
+-- a valid state whose next number is at most 2^64 keeps the limits
+pub keeps_limits : (m : State) → IsValidState m → m.next ≤ 18446744073709551616 → KeepsLimits m
+keeps_limits m kept low_next =
+    record { each = documents_within m.next low_next m.documents kept.documents; few = kept.few; room = omega (arith, sums m.documents, kept.room) }
+
+-- ---- the numbers of changes
+
+none_after : {A : Type 0} (a b : Option A) → or_else a b ≡ None → b ≡ None
+none_after None b h = h
+none_after (Some x) b h = cc
+
+fits : (c : Content) → against_number c ≡ None → c.next < 18446744073709551616
+fits c h = by (nat_le 18446744073709551616 c.next) refl h
+  where
+    under : (n : ℕ) → nat_le 18446744073709551616 n ≡ false → n < 18446744073709551616
+    under n h = grind (arith, nat_tests)
+
+    by : (b : Bool) → nat_le 18446744073709551616 c.next ≡ b → cond b (Some NoNumber) None ≡ None → c.next < 18446744073709551616
+    by true e s = cc
+    by false e s = under c.next e
+
+by_act : (c : Content) (id : DocId) (change : Change) (act : Act) (held : Option StoredDocument) → AsksAct c id change act → document_in stored_name c.documents id ≡ held → against c id change held act ≡ None → c.next < 18446744073709551616
+by_act c id change (Makes root) held asks is h = fits c (none_after (against_tree c id true root) (against_number c) h)
+by_act c id change Edits (Some d) asks is h = fits c (none_after (against_tree c id false (edited d.tree change)) (against_number c) h)
+by_act c id change Edits None asks is h = absurd (asked asks)
+  where
+    asked : AsksAct c id change Edits → ⊥
+    asked a = rw is at a
+by_act c id change Removes held asks is h = fits c h
+
+not_refused : (o : Option StoreRefusal) (note told : Note) (c next : Content) → answered o note c ≡ Ok (told, next) → o ≡ None
+not_refused None note told c next h = refl
+not_refused (Some refusal) note told c next h = cc
+
+-- a change that the store makes gets a number of 64 bits
+number_fits : (c : Content) (id : DocId) (change : Change) (note : Note) (next : Content) → Asks c id change → changing c id change ≡ Ok (note, next) → c.next < 18446744073709551616
+number_fits c id change note next asks h =
+    let held = document_in stored_name c.documents id in
+    by_act c id change (act_of change) held asks refl (not_refused (against c id change held (act_of change)) (note_for c id change held) note (content_after c id change) next h)
+
+next_number : (m : State) (id : DocId) (change : Change) (act : Act) → (after_act m id change act).next ≡ m.next + 1
+next_number m id change (Makes root) = refl
+next_number m id change Edits = refl
+next_number m id change Removes = refl
+
+number_by : (method : Method) (closes : Bool) (m : State) (a : Answer) → IsValidState m → m.next ≤ 18446744073709551616 → Way method closes (stock_of m) a → (after_answer m a.made).next ≤ 18446744073709551616
+number_by method closes m a kept few (stays reply tells same is) =
+    subst (λ (x : Answer). (after_answer m x.made).next ≤ 18446744073709551616) (sym is) few
+number_by method closes m a kept few (changes reply tells same id change note next asks made is) =
+    let below = number_fits (stock_of m) id change note next (asks (all_sound (stock_of m) m refl kept)) made in
+    subst (λ (x : Answer). (after_answer m x.made).next ≤ 18446744073709551616) (sym is)
+    (omega (arith, below, next_number m id note.change (act_of note.change)))
+
+number_after : (root : List ℕ) (m : State) (request : Request) (reply : SentReply) (next : State) (edit : Option Edit) → Step root m request reply next edit → IsValidState m → m.next ≤ 18446744073709551616 → next.next ≤ 18446744073709551616
+number_after root m request reply next edit s kept few =
+    let a = answer_as reply edit in
+    subst (λ (x : State). x.next ≤ 18446744073709551616) (sym s.goes_on)
+    (number_by (method_of request.method) request.closes m a kept few (way_of root (stock_of m) request a s.answers))
+
+-- ---- runs
+
+pub run_keeps : (root : List ℕ) (m last : State) → Reaches root m last → IsValidState m → m.next ≤ 18446744073709551616 → IsValidState last × (last.next ≤ 18446744073709551616)
+run_keeps root _ _ (ends m) kept few = (kept, few)
+run_keeps root _ _ (goes_on m n last request reply edit step rest) kept few =
+    run_keeps root n last rest (kept_after root m request reply n edit step kept) (number_after root m request reply n edit step kept few)
+
+pub limits_hold : (root : List ℕ) (first : ℕ) (m : State) → 1 ≤ first → first < 18446744073709551616 → Reaches root (first_state first) m → KeepsLimits m
+limits_hold root first m positive few run =
+    let start : IsValidState (first_state first) = kept-first first positive in
+    let last = run_keeps root (first_state first) m run start (omega (arith, few)) in
+    keeps_limits m last.0 last.1

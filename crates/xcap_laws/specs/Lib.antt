@@ -1,0 +1,12 @@
+pub mod Access
+pub mod AddressedDocuments
+pub mod DocumentLimits
+pub mod ElementReplies
+pub mod FetchedVersions
+pub mod Heads
+pub mod MetAddresses
+pub mod RetainedVersions
+pub mod Runs
+pub mod ServiceIndexes
+pub mod Tags
+pub mod Unmodified

@@ -1,0 +1,21 @@
+-- The changes since a version of a document, by the version's number. RFC 5874, section 3: a diff
+-- document has the changes between two entity tags.
+use Rattle.std.specs.Prelude.{ℕ, Bool, true, List, [], ◌∷◌, if◌then◌else◌}
+use Rattle.edit_ops.specs.Operations.{weight}
+use Rattle.element_watch.specs.Finding.{notes_behind}
+use Rattle.store_core.specs.Since.{ChangesSince, Unknown, ReportedChanges}
+use Rattle.store_core.specs.State.{Document, is_small, versions}
+
+-- one item at most, or no more and no heavier ones than may be retained together
+abbrev pub is_retainable : {A : Type 0} → (A → ℕ) → List A → Bool
+is_retainable weight [] = true
+is_retainable weight (x ∷ []) = true
+is_retainable weight (x ∷ y ∷ xs) = is_small weight (x ∷ y ∷ xs)
+
+-- the change records of all versions after the one of this number, counted from 0 for the current
+-- one; unless they are too many or too heavy
+abbrev pub changes_from : ℕ → Document → ChangesSince
+changes_from number d =
+    if is_retainable weight (notes_behind number (versions d))
+    then ReportedChanges (notes_behind number (versions d))
+    else Unknown

@@ -1,0 +1,46 @@
+-- Tags in replies, and in requests that write. RFC 9110, sections 8.8.3 and 13.1.1.
+use Rattle.std.specs.Prelude.{◌≡◌, ℕ, ◌<◌, true, List, codes, Some, IfSome}
+use Rattle.std.specs.List.{list_any}
+use Rattle.edit_ops.specs.declared.edit.Edit.{Edit}
+use Rattle.http_wire.specs.declared.request.Request.{Request}
+use Rattle.reply_text.specs.ReplyHeads.{HeadFields, SentReply, sent}
+use Rattle.request_checks.specs.Fields.{FieldValue, Says}
+use Rattle.request_checks.specs.Rights.{fields_named}
+use Rattle.request_checks.specs.Verdicts.{is_strongly_own}
+use Rattle.request_checks.specs.declared.entity_tags.EntityTag.{EntityTag}
+use Rattle.store_core.specs.Contents.{StoreContents}
+use Rattle.store_core.specs.DocumentChanges.{document_in, document_name}
+use Rattle.store_core.specs.State.{Document, State, Version}
+use Rattle.xcap_machine.specs.Resources.{version_of}
+use Rattle.xml_tree.specs.Tree.{Tree}
+
+-- the request's field `If-Match` says this (RFC 9110, section 13.1.1)
+abbrev pub IfMatchSays : Request → FieldValue → Type 0
+IfMatchSays request value = Says (fields_named (codes "if-match") request.fields) value
+
+-- the request's field `If-None-Match` says this (RFC 9110, section 13.1.2)
+abbrev pub IfNoneMatchSays : Request → FieldValue → Type 0
+IfNoneMatchSays request value = Says (fields_named (codes "if-none-match") request.fields) value
+
+-- the tag is the strong one of this number (RFC 9110, section 8.8.3.2)
+abbrev pub Names : EntityTag → ℕ → Type 0
+Names tag number = is_strongly_own (Some number) tag ≡ true
+
+-- the change replaces or removes a stored version whose tag is one of these
+pub record ChangesNamed (c : StoreContents) (e : Edit) (tags : List EntityTag) : Type 0 where
+  pub tree : Tree
+  pub held : version_of c e.doc ≡ Some (tree, e.note.previous)
+  pub named : list_any (is_strongly_own (Some e.note.previous)) tags ≡ true
+
+-- the document of the change is stored, and this is its present version
+pub record IsPresent (m : State) (e : Edit) (v : Version) : Type 0 where
+  pub document : Document
+  pub there : document_in document_name m.documents e.doc ≡ Some document
+  pub is_now : document.now ≡ v
+
+-- the reply has no tag, or one below this number (RFC 9110, section 8.8.3)
+pub record HasTagBelow (reply : SentReply) (bound : ℕ) : Type 0 where
+  pub fields : HeadFields
+  pub body : List ℕ
+  pub answers : reply ≡ sent fields body
+  pub below : IfSome fields.tag (λ tag. tag < bound)

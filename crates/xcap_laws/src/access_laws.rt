@@ -1,0 +1,60 @@
+//! Laws of access, each the contract of a function that does nothing.
+ghost use Rattle.std.specs.Prelude.{◌≡◌, ℕ, true, List, Option, Ok};
+ghost use Rattle.doc_names.specs.declared.doc_id.Home.TheVariants.{User};
+ghost use Rattle.edit_ops.specs.declared.edit.Edit.{Edit};
+ghost use Rattle.http_wire.specs.declared.request.Request.{Request};
+ghost use Rattle.reply_text.specs.ReplyHeads.{SentReply};
+ghost use Rattle.request_checks.specs.Methods.{is_reading, method_of};
+ghost use Rattle.store_core.specs.Contents.{StoreContents};
+ghost use Rattle.store_core.specs.DocumentChanges.{document_name, stored_name};
+ghost use Rattle.store_core.specs.State.{State};
+ghost use Rattle.xcap_uri.specs.Targets.{TargetResult};
+ghost use Rattle.xcap_uri.specs.declared.target.Target.{Target};
+ghost use Rattle.xcap_machine.specs.Answers.{Answer, unchanged};
+ghost use Rattle.xcap_machine.specs.Laws.{ChangesNothing};
+ghost use Rattle.xcap_machine.specs.Machine.{Does, Step};
+ghost use Rattle.xcap_machine.specs.Requests.{IsAnswer, home_of};
+ghost use Rattle.xcap_laws.specs.Access.{AreAlikeUnder, ChangesOwnHome, ComesFromNoOther};
+ghost use Rattle.xcap_laws.specs.Access.{GlobalAlike, IsForbidden, forbidden_reply};
+
+/// A law: a request that its user isn't allowed to make gets an answer that its target alone
+/// decides, the same whatever is stored; and its step changes nothing (RFC 4825, section 5.7).
+pub fn strangers_learn_nothing()
+    ensures answer_is_fixed { (root : List ℕ) (c : StoreContents) (request : Request)
+        (target : Target) (a : Answer) → IsForbidden root request target
+        → IsAnswer root c request a → a ≡ unchanged (forbidden_reply target request) }
+    ensures same_answer { (root : List ℕ) (c d : StoreContents) (request : Request)
+        (target : Target) (a b : Answer) → IsForbidden root request target
+        → IsAnswer root c request a → IsAnswer root d request b → a ≡ b }
+    ensures changes_nothing { (root : List ℕ) (m next : State) (request : Request)
+        (target : Target) (reply : SentReply) (edit : Option Edit)
+        → IsForbidden root request target → Step root m request reply next edit
+        → ChangesNothing m next edit }
+{}
+
+/// A law: a request changes at most a document under the home of the user who makes it: all
+/// documents that aren't under that home are unchanged, with their versions, tags and change
+/// records (RFC 4825, section 5.7). Only the next number is common to all homes.
+pub fn users_change_their_own_home()
+    ensures own_home { (root : List ℕ) (c next : StoreContents) (request : Request)
+        (reply : SentReply) (edit : Option Edit) → Does root c request reply next edit
+        → ChangesOwnHome stored_name request edit c.documents next.documents }
+    ensures own_versions { (root : List ℕ) (m next : State) (request : Request)
+        (reply : SentReply) (edit : Option Edit) → Step root m request reply next edit
+        → ChangesOwnHome document_name request edit m.documents next.documents }
+{}
+
+/// A law: the answer to a request that reads depends on the home of its target alone: it is the
+/// same on any two store contents that don't differ under that home. Whatever the address, what a
+/// user is answered depends on the user's own home and on what is global alone: other users'
+/// documents show in the index of services and its tag alone.
+pub fn users_read_their_own_home()
+    ensures same_answer { (root : List ℕ) (c d : StoreContents) (request : Request)
+        (target : Target) (a b : Answer) → TargetResult root request.target (Ok target)
+        → is_reading (method_of request.method) ≡ true → AreAlikeUnder (home_of target) c d
+        → IsAnswer root c request a → IsAnswer root d request b → a ≡ b }
+    ensures own_home_and_global { (root : List ℕ) (c d : StoreContents) (request : Request)
+        (xui : List ℕ) (a b : Answer) → ComesFromNoOther xui request
+        → is_reading (method_of request.method) ≡ true → AreAlikeUnder (User xui) c d
+        → GlobalAlike c d → IsAnswer root c request a → IsAnswer root d request b → a ≡ b }
+{}

@@ -1,0 +1,27 @@
+//! Laws of the abstract machine for an auditor, each the contract of a public function that does
+//! nothing: what is promised whatever requests come. No code, and no crate stands on it.
+//! Promised are, among others, `strangers_learn_nothing`, `no_lost_update`,
+//! `only_the_addressed_changes`, `limits_hold_in_every_state` and `changes_are_told_once`.
+//! The standards are RFC 4825, 4826, 5874, 5875 and RFC 9110 (sections 8.8, 9.3.2 and 13).
+#![tactic(auto)]
+
+mod access_laws;
+mod edit_laws;
+mod feed_laws;
+mod flat_laws;
+mod method_laws;
+mod state_laws;
+mod tag_laws;
+
+pub use access_laws::{
+    strangers_learn_nothing, users_change_their_own_home, users_read_their_own_home,
+};
+pub use edit_laws::only_the_addressed_changes;
+pub use feed_laws::{
+    changes_are_told_once, element_notices_miss_nothing, near_versions_are_known,
+    what_is_fetched_is_a_version,
+};
+pub use flat_laws::flat_lists_are_sound;
+pub use method_laws::{head_is_get_without_body, unmodified_only_for_the_present_tag};
+pub use state_laws::{limits_hold_in_every_state, the_index_is_consistent};
+pub use tag_laws::{no_lost_update, tags_are_fresh};
