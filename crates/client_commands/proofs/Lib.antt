@@ -1,2 +1,2 @@
-pub mod Filling
+pub mod BufferLemmas
 pub mod Rounds

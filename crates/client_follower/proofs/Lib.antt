@@ -1,4 +1,4 @@
-pub mod Asking
-mod Counting
-pub mod Taking
+mod ConnectionCounts
+pub mod FollowerRequests
+pub mod ResponseContents
 pub mod Words

@@ -5,7 +5,7 @@ use Rattle.xml_tree.specs.Tree.{Tree}
 use Rattle.xml_names.specs.declared.read_error.ReadError.{ReadError}
 use Rattle.doc_names.specs.declared.doc_id.DocId.{DocId}
 use Rattle.xcap_client.specs.declared.response.Response.{Response}
-use Rattle.xcap_uri.specs.Naming.{is_name_of}
+use Rattle.xcap_uri.specs.PrintedNames.{is_name_of}
 use Rattle.patch_rules.specs.Replay.{ReplicaContents}
 use Rattle.patch_apply.specs.ApplyAnswers.{Applies}
 use Rattle.patch_apply.specs.DiffTexts.{NoticeAnswer}

@@ -2,7 +2,7 @@
 ghost use Rattle.std.specs.Prelude.{IfOk, chars, option_map};
 ghost use Rattle.patch_apply.specs.Views.{stored_in};
 ghost use Rattle.patch_rules.specs.Premises.{IsSound};
-ghost use Rattle.patch_rules.specs.Replayed.{HoldsSound};
+ghost use Rattle.patch_rules.specs.ReplayLaws.{HoldsSound};
 ghost use Rattle.client_follower.specs.Documents.{BringsVersion, Fetches, TakesDocument};
 
 use crate::fault::FollowerFault;

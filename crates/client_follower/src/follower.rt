@@ -30,7 +30,7 @@ pub struct Follower {
 
 impl Model for Follower {
     ghost use Rattle.patch_apply.specs.Views.{stored_in};
-    ghost use Rattle.patch_rules.specs.Replayed.{HoldsSound};
+    ghost use Rattle.patch_rules.specs.ReplayLaws.{HoldsSound};
     ghost use Rattle.client_follower.specs.States.{Following};
     ghost use Rattle.std.specs.Coded.{codes};
     ghost use Rattle.xml_tree.specs.inner.Codes.{tree_code};

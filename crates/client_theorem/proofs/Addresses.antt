@@ -8,7 +8,7 @@ use Rattle.std.specs.Cmp.Lexicographic.{bytes_decides}
 use Rattle.std.specs.List.{list_all, onto_first}
 use Rattle.std.specs.Prelude.{if◌then◌else◌}
 use Rattle.std.specs.Str.{IsAscii, bytes_eq, chars}
-use Rattle.xml_grammar.specs.Reading.{after_front}
+use Rattle.xml_grammar.specs.TextReading.{after_front}
 use Rattle.xml_grammar.specs.Rules.{AllPass}
 use Rattle.xml_names.specs.declared.names.Decl.{Decl}
 use Rattle.xml_tokens.specs.Tokens.{is_other}

@@ -33,7 +33,7 @@ use Rattle.xcap_machine.specs.SubscriberVersions.{SubscriberHolds, SubscribersHo
 use Rattle.client_theorem.proofs.Numerals.{printed_numeral}
 use Rattle.client_theorem.specs.FeedRequests.{AsksForFeed, feed_request}
 use Rattle.client_theorem.proofs.Replies.{sends_a_notice}
-use Rattle.client_theorem.proofs.Taking.{updated}
+use Rattle.client_theorem.proofs.NoticeResults.{updated}
 use Rattle.client_theorem.specs.FollowResults.{FeedQuery, FollowOutcome, Follows, FollowsFrom, FollowsHeld, OrNoMemory, Refuses, TakesNotice}
 use Rattle.client_theorem.specs.SubscriberVersions.{DropsWhatIsGone, Gets, HoldsThePresent, IsPatching, IsRetained}
 use Rattle.client_theorem.specs.declared.fault.FollowFault.TheVariants.{BadTag, Status}

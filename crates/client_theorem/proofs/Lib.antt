@@ -1,9 +1,9 @@
 mod Addresses
-mod Allowed
-mod Asked
+mod AsciiAddresses
+mod FeedReplies
+mod FeedRights
 mod Holds
+mod NoticeResults
 pub mod Numerals
-mod Printed
 mod Replies
-mod Taking
 pub mod Words

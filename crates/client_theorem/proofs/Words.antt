@@ -12,7 +12,7 @@ use Rattle.xcap_uri.specs.Shapes.{mode_word}
 use Rattle.xcap_uri.specs.Words.{feed}
 use Rattle.xcap_uri.specs.declared.target.Mode.{Mode}
 use Rattle.xcap_uri.specs.declared.target.Mode.TheVariants.{NoPatching, XcapPatching, Aggregate}
-use Rattle.xcap_uri.specs.Naming.{is_part}
+use Rattle.xcap_uri.specs.PrintedNames.{is_part}
 use Rattle.xcap_uri.proofs.Parts.{word_stands}
 use Rattle.client_theorem.specs.FeedRequests.{mode_text}
 

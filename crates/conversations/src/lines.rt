@@ -1,6 +1,6 @@
 //! The streams of a run.
+use crate::case_options::CaseOptions;
 use crate::files::bytes_of;
-use crate::way::Way;
 use anyhow::Result;
 use std::alloc::{AllocError, Global};
 use xcap_io::{MemPeer, MemPort, MemStream};
@@ -18,7 +18,7 @@ pub struct Lines {
     pub errors: MemStream,
 }
 
-fn repeated(alloc: Global, once: &[u8], repeat: usize) -> Result<Vec<u8>, AllocError> {
+fn repeat_bytes(alloc: Global, once: &[u8], repeat: usize) -> Result<Vec<u8>, AllocError> {
     let mut bytes = Vec::new(alloc);
     for _ in 0..repeat {
         bytes.extend_from_slice(once)?;
@@ -40,7 +40,7 @@ fn line(rt: &HostRuntime, name: &str, ending: &str, size: usize) -> Result<MemSt
 // The stream that gives the bytes of the input `repeat` times.
 fn input(rt: &HostRuntime, name: &str, repeat: usize, size: usize) -> Result<MemStream> {
     let once = bytes_of(rt, name, "in")?;
-    let bytes = repeated(rt.alloc(), &once, repeat)?;
+    let bytes = repeat_bytes(rt.alloc(), &once, repeat)?;
     Ok(line_of(rt.alloc(), &bytes, size)?)
 }
 
@@ -75,11 +75,15 @@ fn lines_of(
 
 impl Lines {
     /// The streams of a run whose bytes come in pieces of this size.
-    pub fn new(rt: &HostRuntime, name: &str, way: &Way, size: usize) -> Result<Lines> {
+    pub fn new(rt: &HostRuntime, name: &str, options: &CaseOptions, size: usize) -> Result<Lines> {
         Ok(Lines {
-            port: MemPort::new(lines_of(rt, name, "", way.connections, size)?, false, None),
-            peer: MemPeer::new(lines_of(rt, name, "peer", way.peers, size)?, None),
-            input: input(rt, name, way.repeat, size)?,
+            port: MemPort::new(
+                lines_of(rt, name, "", options.connections, size)?,
+                false,
+                None,
+            ),
+            peer: MemPeer::new(lines_of(rt, name, "peer", options.peers, size)?, None),
+            input: input(rt, name, options.repeat, size)?,
             output: line_of(rt.alloc(), b"", 1)?,
             errors: line_of(rt.alloc(), b"", 1)?,
         })

@@ -6,15 +6,15 @@
 //! The standards are RFC 4825 and RFC 9112.
 #![tactic(auto)]
 
+mod case_options;
 mod files;
 mod lines;
 mod run;
 mod shared_line;
-mod way;
 
+use crate::case_options::{CaseOptions, parse_runs};
 use crate::files::bytes_of;
 use crate::run::leaves;
-use crate::way::{Way, ways_of};
 use anyhow::Result;
 use std::env;
 use std::process::ExitCode;
@@ -23,22 +23,22 @@ use std::process::ExitCode;
 const WHOLE: usize = 1_000_000;
 
 // Whether a run of a case goes as written, with whole bytes and byte by byte.
-fn is_as_written(rt: &HostRuntime, name: &str, way: &Way) -> Result<bool> {
-    let whole = leaves(rt, name, way, WHOLE)?;
-    Ok(leaves(rt, name, way, 1)? && whole)
+fn is_as_written(rt: &HostRuntime, name: &str, options: &CaseOptions) -> Result<bool> {
+    let whole = leaves(rt, name, options, WHOLE)?;
+    Ok(leaves(rt, name, options, 1)? && whole)
 }
 
-// The ways in which a case is run.
-fn ways(rt: &HostRuntime, name: &str) -> Result<Vec<Way>> {
+// The options of each run of a case.
+fn runs(rt: &HostRuntime, name: &str) -> Result<Vec<CaseOptions>> {
     let bytes = bytes_of(rt, name, "case")?;
-    ways_of(rt.alloc(), str::from_utf8(&bytes)?)
+    parse_runs(rt.alloc(), str::from_utf8(&bytes)?)
 }
 
 // Whether all runs of a case go as written.
 fn holds(rt: &HostRuntime, name: &str) -> Result<bool> {
     let mut alike = true;
-    for way in &ways(rt, name)? {
-        alike &= is_as_written(rt, name, way)?;
+    for options in &runs(rt, name)? {
+        alike &= is_as_written(rt, name, options)?;
     }
     Ok(alike)
 }

@@ -1,8 +1,8 @@
 //! Runs of the program in memory.
+use crate::case_options::CaseOptions;
 use crate::files::came;
 use crate::lines::{Lines, ROOM};
 use crate::shared_line::SharedStream;
-use crate::way::Way;
 use anyhow::Result;
 use std::alloc::{AllocError, Global};
 use watchers::{Audit, Watcher};
@@ -56,7 +56,7 @@ fn status_of(
 }
 
 // Whether a run ended with the expected status. Prints the status otherwise.
-fn ended(rt: &HostRuntime, name: &str, wanted: u8, status: u8) -> Result<bool> {
+fn check_status(rt: &HostRuntime, name: &str, wanted: u8, status: u8) -> Result<bool> {
     if status != wanted {
         println!(rt; "{name}: ended with the status {status}")?;
     }
@@ -79,12 +79,12 @@ fn took(
 }
 
 // Whether the connections and the peer's connections took the expected bytes.
-fn all_took(rt: &HostRuntime, name: &str, way: &Way, lines: &Lines) -> Result<bool> {
+fn all_took(rt: &HostRuntime, name: &str, options: &CaseOptions, lines: &Lines) -> Result<bool> {
     let mut alike = true;
-    for index in 0..way.connections {
+    for index in 0..options.connections {
         alike &= took(rt, name, "", index, lines.port.line(index))?;
     }
-    for index in 0..way.peers {
+    for index in 0..options.peers {
         alike &= took(rt, name, "peer", index, lines.peer.line(index))?;
     }
     Ok(alike)
@@ -102,20 +102,20 @@ fn wrote(rt: &HostRuntime, name: &str, lines: &Lines, told: &SharedStream) -> Re
 fn leaves_on(
     rt: &HostRuntime,
     name: &str,
-    way: &Way,
+    options: &CaseOptions,
     lines: &mut Lines,
     told: &SharedStream,
 ) -> Result<bool> {
-    let status = status_of(rt.alloc(), way.words.as_str(), lines, told)?;
-    let mut alike = ended(rt, name, way.status, status)?;
+    let status = status_of(rt.alloc(), options.words.as_str(), lines, told)?;
+    let mut alike = check_status(rt, name, options.status, status)?;
     alike &= wrote(rt, name, lines, told)?;
-    Ok(all_took(rt, name, way, lines)? && alike)
+    Ok(all_took(rt, name, options, lines)? && alike)
 }
 
 /// Whether a run of a case whose bytes come in pieces of this size has the expected status and
 /// bytes.
-pub fn leaves(rt: &HostRuntime, name: &str, way: &Way, size: usize) -> Result<bool> {
+pub fn leaves(rt: &HostRuntime, name: &str, options: &CaseOptions, size: usize) -> Result<bool> {
     let told = SharedStream::new(rt.alloc(), ROOM)?;
-    let mut lines = Lines::new(rt, name, way, size)?;
-    leaves_on(rt, name, way, &mut lines, &told)
+    let mut lines = Lines::new(rt, name, options, size)?;
+    leaves_on(rt, name, options, &mut lines, &told)
 }

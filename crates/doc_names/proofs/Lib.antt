@@ -1,5 +1,5 @@
-pub mod Escaped
+pub mod AsciiPrints
 pub mod Keys
-pub mod Printed
+pub mod OctetPrints
 pub mod SameIds
 pub mod Words

@@ -11,7 +11,7 @@ use Rattle.httparse.specs.Grammar.{is_token_byte, AllPass}
 use Rattle.edit_journal.specs.Records.{block}
 use Rattle.edit_journal.specs.declared.field_parsers.FieldError.{FieldError}
 use Rattle.edit_journal.specs.declared.field_parsers.FieldError.TheVariants.{Open, Wrong, NoMemory}
-use Rattle.edit_journal.specs.inner.Reading.{Reads, Number, Block, Name}
+use Rattle.edit_journal.specs.inner.PartReaders.{Reads, Number, Block, Name}
 
 -- two equal lists that begin with parts of the same length begin with the same part, and continue
 -- with the same rest

@@ -8,7 +8,7 @@ use Rattle.http_wire.specs.declared.request.Request.{Request}
 use Rattle.edit_journal.specs.Records.{method_number, block, record_content, field_text}
 use Rattle.edit_journal.specs.declared.field_parsers.FieldError.{FieldError}
 use Rattle.edit_journal.specs.declared.field_parsers.FieldError.TheVariants.{Open, Wrong, NoMemory}
-use Rattle.edit_journal.specs.inner.Reading.{Reads, Number, Block, Method, Rest, Content, Record}
+use Rattle.edit_journal.specs.inner.PartReaders.{Reads, Number, Block, Method, Rest, Content, Record}
 use Rattle.edit_journal.proofs.Blocks.{second_part, first_part, one_block, one_number, block_is}
 use Rattle.edit_journal.proofs.Lengths.{block_length, content_length}
 use Rattle.edit_journal.proofs.Rests.{rest_there}

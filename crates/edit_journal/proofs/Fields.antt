@@ -16,7 +16,7 @@ use Rattle.std.proofs.Common.{take-append-drop}
 use Rattle.std.proofs.Math.Seq.{take-append_seam}
 use Rattle.edit_journal.proofs.Blocks.{one_block}
 use Rattle.edit_journal.proofs.Lengths.{block_length, field_length}
-use Rattle.edit_journal.specs.inner.Reading.{Reads, Block, Name, Value, FieldPart, FieldsAndBody, HasRoom}
+use Rattle.edit_journal.specs.inner.PartReaders.{Reads, Block, Name, Value, FieldPart, FieldsAndBody, HasRoom}
 
 -- a field whose name is missing
 pub field_no_name : (bytes : List ℕ) (others left : ℕ) (stop : FieldError) → 9 * others + 13 ≤ left → Reads (λ (piece : Bor (List ℕ)). piece.now) (Name 1 (left - 12 - 9 * others)) bytes (Err stop)

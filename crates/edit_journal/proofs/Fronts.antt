@@ -4,7 +4,7 @@ use Rattle.http_wire.specs.declared.request.Request.{Request}
 use Rattle.edit_journal.specs.Records.{record_of, record_content}
 use Rattle.edit_journal.specs.Texts.{BeginsWith, HasNoRecord, IsTorn, IsDamaged}
 use Rattle.edit_journal.specs.declared.field_parsers.FieldError.TheVariants.{Open, Wrong}
-use Rattle.edit_journal.specs.inner.Reading.{Reads, Record, padded_u32}
+use Rattle.edit_journal.specs.inner.PartReaders.{Reads, Record, padded_u32}
 use Rattle.std.specs.Int.{w32, to_be_bytes}
 use Rattle.edit_journal.proofs.Blocks.{block_is}
 use Rattle.edit_journal.proofs.Lengths.{record_length}

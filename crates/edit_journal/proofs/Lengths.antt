@@ -11,7 +11,7 @@ use Rattle.httparse.specs.Grammar.{IsToken, is_token_byte, AllPass}
 use Rattle.http_wire.specs.declared.request.Field.{Field}
 use Rattle.http_wire.specs.declared.request.Request.{Request}
 use Rattle.edit_journal.specs.Records.{block, field_text, record_content, record_of}
-use Rattle.edit_journal.specs.inner.Writing.{IsWritable}
+use Rattle.edit_journal.specs.inner.WritableParts.{IsWritable}
 
 pub block_length : (bytes : List ℕ) → length (block bytes) ≡ 4 + length bytes
 unfolding block

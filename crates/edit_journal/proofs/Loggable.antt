@@ -15,11 +15,11 @@ use Rattle.http_wire.specs.declared.request.Request.{Request}
 use Rattle.http_wire.specs.Fields.{is_number}
 use Rattle.http_wire.specs.Framing.{coding_by, framing, length_by}
 use Rattle.http_wire.specs.Heads.{BeginsWithHead}
-use Rattle.http_wire.specs.Chunked.{chunk_data}
+use Rattle.http_wire.specs.ChunkedBodies.{chunk_data}
 use Rattle.http_wire.specs.Items.{AsksFor, field_of, in_chunks, request_of, with_length}
 use Rattle.edit_journal.specs.Records.{IsRecordable, field_text, method_number}
 use Rattle.edit_journal.proofs.Lengths.{content_length, field_length}
-use Rattle.http_serve.specs.Reading.{IsRead}
+use Rattle.http_serve.specs.ReadRequests.{IsRead}
 use Rattle.edit_journal.specs.LoggedRequests.{IsLoggable}
 
 -- ---- values are no longer than the sent bytes

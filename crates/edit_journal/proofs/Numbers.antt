@@ -2,7 +2,7 @@
 use Rattle.std.proofs.Common.{◌≡◌, ℕ, ◌+◌, ◌*◌, ◌/◌, ◌%◌, ◌-◌, ◌<◌, ◌≤◌, ◌^◌, ◌⊎◌, inl, inr, List, [], ◌∷◌, ◌++◌, length, get_or, Ok, Err, refl, ap, ◌∙◌, arith}
 use Rattle.std.specs.Int.{w16, w32, to_be_bytes}
 use Rattle.edit_journal.specs.declared.field_parsers.FieldError.TheVariants.{Open, Wrong}
-use Rattle.edit_journal.specs.inner.Reading.{Reads, Number, Short, padded_u32, padded_u16}
+use Rattle.edit_journal.specs.inner.PartReaders.{Reads, Number, Short, padded_u32, padded_u16}
 
 -- every member is a byte
 abbrev pub AreBytes : List ℕ → Type 0

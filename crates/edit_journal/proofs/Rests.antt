@@ -6,7 +6,7 @@ use Rattle.http_wire.specs.declared.request.Field.{Field}
 use Rattle.edit_journal.specs.Records.{block, field_text}
 use Rattle.edit_journal.specs.declared.field_parsers.FieldError.{FieldError}
 use Rattle.edit_journal.specs.declared.field_parsers.FieldError.TheVariants.{Open, Wrong, NoMemory}
-use Rattle.edit_journal.specs.inner.Reading.{Reads, Short, FieldsAndBody, HasRoom, Rest}
+use Rattle.edit_journal.specs.inner.PartReaders.{Reads, Short, FieldsAndBody, HasRoom, Rest}
 use Rattle.edit_journal.proofs.Blocks.{first_part, second_part}
 use Rattle.edit_journal.proofs.Fields.{fields_there, fields_room}
 

@@ -7,7 +7,7 @@ use Rattle.http_wire.specs.declared.request.Request.{Request}
 use Rattle.xcap_io.specs.Causes.{StreamState, CountRises, Reads}
 use Rattle.xcap_io.specs.StreamTraffic.{Gave, IsEnded}
 use Rattle.xcap_io.proofs.Lines.{reads_none, reads_on}
-use Rattle.xcap_io.proofs.Passing.{gave_none, gave_on}
+use Rattle.xcap_io.proofs.TrafficSums.{gave_none, gave_on}
 use Rattle.edit_journal.specs.declared.journal_restart.RestartFault.{RestartFault}
 use Rattle.edit_journal.specs.declared.journal_restart.RestartFault.TheVariants.{ReadFailed, AppendFailed, Damaged, Refused, TooLong, NoMemory}
 use Rattle.edit_journal.specs.Journals.{JournalState}
@@ -17,10 +17,10 @@ use Rattle.edit_journal.specs.Restarts.{EndsAs, CountsFaults, Restarts}
 use Rattle.edit_journal.specs.Texts.{text, HasNoRecord, IsTorn, IsRecordedRequest}
 use Rattle.edit_journal.specs.inner.ReadBuffer.{InflowState, with_bytes}
 use Rattle.edit_journal.specs.inner.ReplaySteps.{ReplayStep, StopsAs, Stops, RedoesHeld}
-use Rattle.edit_journal.proofs.Going.{goes_none}
-use Rattle.edit_journal.proofs.Keeping.{text-append}
+use Rattle.edit_journal.proofs.JournalCalls.{goes_none}
+use Rattle.edit_journal.proofs.WholeRecords.{text-append}
 use Rattle.edit_journal.proofs.Lengths.{record_length}
-use Rattle.edit_journal.proofs.Redoing.{means_refl, redone_none, redone_on, stops_on, stood, records_longer}
+use Rattle.edit_journal.proofs.ReplayedRequests.{means_refl, redone_none, redone_on, stops_on, stood, records_longer}
 use Rattle.edit_journal.proofs.Wholes.{nothing_in, nothing_torn}
 
 -- a torn record is shorter than the longest one

@@ -6,7 +6,8 @@ use Rattle.std.specs.Int.{w16, to_be_bytes}
 use Rattle.http_wire.specs.declared.request.Field.{Field}
 use Rattle.http_wire.specs.declared.request.Request.{Request}
 use Rattle.edit_journal.specs.Records.{method_number, block, field_text, record_content, record_of}
-use Rattle.edit_journal.specs.Texts.{text, IsRecordedRequest, HasNoRecord, IsTorn, OneWhole, PrefixesHoldFirstOnes}
+use Rattle.edit_journal.specs.Texts.{text, IsRecordedRequest, HasNoRecord, IsTorn, OneWhole, Whole}
+use Rattle.edit_journal.specs.Journals.{IsFirstOf}
 use Rattle.httparse.specs.Grammar.{IsToken}
 use Rattle.edit_journal.proofs.Blocks.{first_part, second_part, one_block}
 use Rattle.edit_journal.proofs.Lengths.{content_length, record_length, field_length}
@@ -137,7 +138,10 @@ nothing_before : (bytes more : List ℕ) → [] ≡ bytes ++ more → bytes ≡ 
 nothing_before [] more e = refl
 nothing_before (b ∷ bytes) more e = absurd (omega (arith, ap length e))
 
-pub first_ones : PrefixesHoldFirstOnes
+-- in a prefix of a text the records of its first requests are complete, and after them comes a torn
+-- rest
+pub first_ones : (requests : List Request) (bytes : List ℕ) → All IsRecordedRequest requests → IsFirstOf bytes (text requests)
+    → (first more : List Request) × (rest : List ℕ) × (requests ≡ first ++ more) × Whole bytes first rest × IsTorn rest
 first_ones [] bytes told (more, e) =
     let none : bytes ≡ [] = nothing_before bytes more e in
     ([], [], [], refl, record { told = All-nil IsRecordedRequest; split = none; no_more = nothing_in }, nothing_torn)

@@ -45,12 +45,3 @@ OneWhole =
     (bytes : List ℕ) (requests requests' : List Request) (rest rest' : List ℕ)
     → Whole bytes requests rest → Whole bytes requests' rest'
     → (requests ≡ requests') × (rest ≡ rest')
-
--- In a prefix of a text the records of its first requests are complete, and after them comes a
--- torn rest.
-abbrev pub PrefixesHoldFirstOnes : Type 0
-PrefixesHoldFirstOnes =
-    (requests : List Request) (bytes : List ℕ) → All IsRecordedRequest requests
-    → IsFirstOf bytes (text requests)
-    → (first more : List Request) × (rest : List ℕ)
-    × (requests ≡ first ++ more) × Whole bytes first rest × IsTorn rest

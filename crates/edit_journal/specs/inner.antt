@@ -1,8 +1,8 @@
 -- Definitions for private functions and proofs. No clause of a public call needs them.
-pub mod Adding
+pub mod AppendSteps
 pub mod Fronts
 pub mod JournaledMachines
+pub mod PartReaders
 pub mod ReadBuffer
-pub mod Reading
 pub mod ReplaySteps
-pub mod Writing
+pub mod WritableParts

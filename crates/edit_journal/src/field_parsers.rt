@@ -2,8 +2,9 @@
 ghost use Rattle.std.specs.Prelude.{◌≡◌, ◌+◌, ◌≤◌, ◌<◌, ◌^◌, slice_index_or, length, take, drop};
 ghost use Rattle.std.specs.Prelude.{IsTrue, ◌↔◌};
 ghost use Rattle.httparse.specs.Grammar.{is_token_byte, AllPass};
-ghost use Rattle.edit_journal.specs.inner.Reading.{Reads, Number, Short, Block, Name, padded_u32};
-ghost use Rattle.edit_journal.specs.inner.Reading.{padded_u16};
+ghost use Rattle.edit_journal.specs.inner.PartReaders.{Reads, Number, Short, Block, Name};
+ghost use Rattle.edit_journal.specs.inner.PartReaders.{padded_u32};
+ghost use Rattle.edit_journal.specs.inner.PartReaders.{padded_u16};
 
 /// Why no part was read.
 #[derive(Clone, Copy, PartialEq, Eq)]

@@ -8,7 +8,7 @@ ghost use Rattle.edit_journal.specs.Journals.{IsJournalProgress};
 ghost use Rattle.edit_journal.specs.Limits.{max_record_bytes};
 ghost use Rattle.edit_journal.specs.Records.{IsRecordable, record_of};
 ghost use Rattle.edit_journal.specs.Logs.{Fits, HoldsRecords, AddsRecord, with_request};
-ghost use Rattle.edit_journal.specs.inner.Adding.{Mended, Added, NotAdded};
+ghost use Rattle.edit_journal.specs.inner.AppendSteps.{Repaired, Added, NotAdded};
 
 use crate::records::record_of;
 use crate::{Journal, NoMemory};
@@ -89,11 +89,11 @@ impl JournalLog {
     }
 
     // Cuts off what may come after the complete records.
-    #[tactic(auto, using(crate::proofs::Going::going))]
-    fn mend<J: Journal>(&mut self, journal: &mut J) -> Result<(), Failed>
+    #[tactic(auto, using(crate::proofs::JournalCalls::going))]
+    fn repair<J: Journal>(&mut self, journal: &mut J) -> Result<(), Failed>
         requires { Fits self.old (J.state journal.old) }
-        ensures mends_tail { OnOk result
-            (Mended self.old (J.state journal.old) self.new (J.state journal.new)) }
+        ensures repairs_tail { OnOk result
+            (Repaired self.old (J.state journal.old) self.new (J.state journal.new)) }
         ensures err_keeps_whole { OnErr result
             (NotAdded self.old (J.state journal.old) [] self.new (J.state journal.new)) }
         ensures still_fits { Fits self.new (J.state journal.new) }
@@ -132,7 +132,7 @@ impl JournalLog {
     /// # Errors
     /// `Failed` where the journal failed and its fault counter rose; the complete records are
     /// unchanged, and the log is torn. `NoMemory` when out of memory; then nothing has changed.
-    #[tactic(auto, using(crate::proofs::Going::going))]
+    #[tactic(auto, using(crate::proofs::JournalCalls::going))]
     pub fn append<J: Journal>(
         &mut self,
         alloc: Global,
@@ -155,7 +155,7 @@ impl JournalLog {
         ensures goes_on { IsJournalProgress (J.state journal.old) (J.state journal.new) }
     {
         let record = record_of(alloc, request)?;
-        self.mend(journal)?;
+        self.repair(journal)?;
         self.add(journal, record.as_slice())?;
         Ok(())
     }

@@ -32,7 +32,7 @@ pub use accept_loop::serve_streams_logged;
 pub use journal::Journal;
 pub use journal_log::{AppendFault, JournalLog};
 pub use journal_restart::{RestartFault, restart};
-pub use laws::{bytes_have_one_list, prefixes_hold_first_ones};
+pub use laws::bytes_have_one_list;
 pub use machine::LoggedMachine;
 pub use mem_journal::MemJournal;
 pub use recovery_laws::{

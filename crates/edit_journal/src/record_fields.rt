@@ -2,7 +2,8 @@
 ghost use Rattle.std.specs.Prelude.{◌≡◌, ◌≤◌, ◌<◌, ◌+◌, ◌-◌, ◌*◌, drop, take, length, IfOk, OnOk};
 ghost use Rattle.std.specs.Prelude.{if◌then◌else◌, ◌==◌};
 ghost use Rattle.http_wire.specs.Limits.{max_body_bytes, max_field_lines};
-ghost use Rattle.edit_journal.specs.inner.Reading.{Reads, Value, FieldPart, FieldsAndBody, HasRoom};
+ghost use Rattle.edit_journal.specs.inner.PartReaders.{Reads, Value, FieldPart, FieldsAndBody};
+ghost use Rattle.edit_journal.specs.inner.PartReaders.{HasRoom};
 
 use crate::field_parsers::{FieldError, after, block, name};
 use crate::limits::MAX_CONTENT;

@@ -1,7 +1,7 @@
 // Parses a record, in bytes that may break off.
 ghost use Rattle.std.specs.Prelude.{◌≡◌, ◌≤◌, ◌+◌, ◌-◌, nat_lt, if◌then◌else◌};
 ghost use Rattle.http_wire.specs.Limits.{max_body_bytes};
-ghost use Rattle.edit_journal.specs.inner.Reading.{Reads, Method, Rest, Content, Record};
+ghost use Rattle.edit_journal.specs.inner.PartReaders.{Reads, Method, Rest, Content, Record};
 
 use crate::field_parsers::{FieldError, after, block, number, short};
 use crate::limits::MAX_CONTENT;

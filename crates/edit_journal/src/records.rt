@@ -3,7 +3,7 @@ ghost use Rattle.std.specs.Prelude.{◌≡◌, ◌<◌, ◌^◌, ◌++◌, lengt
 ghost use Rattle.std.specs.Int.{to_be_bytes};
 ghost use Rattle.edit_journal.specs.Records.{method_number, block, field_text, record_content};
 ghost use Rattle.edit_journal.specs.Records.{record_of, IsRecordable};
-ghost use Rattle.edit_journal.specs.inner.Writing.{IsWritable};
+ghost use Rattle.edit_journal.specs.inner.WritableParts.{IsWritable};
 
 use http_wire::{Field, Request};
 use std::alloc::Global;

@@ -10,11 +10,11 @@ use Rattle.xml_tree.specs.Print.{print, print_content}
 use Rattle.xml_names.proofs.PrintLengths.{ascii, byte_len-append, byte_len-attr, byte_len-closing, byte_len-opening}
 use Rattle.xml_tree.proofs.PrintedNodes.{byte_len-bare, byte_len-whole}
 use Rattle.xml_tree.specs.PathTexts.{path_text, steps_text}
-use Rattle.xml_names.specs.Expanded.{name_of as in_diff}
+use Rattle.xml_names.specs.ExpandedNames.{name_of as in_diff}
 use Rattle.edit_ops.specs.declared.change.Change.{Change}
 use Rattle.edit_ops.specs.declared.change.Change.TheVariants.{CreateDocument, Insert, Replace, Remove, SetAttr, DropAttr, RemoveDocument}
 use Rattle.edit_ops.specs.Operations.{attr_name_text, attr_path_text, gap_attrs, operation_of, sel_attr, weight_of, change_operation as told, plain_attr as plain}
-use Rattle.edit_ops.specs.Recorded.{IsOfDocument}
+use Rattle.edit_ops.specs.RecordParts.{IsOfDocument}
 use Rattle.edit_ops.specs.inner.RecordLengths.{bare_len, filled_len, valued_len, written_len}
 use Rattle.edit_ops.proofs.Values.{written-append, written-path, written-quoted, written-steps}
 

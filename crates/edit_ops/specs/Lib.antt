@@ -1,10 +1,10 @@
 pub mod Changes
 pub mod ElementChanges
-pub mod Inserted
+pub mod InsertedElements
 pub mod Lengths
 pub mod MovedPaths
 pub mod Notes
 pub mod Operations
-pub mod Recorded
+pub mod RecordParts
 pub mod StagedChanges
 pub mod inner

@@ -8,7 +8,7 @@ use Rattle.xml_names.specs.declared.names.Name.{Name}
 use Rattle.xml_names.specs.declared.names.Decl.{Decl}
 use Rattle.xml_names.specs.declared.names.Attr.{Attr}
 use Rattle.xml_tree.specs.PathTexts.{path_text}
-use Rattle.xml_names.specs.Expanded.{name_of}
+use Rattle.xml_names.specs.ExpandedNames.{name_of}
 use Rattle.edit_ops.specs.declared.change.Change.{Change}
 use Rattle.edit_ops.specs.declared.change.Change.TheVariants.{CreateDocument, Insert, Replace}
 use Rattle.edit_ops.specs.declared.change.Change.TheVariants.{Remove, SetAttr, DropAttr}

@@ -5,7 +5,7 @@ ghost use Rattle.edit_ops.specs.Changes.{Fits};
 ghost use Rattle.edit_ops.specs.Lengths.{element_len};
 ghost use Rattle.edit_ops.specs.Notes.{note_of};
 ghost use Rattle.edit_ops.specs.Operations.{weight};
-ghost use Rattle.edit_ops.specs.Recorded.{IsOfDocument, made_note};
+ghost use Rattle.edit_ops.specs.RecordParts.{IsOfDocument, made_note};
 ghost use Rattle.edit_ops.specs.inner.RecordData.{IsWeighed, note_in};
 
 use crate::record_bindings::{bindings_of_place, is_fresh};
@@ -72,7 +72,7 @@ impl EditNote {
     {
         let bindings = bindings_of_place(alloc, root, &change)?;
         let fresh = is_fresh(root, &change);
-        EditNote::made(
+        EditNote::from_parts(
             alloc,
             previous,
             next,
@@ -114,7 +114,7 @@ impl EditNote {
     ///
     /// # Errors
     /// `NoMemory` when out of memory.
-    pub fn made(
+    pub fn from_parts(
         alloc: Global,
         previous: u64,
         next: u64,

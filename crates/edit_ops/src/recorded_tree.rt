@@ -1,6 +1,6 @@
 //! The element that a recorded change inserts, shared with the record.
 ghost use Rattle.std.specs.Prelude.{◌≡◌, IfErr, IfOk};
-ghost use Rattle.edit_ops.specs.Inserted.{BringsElement, inserted_part};
+ghost use Rattle.edit_ops.specs.InsertedElements.{BringsElement, inserted_part};
 
 use crate::edit_note::EditNote;
 use crate::{Change, NoMemory};
@@ -18,7 +18,7 @@ pub struct RecordedTree {
 impl Model for RecordedTree {
     ghost use Rattle.xml_tree.specs.Tree.{Tree};
     ghost use Rattle.xml_tree.specs.inner.Codes.{tree_code};
-    ghost use Rattle.edit_ops.specs.Inserted.{BringsElement, inserted_part};
+    ghost use Rattle.edit_ops.specs.InsertedElements.{BringsElement, inserted_part};
 
     ghost Value = { Tree };
 

@@ -1,5 +1,5 @@
 pub mod DropLemmas
-pub mod Judging
+pub mod ParentAnswers
 pub mod PlanAt
 pub mod PlanTag
 pub mod PlanUnder

@@ -28,13 +28,13 @@ use Rattle.usage_docs.specs.Kinds.{kind_at}
 use Rattle.edit_rules.specs.LawfulPlaces.{IsLawfulReplacement}
 use Rattle.edit_rules.specs.Plans.{IsJudged, IsTested}
 use Rattle.edit_rules.proofs.ClashesAt.{unique_there}
-use Rattle.edit_rules.proofs.Exchanged.{first_over, foreign_over, formed_over}
-use Rattle.edit_rules.proofs.Removed.{formed_without, unique_without, still_selected}
+use Rattle.edit_rules.proofs.ReplacedElements.{first_over, foreign_over, formed_over}
+use Rattle.edit_rules.proofs.RemovedElements.{formed_without, unique_without, still_selected}
 use Rattle.edit_rules.proofs.StaysSelected.{lawful_over}
 use Rattle.edit_rules.proofs.ValidInside.{valid_over, valid_without}
 use Rattle.edit_plans.specs.inner.ChildChanges.{FormedIn, IsExchangedIn, IsRemovedIn, IsSelected, NoClash}
 use Rattle.edit_plans.specs.inner.CheckedChanges.{IsTestedAs, allowed_change}
-use Rattle.edit_plans.proofs.Judging.{judged_from, made_tested}
+use Rattle.edit_plans.proofs.ParentAnswers.{judged_from, made_tested}
 use Rattle.edit_plans.proofs.PlanUnder.{last_step_is}
 use Rattle.edit_plans.proofs.SpotLemmas.{parts}
 

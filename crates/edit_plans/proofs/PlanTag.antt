@@ -30,13 +30,13 @@ use Rattle.edit_rules.specs.Plans.{IsJudged, IsTested}
 use Rattle.edit_rules.specs.Tags.{AttrsFormed, tag_with, with_attrs}
 use Rattle.edit_rules.specs.inner.Tags.{value_in}
 use Rattle.edit_rules.proofs.Places.{as_exchange}
-use Rattle.edit_rules.proofs.Removed.{no_shorter}
-use Rattle.edit_rules.proofs.Reselected.{any_found, found_any, finds, found_from, found_to, only_retag, only_root, scope_retag, selected_retag, selected_root, there_retag}
-use Rattle.edit_rules.proofs.Retagged.{first_retag, foreign_retag, formed_retag, valid_retag, valid_root}
+use Rattle.edit_rules.proofs.RemovedElements.{no_shorter}
+use Rattle.edit_rules.proofs.TagSelection.{any_found, found_any, finds, found_from, found_to, only_retag, only_root, scope_retag, selected_retag, selected_root, there_retag}
+use Rattle.edit_rules.proofs.TagChanges.{first_retag, foreign_retag, formed_retag, valid_retag, valid_root}
 use Rattle.edit_plans.specs.declared.child_attributes.AttributeEdit.{AttributeEdit}
 use Rattle.edit_plans.specs.inner.ChildChanges.{HasRoom, IsRetaggedIn, IsRootRetagged, not_found_refusal}
 use Rattle.edit_plans.specs.inner.CheckedChanges.{AsSought, IsRetaggedAt, IsTestedAs, allowed_change}
-use Rattle.edit_plans.proofs.Judging.{judged_from, made_tested}
+use Rattle.edit_plans.proofs.ParentAnswers.{judged_from, made_tested}
 use Rattle.edit_plans.proofs.PlanAt.{HasParent, child_at}
 
 -- ---- what is found as it should be

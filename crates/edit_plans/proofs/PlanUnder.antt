@@ -2,7 +2,7 @@
 -- every insertion point is tried and selected again.
 use Rattle.std.proofs.Common.{◌≡◌, inl, inr, ◌+◌, ◌≤◌, ℕ, List, [], ◌∷◌, ◌++◌, length, length-append, get_or, Option, Some, None, IsSome, Result, Ok, Err, refl, sym, ap, ◌∙◌, subst, arith}
 use Rattle.node_select.specs.InsertionPoints.{IsLawfulInsertion, PlanIs}
-use Rattle.node_select.proofs.Planned.{plan_alike}
+use Rattle.node_select.proofs.GapPlans.{plan_alike}
 use Rattle.doc_names.specs.declared.usages.Usage.{Usage}
 use Rattle.xml_tree.specs.Tree.{Tree, at, child_elements_of}
 use Rattle.xml_tree.specs.Edits.{put_in}
@@ -31,7 +31,7 @@ use Rattle.edit_rules.proofs.ValidBeside.{valid_beside}
 use Rattle.edit_plans.specs.inner.ChildChanges.{FormedIn, FromGapIn, IsJudgedIn, IsPlacedIn}
 use Rattle.edit_plans.specs.inner.Neighbours.{FitsIn}
 use Rattle.edit_plans.specs.inner.CheckedChanges.{IsTold, element_insertion}
-use Rattle.edit_plans.proofs.Judging.{judged_from}
+use Rattle.edit_plans.proofs.ParentAnswers.{judged_from}
 
 same_number : (gap n : ℕ) → ◌≡◌ {A = Result ℕ EditRefusal} (Ok gap) (Ok n) → n ≡ gap
 same_number gap n h = cc

@@ -5,7 +5,7 @@ use Rattle.std.proofs.lemmas.Option.{same_Some, slice_get_within}
 use Rattle.std.specs.Option.{ForSome}
 use Rattle.node_select.specs.Edits.{IsNextMatch}
 use Rattle.node_select.specs.StepSelection.{Matches, Selects}
-use Rattle.node_select.proofs.Edited.{removed_none, removed_next}
+use Rattle.node_select.proofs.EditedSelection.{removed_none, removed_next}
 use Rattle.xml_tree.specs.Tree.{Content, Tree, child_elements}
 use Rattle.node_select.specs.declared.selector.Step.{Step}
 use Rattle.node_select.specs.Selection.{SelectsChild, is_named, is_tested}
@@ -15,8 +15,8 @@ use Rattle.usage_docs.specs.readers.Parts.{follows, end}
 use Rattle.usage_docs.specs.readers.Gaps.{part_before, part_after}
 use Rattle.edit_rules.specs.Removals.{StillSelects, ClosesUp}
 use Rattle.edit_plans.specs.inner.Neighbours.{part_in}
-use Rattle.edit_rules.proofs.Removed.{get_removed}
-use Rattle.edit_plans.proofs.Judging.{true_false}
+use Rattle.edit_rules.proofs.RemovedElements.{get_removed}
+use Rattle.edit_plans.proofs.ParentAnswers.{true_false}
 use Rattle.edit_plans.proofs.SideLemmas.{after_end, after_kid}
 
 -- ---- the next match

@@ -1,6 +1,6 @@
 -- The siblings of a new element, as the code represents them.
 use Rattle.std.proofs.Common.{◌≡◌, ◌≤◌, ℕ, List, length, remove, Option, Some, None, slice_get, sym, ap, ◌∙◌, subst}
-use Rattle.node_select.proofs.Inserted.{length_removed}
+use Rattle.node_select.proofs.ListEdits.{length_removed}
 use Rattle.xml_tree.specs.Tree.{Tree, child_elements_of}
 use Rattle.usage_docs.specs.declared.schema_table.ElementKind.{ElementKind}
 use Rattle.usage_docs.specs.SchemaTable.{Scope}

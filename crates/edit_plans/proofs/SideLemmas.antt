@@ -7,7 +7,7 @@ use Rattle.std.proofs.lemmas.Option.{same_Some, none-some, slice_get_within}
 use Rattle.std.proofs.lemmas.Bool.{cases_lt}
 use Rattle.node_select.specs.StepSelection.{IsAtPosition, Matches, is_at_position}
 use Rattle.node_select.specs.InsertionPoints.{IsFree, IsLawfulInsertion, PlanIs}
-use Rattle.node_select.proofs.Selecting.{is_at_position_is}
+use Rattle.node_select.proofs.SelectionAgreement.{is_at_position_is}
 use Rattle.node_select.proofs.GapLaws.{lawful_by_count, lawful_free}
 use Rattle.xml_tree.specs.Tree.{Content, last, more, comment_node, Tree, tree_of, child_elements}
 use Rattle.usage_docs.specs.declared.schema_table.ElementKind.{ElementKind}
@@ -16,7 +16,7 @@ use Rattle.usage_docs.specs.readers.Parts.{follows, end}
 use Rattle.usage_docs.specs.Validity.{ValidChild}
 use Rattle.usage_docs.specs.readers.Gaps.{FollowsGap, part_of_child, part_before, part_after}
 use Rattle.edit_plans.specs.inner.Neighbours.{part_in, fits_between, FitsIn, FitsOver, FitsPlace}
-use Rattle.edit_plans.proofs.Judging.{true_false}
+use Rattle.edit_plans.proofs.ParentAnswers.{true_false}
 
 -- ---- the children beside an insertion point
 

@@ -4,7 +4,7 @@ use Rattle.std.proofs.Common.{◌≡◌, ◌⊎◌, inl, inr, ℕ, zero, suc, �
 use Rattle.std.proofs.lemmas.Bool.{cases_lt}
 use Rattle.xml_tree.specs.Tree.{Tree}
 use Rattle.node_select.specs.Selection.{IsLongestMatch, SelectsPath, selected_in}
-use Rattle.node_select.proofs.Reaching.{path_is}
+use Rattle.node_select.proofs.ReachLemmas.{path_is}
 use Rattle.std.proofs.lemmas.Option.{none-some}
 use Rattle.node_select.specs.declared.selector.Step.{Step}
 use Rattle.node_select.specs.declared.selector.End.{End}

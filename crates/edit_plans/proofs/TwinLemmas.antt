@@ -13,7 +13,7 @@ use Rattle.usage_docs.specs.Kinds.{kind_of_child}
 use Rattle.edit_rules.specs.NewElements.{IsDuplicate, NoDuplicate}
 use Rattle.edit_plans.specs.declared.siblings.DuplicateKey.{DuplicateKey}
 use Rattle.edit_rules.proofs.ClashesBeside.{one_twin}
-use Rattle.edit_rules.proofs.Removed.{get_removed, old_clash}
+use Rattle.edit_rules.proofs.RemovedElements.{get_removed, old_clash}
 use Rattle.edit_plans.specs.inner.ChildChanges.{among, others}
 
 -- ---- a mark and its parts

@@ -5,7 +5,7 @@ ghost use Rattle.xml_tree.specs.TreeScopes.{inside};
 ghost use Rattle.std.specs.List.{find};
 ghost use Rattle.std.specs.Option.{option_copied};
 ghost use Rattle.node_select.specs.Selection.{is_attr};
-ghost use Rattle.edit_rules.specs.Tags.{AttrsFormed, AttrsPass, attrs_formed};
+ghost use Rattle.edit_rules.specs.Tags.{AttrsFormed, AttrsPass, are_attrs_formed};
 ghost use Rattle.edit_plans.specs.inner.ChildChanges.{HasRoom, IsFoundIn, IsRetaggedIn, IsSelected};
 ghost use Rattle.edit_plans.specs.inner.ChildChanges.{not_found_refusal};
 
@@ -130,8 +130,8 @@ fn attrs_pass_in(
 }
 
 // Whether the reference among the attributes of an element of this kind has its form.
-fn attrs_formed(kind: ElementKind, tag: &Element) -> bool
-    ensures exact { result ≡ attrs_formed kind tag.now.attrs }
+fn are_attrs_formed(kind: ElementKind, tag: &Element) -> bool
+    ensures exact { result ≡ are_attrs_formed kind tag.now.attrs }
 {
     match kind {
         ElementKind::ResourceList => true,
@@ -155,7 +155,7 @@ fn attrs_formed_in(
     let inside = (&*scope).inside(&declared);
     match kind_of(row, &inside, tag.name()) {
         None => true,
-        Some(kind) => attrs_formed(kind, tag),
+        Some(kind) => are_attrs_formed(kind, tag),
     }
 }
 

@@ -3,7 +3,7 @@ use Rattle.std.proofs.Common.{◌≡◌, ◌⊎◌, inl, inr, ℕ, ◌<◌, ◌+
 use Rattle.std.proofs.lemmas.Bool.{cases_order}
 use Rattle.std.proofs.lemmas.Option.{same_Some}
 use Rattle.node_select.specs.InsertionPoints.{PlanIs}
-use Rattle.node_select.proofs.Planned.{one_plan}
+use Rattle.node_select.proofs.GapPlans.{one_plan}
 use Rattle.doc_names.specs.declared.usages.Usage.{Usage}
 use Rattle.xml_tree.specs.Tree.{Tree, at, child_elements_of}
 use Rattle.xml_tree.specs.Edits.{put_in}

@@ -5,7 +5,7 @@ use Rattle.std.specs.List.{list_any}
 use Rattle.std.proofs.Common.{◌≡◌, ◌⊎◌, inl, inr, ◌↔◌, ℕ, zero, suc, ◌+◌, Bool, true, false, List, [], ◌∷◌, ◌++◌, length, find, Option, Some, None, IsSome, IsTrue, option_map, Result, Ok, Err, refl, sym, ap, ◌∙◌, subst, add-one}
 use Rattle.std.proofs.lemmas.Option.{same_Some}
 use Rattle.node_select.specs.InsertionPoints.{PlanIs, plan_with}
-use Rattle.node_select.proofs.Planned.{plan_more, plan_none}
+use Rattle.node_select.proofs.GapPlans.{plan_more, plan_none}
 use Rattle.doc_names.specs.declared.usages.Usage.{Usage}
 use Rattle.xml_tree.specs.Tree.{Tree, at, child_elements_of}
 use Rattle.xml_tree.specs.Edits.{put_in}
@@ -18,7 +18,7 @@ use Rattle.node_select.specs.declared.selector.End.{End}
 use Rattle.node_select.specs.declared.selector.End.TheVariants as ends
 use Rattle.node_select.specs.declared.selector.Selector.{Selector}
 use Rattle.node_select.proofs.Along.{one_path, path_there}
-use Rattle.node_select.proofs.Reaching.{longest_is, path_is}
+use Rattle.node_select.proofs.ReachLemmas.{longest_is, path_is}
 use Rattle.usage_docs.specs.Validation.{HasFirstFault}
 use Rattle.usage_docs.specs.declared.validation.Fault.{Fault}
 use Rattle.usage_docs.specs.declared.validation.Fault.TheVariants.{Invalid, Unformed, Repeated}

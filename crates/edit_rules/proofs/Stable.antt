@@ -3,7 +3,7 @@ use Rattle.std.proofs.Common.{◌≡◌, ℕ, zero, suc, List, [], ◌∷◌, Op
 use Rattle.std.specs.List.{AllByRecursion}
 use Rattle.std.proofs.lemmas.Option.{same_Some}
 use Rattle.xml_tree.specs.Tree.{Tree, child_elements_of}
-use Rattle.xml_names.specs.Expanded.{element_name}
+use Rattle.xml_names.specs.ExpandedNames.{element_name}
 use Rattle.xml_tree.specs.Proper.{ProperIn}
 use Rattle.xml_names.specs.declared.names.Decl.{Decl}
 use Rattle.xml_names.specs.declared.names.Name.{Name}
@@ -21,7 +21,7 @@ use Rattle.edit_rules.specs.KeyAddresses.{AreKeySteps, HaveKinds, IsKeyAddressOf
 use Rattle.edit_rules.proofs.Marks.{AskFor, marks_along}
 use Rattle.edit_rules.specs.KeyWrites.{WritesKeyOn}
 use Rattle.edit_rules.proofs.Along.{marks_have_kinds, marks_select, root_kids_proper, steps_ask}
-use Rattle.edit_rules.proofs.Moving.{marks_moved, root_kept}
+use Rattle.edit_rules.proofs.MovedMarks.{marks_moved, root_kept}
 
 -- the marks along a path of a document
 abbrev pub marks_at : Usage → Tree → List ℕ → Option (List Mark)

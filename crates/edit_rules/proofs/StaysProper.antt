@@ -13,9 +13,9 @@ use Rattle.xml_tree.specs.Tree.{Tree, at, height, child_elements_of, tree_of}
 use Rattle.xml_names.specs.Attributes.{remove_first, same_name, with_new_value, with_attr, without_attr}
 use Rattle.xml_names.specs.Attributes as attributes
 use Rattle.xml_tree.specs.Edits.{change_at, drop_attr, own_number, parent_path, put_in, write_attr}
-use Rattle.xml_names.specs.Expanded.{ExpandedName, attr_name, same_expanded, same_uri}
+use Rattle.xml_names.specs.ExpandedNames.{ExpandedName, attr_name, same_expanded, same_uri}
 use Rattle.xml_tree.specs.Proper.{IsAttribute, IsTag, IsProperPart, ProperIn, is_declaration, is_prefix, may_stand}
-use Rattle.xml_names.specs.Scopes.{bound, declared, joined, some_text, xml_prefix}
+use Rattle.xml_names.specs.Scopes.{bound, declared_uri, joined, some_text, xml_prefix}
 use Rattle.xml_tree.specs.TreeScopes.{scope_around, scope_at}
 use Rattle.xml_names.specs.declared.names.Name.{Name}
 use Rattle.xml_names.specs.declared.names.Attr.{Attr}
@@ -121,19 +121,19 @@ second_holds true b h = h
 second_holds false b h = cc
 
 -- a prefix that is declared is an NCName or empty
-declared_prefix : (ds : List Decl) (p uri : List ℕ) → AllDeclared ds → declared ds p ≡ Some uri → IsTrue (is_prefix p)
+declared_prefix : (ds : List Decl) (p uri : List ℕ) → AllDeclared ds → declared_uri ds p ≡ Some uri → IsTrue (is_prefix p)
 unfolding AllDeclared
 declared_prefix [] p uri all h = cc
-declared_prefix (d ∷ ds) p uri all h = by (declared ds p) refl (bytes_eq d.prefix p) refl (declared_prefix ds p uri all.1)
+declared_prefix (d ∷ ds) p uri all h = by (declared_uri ds p) refl (bytes_eq d.prefix p) refl (declared_prefix ds p uri all.1)
   where
-    by : (o : Option (List ℕ)) → declared ds p ≡ o → (b : Bool) → bytes_eq d.prefix p ≡ b → (declared ds p ≡ Some uri → IsTrue (is_prefix p)) → IsTrue (is_prefix p)
-    by (Some v) e b eq rest = rest (let here : option_or (Some v) (cond b (Some d.uri) None) ≡ Some uri = sym (ap (λ (o : Option (List ℕ)). option_or o (cond b (Some d.uri) None)) e) ∙ sym (ap (λ (x : Bool). option_or (declared ds p) (cond x (Some d.uri) None)) eq) ∙ h in e ∙ here)
+    by : (o : Option (List ℕ)) → declared_uri ds p ≡ o → (b : Bool) → bytes_eq d.prefix p ≡ b → (declared_uri ds p ≡ Some uri → IsTrue (is_prefix p)) → IsTrue (is_prefix p)
+    by (Some v) e b eq rest = rest (let here : option_or (Some v) (cond b (Some d.uri) None) ≡ Some uri = sym (ap (λ (o : Option (List ℕ)). option_or o (cond b (Some d.uri) None)) e) ∙ sym (ap (λ (x : Bool). option_or (declared_uri ds p) (cond x (Some d.uri) None)) eq) ∙ h in e ∙ here)
     by None e true eq rest =
         let same : d.prefix ≡ p = (bytes_decides d.prefix p).0 eq in
         let good : IsTrue (is_prefix d.prefix) = first_holds (is_prefix d.prefix) (all_chars d.uri) (first_holds (is_prefix d.prefix && all_chars d.uri) (may_stand d) all.0) in
         subst (λ (x : List ℕ). IsTrue (is_prefix x)) same good
     by None e false eq rest =
-        let here : option_or None (cond false (Some d.uri) None) ≡ Some uri = sym (ap (λ (o : Option (List ℕ)). option_or o (cond false (Some d.uri) None)) e) ∙ sym (ap (λ (x : Bool). option_or (declared ds p) (cond x (Some d.uri) None)) eq) ∙ h in
+        let here : option_or None (cond false (Some d.uri) None) ≡ Some uri = sym (ap (λ (o : Option (List ℕ)). option_or o (cond false (Some d.uri) None)) e) ∙ sym (ap (λ (x : Bool). option_or (declared_uri ds p) (cond x (Some d.uri) None)) eq) ∙ h in
         let z : None ≡ Some uri = here in cc
 
 some_text_is : (o : Option (List ℕ)) (uri : List ℕ) → some_text o ≡ Some uri → (v : List ℕ) × (o ≡ Some v)
@@ -149,7 +149,7 @@ bound_prefix c p uri all h = by (bytes_eq p xml_prefix) refl
     by : (b : Bool) → bytes_eq p xml_prefix ≡ b → IsTrue (is_prefix p)
     by true e = subst (λ (x : List ℕ). IsTrue (is_prefix x)) (sym ((bytes_decides p xml_prefix).0 e)) xml_is_prefix
     by false e =
-        let v = some_text_is (declared (joined c) p) uri (rw e at h) in
+        let v = some_text_is (declared_uri (joined c) p) uri (rw e at h) in
         declared_prefix (joined c) p v.0 all v.1
 
 -- ---- names of attributes

@@ -4,8 +4,8 @@ use Rattle.std.proofs.Common.{◌≡◌, ◌↔◌, ◌≤◌, ℕ, zero, suc, B
 use Rattle.std.proofs.lemmas.Option.{same_Some}
 use Rattle.node_select.specs.StepSelection.{AreAlike, Selects}
 use Rattle.node_select.specs.InsertionPoints.{IsLawfulInsertion}
-use Rattle.node_select.proofs.Selecting.{select_alike}
-use Rattle.node_select.proofs.Edited.{replaced}
+use Rattle.node_select.proofs.SelectionAgreement.{select_alike}
+use Rattle.node_select.proofs.EditedSelection.{replaced}
 use Rattle.xml_tree.specs.Tree.{Content, last, more, comment_node, Tree, tree_of, child_elements, child_elements_of, at}
 use Rattle.xml_tree.specs.Edits.{change, change_at, change_child, put_in, put_kid, put_over}
 use Rattle.xml_tree.specs.TreeScopes.{scope_at, scope_below, inside}

@@ -7,7 +7,7 @@ use Rattle.std.proofs.lemmas.Slice.Eq.{bytes_eq-Decides}
 use Rattle.std.proofs.lemmas.Map.Keys.{IsDistinct-head, IsDistinct-tail}
 use Rattle.std.proofs.lemmas.Option.{same_Some}
 use Rattle.xml_tree.specs.Tree.{Tree}
-use Rattle.xml_names.specs.Expanded.{attr_name, element_name, same_expanded}
+use Rattle.xml_names.specs.ExpandedNames.{attr_name, element_name, same_expanded}
 use Rattle.xml_tree.specs.Proper.{IsAttribute, IsTag}
 use Rattle.xml_names.specs.Scopes.{bound, some_text, xml_uri}
 use Rattle.xml_tree.specs.TreeScopes.{inside}

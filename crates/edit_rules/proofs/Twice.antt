@@ -6,7 +6,7 @@ use Rattle.std.specs.Prelude.{◌&&◌}
 use Rattle.std.specs.Cmp.Lexicographic.{bytes_decides}
 use Rattle.std.proofs.lemmas.Option.{same_Some}
 use Rattle.node_select.specs.InsertionPoints.{PlanIs}
-use Rattle.node_select.proofs.Inserted.{get-insert_at}
+use Rattle.node_select.proofs.ListEdits.{get-insert_at}
 use Rattle.doc_names.specs.declared.usages.Usage.{Usage}
 use Rattle.xml_tree.specs.Tree.{Tree, at, child_elements_of, tree_of}
 use Rattle.xml_names.specs.Attributes.{same_name, with_new_value, with_attr}

@@ -13,7 +13,7 @@ use Rattle.usage_docs.specs.declared.schema_table.ElementKind.{ElementKind}
 use Rattle.usage_docs.specs.SchemaTable.{Scope, root_kind}
 use Rattle.usage_docs.specs.readers.Parts.{part_of, follows}
 use Rattle.usage_docs.specs.Validity.{AllKeep, KeepsRow, IsValidDocument, ValidChild, text_passes}
-use Rattle.usage_docs.proofs.Walking.{kept_walked, walk_kept}
+use Rattle.usage_docs.proofs.ChildWalks.{kept_walked, walk_kept}
 use Rattle.usage_docs.specs.readers.Walks.{Walks}
 use Rattle.usage_docs.specs.readers.Gaps.{part_before, part_after, part_of_child}
 use Rattle.usage_docs.proofs.BlankTexts.{passes_append}

@@ -7,10 +7,10 @@ use Rattle.std.proofs.Common.{◌≡◌, ◌⊎◌, inl, inr, ℕ, Bool, true, f
 use Rattle.std.proofs.lemmas.List.{append-nil}
 use Rattle.std.proofs.lemmas.Option.{same_Some}
 use Rattle.xml_grammar.specs.Rules.{AllPass, Event, Mark, Rule, Split, keeping_second, empty, judged, only, optional, sequence, valued, word}
-use Rattle.xml_grammar.specs.Reading.{Stop}
+use Rattle.xml_grammar.specs.TextReading.{Stop}
 use Rattle.xml_grammar.specs.Answers.{Answers, IsCalm}
 use Rattle.xml_names.specs.Characters.{is_name, is_name_char, is_name_start}
-use Rattle.xml_names.specs.Scopes.{bound, declared, joined, some_text, xml_prefix, xml_uri, xmlns_prefix}
+use Rattle.xml_names.specs.Scopes.{bound, declared_uri, joined, some_text, xml_prefix, xml_uri, xmlns_prefix}
 use Rattle.xml_names.specs.declared.names.Name.{Name}
 use Rattle.xml_names.specs.declared.names.Decl.{Decl}
 use Rattle.xml_tokens.specs.readers.Words.{colon}
@@ -18,7 +18,7 @@ use Rattle.xml_tokens.specs.Values.{qname_of}
 use Rattle.xml_tokens.specs.Tokens.{name, qname}
 use Rattle.xml_tokens.specs.declared.fault_kind.FaultKind.{FaultKind}
 use Rattle.xml_tokens.specs.declared.fault_kind.FaultKind.TheVariants.{Unbound}
-use Rattle.xml_tokens.proofs.Passing.{pass_all}
+use Rattle.xml_tokens.proofs.CharacterTests.{pass_all}
 use Rattle.node_select.specs.Faults.{IsSelectorAnswer, marks, selector_result as told}
 use Rattle.node_select.specs.Grammar.{IsUnbound, attribute, end, names_attribute, selector, steps}
 use Rattle.node_select.specs.readers.SelectorValues.{end_or_element}
@@ -169,7 +169,7 @@ is_bound_some c p w h = by (bytes_eq p xml_prefix) refl
   where
     by : (b : Bool) → bytes_eq p xml_prefix ≡ b → w ≢ []
     by true e = λ none. xml_some (same_Some xml_uri w (rw e at h) ∙ none)
-    by false e = bound_some (declared (joined c) p) w (rw e at h)
+    by false e = bound_some (declared_uri (joined c) p) w (rw e at h)
 
 prefix_some : (bindings : List Decl) (p w : List ℕ) → prefix_uri bindings p ≡ Some w → w ≢ []
 prefix_some bindings p w h = by (bytes_eq p xmlns_prefix) refl

@@ -3,7 +3,7 @@
 use Rattle.std.specs.Prelude.{◌≡◌, ℕ, List, [], ◌∷◌, None, Some, slice_get}
 use Rattle.std.specs.List.{AllByRecursion}
 use Rattle.xml_tree.specs.Tree.{Tree, child_elements_of}
-use Rattle.xml_names.specs.Expanded.{element_name}
+use Rattle.xml_names.specs.ExpandedNames.{element_name}
 use Rattle.xml_tree.specs.Proper.{ProperIn}
 use Rattle.xml_tree.specs.TreeScopes.{inside}
 use Rattle.node_select.specs.Names.{uri_of}

@@ -27,12 +27,12 @@ AttrsPass row c tag =
 
 -- the reference among the attributes of an element of this kind has its form; a resource-list's
 -- reference is its text
-unfoldable pub attrs_formed : ElementKind → List Attr → Bool
-attrs_formed ResourceList ats = true
-attrs_formed kind ats = is_formed kind ats (last [])
+unfoldable pub are_attrs_formed : ElementKind → List Attr → Bool
+are_attrs_formed ResourceList ats = true
+are_attrs_formed kind ats = is_formed kind ats (last [])
 
 -- the reference of the element has its form, if it has a kind
 abbrev pub AttrsFormed : Option ElementKind → Scope → Tree → Type 0
 AttrsFormed row c tag =
     ForSome row (λ kind.
-    ForSome (kind_of_child kind c tag) (λ own. IsTrue (attrs_formed own tag.attrs)))
+    ForSome (kind_of_child kind c tag) (λ own. IsTrue (are_attrs_formed own tag.attrs)))

@@ -7,7 +7,7 @@ use Rattle.std.specs.Str.{bytes_eq}
 use Rattle.std.proofs.lemmas.Option.{same_Some}
 use Rattle.std.proofs.lemmas.Slice.Eq.{bytes_eq-Decides}
 use Rattle.xml_tree.specs.Tree.{Tree, child_elements_of}
-use Rattle.xml_names.specs.Expanded.{element_name}
+use Rattle.xml_names.specs.ExpandedNames.{element_name}
 use Rattle.node_select.specs.Names.{uri_of}
 use Rattle.node_select.specs.Selection.{is_named, SelectsAmong, SelectsChild, SelectsPath}
 use Rattle.node_select.specs.declared.selector.NameTest.{NameTest}

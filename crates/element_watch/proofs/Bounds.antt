@@ -11,9 +11,9 @@ use Rattle.edit_ops.specs.declared.change.Change.{Change}
 use Rattle.edit_ops.specs.declared.change.Change.TheVariants.{CreateDocument, Insert, Replace, Remove, SetAttr, DropAttr, RemoveDocument}
 use Rattle.edit_ops.proofs.WayLemmas.{behind-whole}
 use Rattle.edit_ops.specs.Notes.{Note}
-use Rattle.edit_ops.specs.Recorded.{all_notes}
+use Rattle.edit_ops.specs.RecordParts.{all_notes}
 use Rattle.element_watch.specs.TouchedElements.{PassesThrough}
-use Rattle.element_watch.proofs.Coming.{leads_is}
+use Rattle.element_watch.proofs.EarlierPlaces.{leads_is}
 use Rattle.element_watch.specs.inner.PathHistory.{back, came_from, is_below_root, re_routed_if, without_gap}
 
 -- ---- a place by its parent and its number

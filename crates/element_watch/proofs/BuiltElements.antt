@@ -3,7 +3,7 @@ use Rattle.std.proofs.Common.{◌≡◌, ℕ, Bool, List, [], ◌∷◌, ◌++�
 use Rattle.std.specs.Str.{chars}
 use Rattle.xml_tree.specs.Tree.{Tree, last, tree_of}
 use Rattle.xml_names.specs.declared.names.Attr.{Attr}
-use Rattle.xml_names.specs.Expanded.{name_of as in_diff}
+use Rattle.xml_names.specs.ExpandedNames.{name_of as in_diff}
 use Rattle.edit_ops.specs.Operations.{plain_attr as plain}
 use Rattle.patch_rules.specs.Notices.{candidate, diff}
 use Rattle.patch_rules.specs.inner.Lists.{with_all}

@@ -19,7 +19,7 @@ use Rattle.edit_rules.specs.KeyWrites.{WritesKeyOn}
 use Rattle.store_core.specs.ValidStates.{FollowFrom, IsSound}
 use Rattle.store_core.specs.State.{Version}
 use Rattle.store_core.proofs.Chains.{notes_of}
-use Rattle.element_watch.specs.Finding.{Finds}
+use Rattle.element_watch.specs.SelectionHistory.{Finds}
 use Rattle.element_watch.specs.TouchedElements.{Passes, PassesThrough, Touches, moved_through}
 use Rattle.edit_rules.proofs.Stable.{before_change}
 

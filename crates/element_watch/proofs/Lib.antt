@@ -2,10 +2,10 @@ pub mod Addresses
 pub mod Bounds
 pub mod BuiltElements
 pub mod Chain
-pub mod Coming
+pub mod EarlierPlaces
+pub mod ElementFindings
 pub mod ElementWords
 pub mod SinceTag
 pub mod SmallPaths
 pub mod States
-pub mod Telling
 pub mod Ways

@@ -25,10 +25,10 @@ use Rattle.store_core.specs.ValidStates.{IsKept, IsSound, IsSoundFor, IsValidSta
 use Rattle.store_core.specs.Since.{ReportedChanges, notes_from, since}
 use Rattle.store_core.specs.inner.ChangesSince.{held_since, changes_since_of}
 use Rattle.store_core.specs.State.{Document, State, Version, is_small, notes, retained, small_end, versions}
-use Rattle.store_core.proofs.Accepted.{find-map}
-use Rattle.store_core.proofs.Asked.{found-name}
+use Rattle.store_core.proofs.AcceptedChanges.{find-map}
+use Rattle.store_core.proofs.ChangePremises.{found-name}
 use Rattle.store_core.proofs.Chains.{notes_of}
-use Rattle.element_watch.specs.Finding.{FindFrom, FindSince, Finds, notes_behind}
+use Rattle.element_watch.specs.SelectionHistory.{FindFrom, FindSince, Finds, notes_behind}
 use Rattle.element_watch.specs.TouchedElements.{PassesThrough}
 use Rattle.element_watch.specs.WatchedElements.{IsElementNotice, IsQuiet, IsStateOf, silent_notice}
 use Rattle.element_watch.proofs.Chain.{begins_with, found_in_each}

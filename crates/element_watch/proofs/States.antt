@@ -10,7 +10,7 @@ use Rattle.doc_names.specs.declared.usages.Usage.{Usage}
 use Rattle.node_select.specs.Selection.{SelectsPath, selected_in}
 use Rattle.node_select.specs.declared.selector.Selector.{Selector}
 use Rattle.node_select.proofs.Along.{one_path}
-use Rattle.node_select.proofs.Reaching.{path_is}
+use Rattle.node_select.proofs.ReachLemmas.{path_is}
 use Rattle.edit_ops.specs.Notes.{Note}
 use Rattle.element_watch.specs.Elements.{element_notice}
 use Rattle.patch_rules.specs.inner.Lists.{is_none}
@@ -25,7 +25,7 @@ use Rattle.element_watch.specs.inner.PathHistory.{back}
 use Rattle.element_watch.specs.inner.KeyAddresses.{is_key_address}
 use Rattle.element_watch.specs.inner.ElementStates.{is_untouched, is_untouched_at, state_at, state_in}
 use Rattle.element_watch.proofs.Addresses.{address_is}
-use Rattle.element_watch.proofs.Coming.{leads_is}
+use Rattle.element_watch.proofs.EarlierPlaces.{leads_is}
 
 -- ---- tests
 

@@ -2,7 +2,7 @@
 -- by its address and says whether it exists.
 use Rattle.std.specs.Prelude.{ℕ, Bool, true, false, codes, List, [], ◌∷◌, ◌++◌}
 use Rattle.xml_tree.specs.Tree.{last, Tree, tree_of}
-use Rattle.xml_names.specs.Expanded.{name_of}
+use Rattle.xml_names.specs.ExpandedNames.{name_of}
 use Rattle.edit_ops.specs.Operations.{plain_attr}
 use Rattle.patch_rules.specs.Notices.{candidate, diff}
 use Rattle.element_watch.specs.declared.element_states.ElementState.{ElementState}

@@ -1,5 +1,5 @@
 pub mod Elements
-pub mod Finding
+pub mod SelectionHistory
 pub mod TouchedElements
 pub mod WatchedElements
 pub mod inner

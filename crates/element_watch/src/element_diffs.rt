@@ -3,7 +3,7 @@ ghost use Rattle.std.specs.Prelude.{◌≡◌, ◌≤◌, ◌+◌, All, Some, If
 ghost use Rattle.xml_names.specs.Limits.{max_levels};
 ghost use Rattle.xml_tree.specs.Tree.{height};
 ghost use Rattle.node_select.specs.Selection.{SelectsPath};
-ghost use Rattle.edit_ops.specs.Recorded.{all_notes};
+ghost use Rattle.edit_ops.specs.RecordParts.{all_notes};
 ghost use Rattle.store_core.specs.Limits.{max_notes};
 ghost use Rattle.store_core.specs.ValidStates.{IsSoundFor};
 ghost use Rattle.store_core.specs.Since.{ReportedChanges, since};

@@ -13,7 +13,7 @@ ghost use Rattle.store_core.specs.ValidStates.{IsValidState};
 ghost use Rattle.store_core.specs.Since.{ReportedChanges, since};
 ghost use Rattle.store_core.specs.State.{State};
 ghost use Rattle.element_watch.specs.declared.element_states.ElementState.{ElementState};
-ghost use Rattle.element_watch.specs.Finding.{FindSince};
+ghost use Rattle.element_watch.specs.SelectionHistory.{FindSince};
 ghost use Rattle.element_watch.specs.TouchedElements.{PassesThrough};
 ghost use Rattle.element_watch.specs.WatchedElements.{IsElementNotice, IsStateOf, WatchedElement};
 ghost use Rattle.element_watch.specs.WatchedElements.{silent_notice};

@@ -4,7 +4,7 @@ ghost use Rattle.std.specs.Prelude.{is_some, length, not, option_and_then, if◌
 ghost use Rattle.store_core.specs.Limits.{max_notes};
 ghost use Rattle.edit_ops.specs.MovedPaths.{behind, made_room, under};
 ghost use Rattle.edit_ops.specs.declared.change.Change.TheVariants.{Remove};
-ghost use Rattle.edit_ops.specs.Recorded.{all_notes};
+ghost use Rattle.edit_ops.specs.RecordParts.{all_notes};
 ghost use Rattle.element_watch.specs.TouchedElements.{PassesThrough};
 ghost use Rattle.element_watch.specs.inner.PathHistory.{back, came_from, is_touched, re_routed_if};
 ghost use Rattle.element_watch.specs.inner.PathHistory.{without_gap};

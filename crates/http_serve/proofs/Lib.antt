@@ -1,6 +1,6 @@
-pub mod Answering
 pub mod Faults
 pub mod Ports
 pub mod Rooms
 pub mod Simulations
-pub mod Turning
+pub mod TurnAnswers
+pub mod TurnLemmas

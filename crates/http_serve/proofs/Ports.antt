@@ -7,14 +7,14 @@ use Rattle.xcap_io.specs.Connections.{Comes, Next, NextFailed, OnlyNext, carried
 use Rattle.xcap_io.specs.Histories.{Traffic, carried_by}
 use Rattle.xcap_io.specs.StreamTraffic.{Gave, IsTruthful, Took}
 use Rattle.http_wire.specs.declared.request.Request.{Request}
-use Rattle.http_wire.specs.Serving.{HasBytes, HaveBytes, Serves, ServesEach, read_failures, write_failures}
+use Rattle.http_wire.specs.ServedConnections.{HasBytes, HaveBytes, Serves, ServesEach, read_failures, write_failures}
 use Rattle.http_wire.specs.declared.close_reason.CloseReason.{CloseReason}
 use Rattle.http_wire.specs.declared.close_reason.CloseReason.TheVariants.{Closed, ReadFailed, WriteFailed}
 use Rattle.http_serve.specs.declared.accept_loop.ServeSummary.{ServeSummary}
 use Rattle.http_serve.specs.declared.accept_loop.StopReason.{StopReason}
 use Rattle.http_serve.specs.declared.accept_loop.StopReason.TheVariants.{Count, NoMore, PortFailed}
 use Rattle.http_serve.specs.Endings.{FaultsBy}
-use Rattle.http_serve.specs.Fixed.{fixed}
+use Rattle.http_serve.specs.FixedReplies.{fixed_reply}
 use Rattle.http_serve.specs.Connections.{ServesStream}
 use Rattle.http_serve.proofs.Faults.{faults_on}
 use Rattle.http_serve.specs.Ports.{Came, ServesPort, Stops, last_of}
@@ -59,8 +59,8 @@ writes_bound WriteFailed endings first mid new f b = bound_rises (write_failures
 
 module _ {M E : Type 0} (Step : M → Request → List ℕ → M → Option E → Type 0) where
   each_more : (connections : List Traffic) (machine mid next : M) (endings : List CloseReason) (edits : List E) (ending : CloseReason) (passed : Traffic) (later : List E)
-      → ServesEach Step fixed machine connections endings mid edits → Serves Step fixed ending mid passed next later
-      → ServesEach Step fixed machine (connections ++ passed ∷ []) (endings ++ ending ∷ []) next (edits ++ later)
+      → ServesEach Step fixed_reply machine connections endings mid edits → Serves Step fixed_reply ending mid passed next later
+      → ServesEach Step fixed_reply machine (connections ++ passed ∷ []) (endings ++ ending ∷ []) next (edits ++ later)
   each_more [] machine mid next endings edits ending passed later h one = (
     ending,
     [],
@@ -69,7 +69,7 @@ module _ {M E : Type 0} (Step : M → Request → List ℕ → M → Option E �
     [],
     ap (λ (l : List CloseReason). l ++ ending ∷ []) h.0,
     ap (λ (l : List E). l ++ later) h.2 ∙ sym (append-nil later),
-    subst (λ (m : M). Serves Step fixed ending m passed next later) h.1 one,
+    subst (λ (m : M). Serves Step fixed_reply ending m passed next later) h.1 one,
     (refl, refl, refl),
   )
   each_more (p ∷ connections) machine mid next endings edits ending passed later (e, others, m, first, rest, all_endings, all_told, served, each) one = (
@@ -156,7 +156,7 @@ module _ {M W E : Type 0} (Step : M → Request → List ℕ → M → Option E 
     pub many : length connections ≡ count
     pub came : Came old.port.to_come mid.port.to_come connections
     pub all_carried : carried mid ≡ carried old ++ connections
-    pub each : ServesEach Step fixed machine connections endings now edits
+    pub each : ServesEach Step fixed_reply machine connections endings now edits
     pub read_bound : RoseBy (read_failures endings) old.read_faults mid.read_faults
     pub write_bound : RoseBy (write_failures endings) old.write_faults mid.write_faults
     pub ended : last ≡ last_of endings

@@ -5,44 +5,44 @@ use Rattle.xcap_io.specs.Causes.{StreamState}
 use Rattle.xcap_io.specs.Histories.{Traffic}
 use Rattle.http_wire.specs.declared.request.Request.{Request}
 use Rattle.http_wire.specs.Items.{Item, asks, bad, too_long, coded}
-use Rattle.http_wire.specs.Serving.{Closes, no_more, last_item, no_memory, EndsBy, GoesOn, Run, Serves, ServesEach, AnswersItem as Answers}
+use Rattle.http_wire.specs.ServedConnections.{Closes, no_more, last_item, no_memory, EndsBy, GoesOn, Run, Serves, ServesEach, AnswersItem as Answers}
 use Rattle.http_wire.specs.declared.close_reason.CloseReason.TheVariants.{Closed, ReadFailed, WriteFailed}
 use Rattle.http_wire.specs.declared.close_reason.CloseReason.{CloseReason}
 use Rattle.http_serve.specs.declared.accept_loop.ServeSummary.{ServeSummary}
 use Rattle.http_serve.specs.Connections.{ServesStream}
-use Rattle.http_serve.specs.Fixed.{fixed}
+use Rattle.http_serve.specs.FixedReplies.{fixed_reply}
 use Rattle.http_serve.specs.Ports.{ServesPort}
 
-module _ {S M E : Type 0} (Steps : S → Request → List ℕ → S → Option E → Type 0) (Step : M → Request → List ℕ → M → Option E → Type 0) (fixed : ℕ → List ℕ) (Stands : S → M → Type 0)
+module _ {S M E : Type 0} (Steps : S → Request → List ℕ → S → Option E → Type 0) (Step : M → Request → List ℕ → M → Option E → Type 0) (fixed_reply : ℕ → List ℕ) (Stands : S → M → Type 0)
     (step : (s s' : S) (m : M) (request : Request) (reply : List ℕ) (edit : Option E) → Stands s m → Steps s request reply s' edit → (m' : M) × Stands s' m' × Step m request reply m' edit) where
   stays : (s s' : S) (m : M) → Stands s m → s' ≡ s → Stands s' m
   stays s s' m stands same = subst (λ (t : S). Stands t m) (sym same) stands
 
-  answers : (item : Item) (s s' : S) (m : M) (reply : List ℕ) (edit : Option E) → Stands s m → Answers Steps fixed s item reply s' edit → (m' : M) × Stands s' m' × Answers Step fixed m item reply m' edit
+  answers : (item : Item) (s s' : S) (m : M) (reply : List ℕ) (edit : Option E) → Stands s m → Answers Steps fixed_reply s item reply s' edit → (m' : M) × Stands s' m' × Answers Step fixed_reply m item reply m' edit
   answers (asks request) s s' m reply edit stands a = step s s' m request reply edit stands a
   answers bad s s' m reply edit stands a = (m, stays s s' m stands a.1, (a.0, refl, a.2))
   answers too_long s s' m reply edit stands a = (m, stays s s' m stands a.1, (a.0, refl, a.2))
   answers coded s s' m reply edit stands a = (m, stays s s' m stands a.1, (a.0, refl, a.2))
 
-  runs : (before : ℕ) (requests : List Request) (s s' : S) (m : M) (bytes written rest : List ℕ) (edits : List E) → Stands s m → Run Steps fixed before s bytes requests written edits s' rest
-      → (m' : M) × Stands s' m' × Run Step fixed before m bytes requests written edits m' rest
+  runs : (before : ℕ) (requests : List Request) (s s' : S) (m : M) (bytes written rest : List ℕ) (edits : List E) → Stands s m → Run Steps fixed_reply before s bytes requests written edits s' rest
+      → (m' : M) × Stands s' m' × Run Step fixed_reply before m bytes requests written edits m' rest
   runs before [] s s' m bytes written rest edits stands run = (m, stays s s' m stands run.2, (run.0, run.1, refl, run.3))
   runs before (request ∷ requests) s s' m bytes written rest edits stands (behind, reply, mid, edit, more, later, asked, kept, stepped, wrote, all_told, run) =
       let one = step s mid m request reply edit stands stepped in
       let others = runs (before + 1) requests mid s' one.0 behind more rest later one.1 run in
       (others.0, others.1, (behind, reply, one.0, edit, more, later, asked, kept, one.2, wrote, all_told, others.2))
 
-  closes : (before : ℕ) (s s' : S) (m : M) (bytes : List ℕ) (ended : Bool) (reply : List ℕ) (edit : Option E) → Stands s m → Closes Steps fixed before s bytes ended reply s' edit → (m' : M) × Stands s' m' × Closes Step fixed before m bytes ended reply m' edit
+  closes : (before : ℕ) (s s' : S) (m : M) (bytes : List ℕ) (ended : Bool) (reply : List ℕ) (edit : Option E) → Stands s m → Closes Steps fixed_reply before s bytes ended reply s' edit → (m' : M) × Stands s' m' × Closes Step fixed_reply before m bytes ended reply m' edit
   closes before s s' m bytes ended reply edit stands (no_more none end wrote same unchanged) = (m, stays s s' m stands same, no_more none end wrote refl unchanged)
   closes before s s' m bytes ended reply edit stands (last_item item first ends answer) =
       let a = answers item s s' m reply edit stands answer in (a.0, a.1, last_item item first ends a.2)
   closes before s s' m bytes ended reply edit stands (no_memory request rest asked wrote same unchanged) = (m, stays s s' m stands same, no_memory request rest asked wrote refl unchanged)
 
-  goes_on : (before : ℕ) (s s' : S) (m : M) (bytes reply rest : List ℕ) (edit : Option E) → Stands s m → GoesOn Steps fixed before s bytes reply s' edit rest → (m' : M) × Stands s' m' × GoesOn Step fixed before m bytes reply m' edit rest
+  goes_on : (before : ℕ) (s s' : S) (m : M) (bytes reply rest : List ℕ) (edit : Option E) → Stands s m → GoesOn Steps fixed_reply before s bytes reply s' edit rest → (m' : M) × Stands s' m' × GoesOn Step fixed_reply before m bytes reply m' edit rest
   goes_on before s s' m bytes reply rest edit stands g =
       let one = step s s' m g.request reply edit stands g.step in (one.0, one.1, record { request = g.request; asked = g.asked; stays = g.stays; step = one.2 })
 
-  ends : (ending : CloseReason) (before : ℕ) (s s' : S) (m : M) (bytes : List ℕ) (ended : Bool) (written : List ℕ) (edit : Option E) → Stands s m → EndsBy Steps fixed ending before s bytes ended written s' edit → (m' : M) × Stands s' m' × EndsBy Step fixed ending before m bytes ended written m' edit
+  ends : (ending : CloseReason) (before : ℕ) (s s' : S) (m : M) (bytes : List ℕ) (ended : Bool) (written : List ℕ) (edit : Option E) → Stands s m → EndsBy Steps fixed_reply ending before s bytes ended written s' edit → (m' : M) × Stands s' m' × EndsBy Step fixed_reply ending before m bytes ended written m' edit
   ends Closed before s s' m bytes ended written edit stands e = closes before s s' m bytes ended written edit stands e
   ends ReadFailed before s s' m bytes ended written edit stands e = (m, stays s s' m stands e.2, (e.0, e.1, refl, e.3))
   ends WriteFailed before s s' m bytes ended written edit stands (reply, n, cut, wrote, inl e) =
@@ -51,16 +51,16 @@ module _ {S M E : Type 0} (Steps : S → Request → List ℕ → S → Option E
       let g = goes_on before s s' m bytes reply rest edit stands e in (g.0, g.1, (reply, n, cut, wrote, inr (rest, g.2)))
 
   -- one connection
-  pub serves : (ending : CloseReason) (s s' : S) (m : M) (passed : Traffic) (edits : List E) → Stands s m → Serves Steps fixed ending s passed s' edits
-      → (m' : M) × Stands s' m' × Serves Step fixed ending m passed m' edits
+  pub serves : (ending : CloseReason) (s s' : S) (m : M) (passed : Traffic) (edits : List E) → Stands s m → Serves Steps fixed_reply ending s passed s' edits
+      → (m' : M) × Stands s' m' × Serves Step fixed_reply ending m passed m' edits
   serves ending s s' m passed edits stands v =
       let r = runs 0 v.requests s v.mid m passed.given v.replies v.behind v.early stands v.run in
       let e = ends ending (length v.requests) v.mid s' r.0 v.behind passed.ended v.last v.edit r.1 v.ends in
       (e.0, e.1, record { requests = v.requests; replies = v.replies; early = v.early; mid = r.0; behind = v.behind; last = v.last; edit = v.edit; run = r.2; ends = e.2; wrote = v.wrote; all_told = v.all_told })
 
   -- connections, one after the other
-  pub serves_each : (connections : List Traffic) (s s' : S) (m : M) (endings : List CloseReason) (edits : List E) → Stands s m → ServesEach Steps fixed s connections endings s' edits
-      → (m' : M) × Stands s' m' × ServesEach Step fixed m connections endings m' edits
+  pub serves_each : (connections : List Traffic) (s s' : S) (m : M) (endings : List CloseReason) (edits : List E) → Stands s m → ServesEach Steps fixed_reply s connections endings s' edits
+      → (m' : M) × Stands s' m' × ServesEach Step fixed_reply m connections endings m' edits
   serves_each [] s s' m endings edits stands v = (m, stays s s' m stands v.1, (v.0, refl, v.2))
   serves_each (passed ∷ connections) s s' m endings edits stands (ending, others, mid, first, later, all_endings, all_told, one, rest) =
       let o = serves ending s mid m passed first stands one in
@@ -74,7 +74,7 @@ module _ {S M W E : Type 0} (Steps : S → Request → List ℕ → S → Option
   pub line_by : (ended : CloseReason) (s s' : S) (m : M) (old new : StreamState) (watchers watchers' : W) → Stands s m → ServesStream Steps Keeps ended s s' old new watchers watchers'
       → (m' : M) × Stands s' m' × ServesStream Step Keeps ended m m' old new watchers watchers'
   line_by ended s s' m old new watchers watchers' stands v =
-      let o = serves Steps Step fixed Stands step ended s s' m v.passed v.edits stands v.serves in (
+      let o = serves Steps Step fixed_reply Stands step ended s s' m v.passed v.edits stands v.serves in (
         o.0,
         o.1,
         record {
@@ -94,7 +94,7 @@ module _ {S M W E : Type 0} (Steps : S → Request → List ℕ → S → Option
   pub port_by : (most : ℕ) (served : ServeSummary) (s s' : S) (m : M) (old new : StreamState) (watchers watchers' : W) → Stands s m → ServesPort Steps Keeps most served s s' old new watchers watchers'
       → (m' : M) × Stands s' m' × ServesPort Step Keeps most served m m' old new watchers watchers'
   port_by most served s s' m old new watchers watchers' stands v =
-      let e = serves_each Steps Step fixed Stands step v.connections s s' m v.serves.endings v.edits stands v.serves.each in (
+      let e = serves_each Steps Step fixed_reply Stands step v.connections s s' m v.serves.endings v.edits stands v.serves.each in (
         e.0,
         e.1,
         record {

@@ -1,7 +1,7 @@
 pub mod Connections
 pub mod Endings
-pub mod Fixed
+pub mod FixedReplies
 pub mod Ports
-pub mod Reading
+pub mod ReadRequests
 pub mod ReplyBytes
 pub mod inner

@@ -1,7 +1,7 @@
 -- The connections of a port, served one after the other. RFC 9112, section 9.
 use Rattle.std.specs.Prelude.{◌≡◌, ℕ, ◌<◌, List, [], ◌∷◌, ◌++◌, length, Option, Some, IfSome}
 use Rattle.http_wire.specs.declared.request.Request.{Request}
-use Rattle.http_wire.specs.Serving.{HaveBytes, ServesAll}
+use Rattle.http_wire.specs.ServedConnections.{HaveBytes, ServesAll}
 use Rattle.http_wire.specs.declared.close_reason.CloseReason.{CloseReason}
 use Rattle.http_wire.specs.declared.close_reason.CloseReason.TheVariants.{Closed}
 use Rattle.xcap_io.specs.Causes.{StreamState, CountRises}
@@ -10,7 +10,7 @@ use Rattle.xcap_io.specs.Histories.{Traffic}
 use Rattle.http_serve.specs.declared.accept_loop.ServeSummary.{ServeSummary}
 use Rattle.http_serve.specs.declared.accept_loop.StopReason.{StopReason}
 use Rattle.http_serve.specs.declared.accept_loop.StopReason.TheVariants.{Count, NoMore, PortFailed}
-use Rattle.http_serve.specs.Fixed.{fixed}
+use Rattle.http_serve.specs.FixedReplies.{fixed_reply}
 
 -- how the last of some connections ended; `Closed` where there is none
 abbrev pub last_of : List CloseReason → CloseReason
@@ -45,7 +45,8 @@ pub record ServesPort {M W E : Type 0} (Step : M → Request → List ℕ → M 
   pub count : length connections ≡ served.connections
   pub came : Came old.port.to_come new.port.to_come connections
   pub all_carried : carried new ≡ carried old ++ connections
-  pub serves : ServesAll Step fixed machine connections next edits old.read_faults new.read_faults
+  pub serves : ServesAll Step fixed_reply machine connections next edits old.read_faults
+      new.read_faults
       old.write_faults new.write_faults
   pub last : served.last ≡ last_of serves.endings
   pub stop : Stops served.stop most served.connections old new

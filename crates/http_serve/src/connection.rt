@@ -3,11 +3,11 @@ ghost use Rattle.std.specs.Prelude.{◌≡◌, ◌≢◌, ℕ, suc, ◌+◌, tru
 ghost use Rattle.std.specs.Prelude.{option_to_list};
 ghost use Rattle.reply_text.specs.ReplyHeads.{plain};
 ghost use Rattle.reply_text.specs.Statuses.{is_status};
-ghost use Rattle.http_wire.specs.Asking.{fresh_request_reader};
+ghost use Rattle.http_wire.specs.NextRequests.{fresh_request_reader};
 ghost use Rattle.http_serve.specs.Connections.{ServesStream};
 ghost use Rattle.http_serve.specs.Endings.{KeepsTheRest};
 ghost use Rattle.http_serve.specs.inner.Endings.{FaultsSoFar};
-ghost use Rattle.http_serve.specs.Reading.{IsRead};
+ghost use Rattle.http_serve.specs.ReadRequests.{IsRead};
 ghost use Rattle.http_serve.specs.inner.Turns.{AnswersAsked, AsksRead, GivesOn, ConnectionTurn};
 ghost use Rattle.http_serve.specs.ReplyBytes.{InBytes};
 
@@ -20,7 +20,7 @@ use watchers::Watchers;
 use xcap_io::{Failed, Line, Sink, Source};
 
 // The fixed reply with this status.
-fn fixed<E>(status: u16) -> MachineReply<E>
+fn closing_reply<E>(status: u16) -> MachineReply<E>
     requires valid_status { IsTrue (is_status status) }
     requires plain_status { (status ≢ 304) × (status ≢ 405) × (status ≢ 409) }
     ensures fixed_reply { result.reply ≡ plain status true }
@@ -42,7 +42,7 @@ fn answer_request<M: Machine>(machine: &mut M, request: &Request) -> MachineRepl
 {
     match machine.answer(request) {
         Ok(answered) => answered,
-        Err(AllocError) => fixed(503),
+        Err(AllocError) => closing_reply(503),
     }
 }
 
@@ -58,10 +58,10 @@ fn answer_to<M: Machine>(machine: &mut M, asked: &Asked) -> Option<MachineReply<
 {
     match asked {
         Asked::Request(request) => Some(answer_request(machine, request)),
-        Asked::Bad => Some(fixed(400)),
-        Asked::TooLong => Some(fixed(413)),
-        Asked::Coded => Some(fixed(501)),
-        Asked::NoMemory => Some(fixed(503)),
+        Asked::Bad => Some(closing_reply(400)),
+        Asked::TooLong => Some(closing_reply(413)),
+        Asked::Coded => Some(closing_reply(501)),
+        Asked::NoMemory => Some(closing_reply(503)),
         Asked::End => None,
     }
 }

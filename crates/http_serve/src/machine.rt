@@ -2,7 +2,7 @@
 ghost use Rattle.std.specs.Prelude.{◌≡◌, ℕ, suc, Option, IfOk, OnErr};
 ghost use Rattle.reply_text.specs.ReplyHeads.{SentReply};
 ghost use Rattle.http_wire.specs.declared.request.Request.{Request as TheRequest};
-ghost use Rattle.http_serve.specs.Reading.{IsRead};
+ghost use Rattle.http_serve.specs.ReadRequests.{IsRead};
 
 use http_wire::Request;
 use reply_text::Reply;

@@ -4,8 +4,8 @@ use Rattle.std.proofs.lemmas.Bool.{cases_lt}
 use Rattle.httparse.specs.Ascii.{crlf_bytes}
 use Rattle.http_wire.specs.declared.chunk_decoder.ChunkState.{ChunkState}
 use Rattle.http_wire.specs.declared.chunk_decoder.ChunkState.TheVariants.{Size, Blank, Extension, SizeEnd, Data, DataEnd, Trailers, Trailer, TrailerEnd, LastEnd, Done, Bad, TooLong}
-use Rattle.http_wire.specs.Chunked.{print_line, print_chunks, print_trailers, ChunkedBody, print_body, ReadsBody, MayBecomeBody, PassesLimit, chunk_data as joined}
-use Rattle.http_wire.specs.inner.Decoding.{Decoding, decoding, start, is_settled, ReadsOn, Fits}
+use Rattle.http_wire.specs.ChunkedBodies.{print_line, print_chunks, print_trailers, ChunkedBody, print_body, ReadsBody, MayBecomeBody, PassesLimit, chunk_data as joined}
+use Rattle.http_wire.specs.inner.ChunkDecoder.{Decoding, decoding, start, is_settled, ReadsOn, Fits}
 use Rattle.http_wire.specs.inner.ReadBuffer.{HasBody, HasNoBodyYet}
 use Rattle.http_wire.proofs.Steps.{reads_in_limits}
 use Rattle.http_wire.proofs.BodyForms.{Stands}

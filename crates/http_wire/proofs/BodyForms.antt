@@ -12,7 +12,7 @@ use Rattle.httparse.specs.Ascii.{line_feed, carriage_return, semicolon, crlf_byt
 use Rattle.httparse.specs.Grammar.{ChunkLine, print_extension, chunk_size, is_ows, is_value_byte}
 use Rattle.http_wire.specs.declared.chunk_decoder.ChunkState.{ChunkState}
 use Rattle.http_wire.specs.declared.chunk_decoder.ChunkState.TheVariants.{Size, Blank, Extension, SizeEnd, Data, DataEnd, Trailers, Trailer, TrailerEnd, LastEnd, Done, Bad, TooLong}
-use Rattle.http_wire.specs.Chunked.{line_text, print_line, IsLine, Chunk, print_chunk, IsChunk, print_chunks, IsTrailer, print_trailer, print_trailers, ChunkedBody, print_body, IsBody, PassesLimit, chunk_data as joined}
+use Rattle.http_wire.specs.ChunkedBodies.{line_text, print_line, IsLine, Chunk, print_chunk, IsChunk, print_chunks, IsTrailer, print_trailer, print_trailers, ChunkedBody, print_body, IsBody, PassesLimit, chunk_data as joined}
 
 -- the bytes are complete chunks, which give the body, and then the tail
 pub record Behind (body raw tail : List ℕ) : Type 0 where

@@ -9,8 +9,8 @@ use Rattle.httparse.specs.Ascii.{line_feed, carriage_return, crlf_bytes}
 use Rattle.httparse.specs.Grammar.{ChunkLine, chunk_size}
 use Rattle.http_wire.specs.declared.chunk_decoder.ChunkState.{ChunkState}
 use Rattle.http_wire.specs.declared.chunk_decoder.ChunkState.TheVariants.{Size, Blank, Extension, SizeEnd, Data, DataEnd, Trailers, Trailer, TrailerEnd, LastEnd, Done, Bad, TooLong}
-use Rattle.http_wire.specs.Chunked.{line_text, print_line, IsLine, Chunk, print_chunk, IsChunk, print_chunks, is_trailer_byte, IsTrailer, print_trailer, print_trailers, ChunkedBody, print_body, IsBody, MayBecomeBody}
-use Rattle.http_wire.specs.inner.Decoding.{Decoding, start, is_settled, is_data, after_digits, next_stage, next_decoding, ReadsOn, Fits}
+use Rattle.http_wire.specs.ChunkedBodies.{line_text, print_line, IsLine, Chunk, print_chunk, IsChunk, print_chunks, is_trailer_byte, IsTrailer, print_trailer, print_trailers, ChunkedBody, print_body, IsBody, MayBecomeBody}
+use Rattle.http_wire.specs.inner.ChunkDecoder.{Decoding, start, is_settled, is_data, after_digits, next_stage, next_decoding, ReadsOn, Fits}
 use Rattle.http_wire.proofs.Steps.{by_after_digits, by_in_digits, by_in_extension, by_after_line, by_in_trailers, by_if_feed, by_data, IsInLimits, next_in_limits}
 use Rattle.http_wire.proofs.BodyForms.{InDigits, InLine, InData, AtDataEnd, InTrailers, IsWhole, Stands, more_digits, digits_line, more_blanks, more_extension, mark, line_end, to_trailers, to_data, to_limit, more_data, to_data_end, to_next_chunk, trailers_more, print_trailers-push, trailer_done, to_last_end, list_all-push, all-push}
 

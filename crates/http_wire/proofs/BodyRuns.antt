@@ -11,8 +11,8 @@ use Rattle.httparse.specs.Ascii.{line_feed, carriage_return, semicolon, crlf_byt
 use Rattle.httparse.specs.Grammar.{ChunkLine, print_extension, chunk_size, is_ows, is_value_byte}
 use Rattle.http_wire.specs.declared.chunk_decoder.ChunkState.{ChunkState}
 use Rattle.http_wire.specs.declared.chunk_decoder.ChunkState.TheVariants.{Size, Blank, Extension, SizeEnd, Data, Trailers, Trailer, TrailerEnd, LastEnd, Done, Bad, TooLong}
-use Rattle.http_wire.specs.Chunked.{line_text, print_line, IsLine, Chunk, print_chunk, IsChunk, print_chunks, is_trailer_byte, IsTrailer, print_trailer, print_trailers, ChunkedBody, print_body, IsBody, chunk_data as joined}
-use Rattle.http_wire.specs.inner.Decoding.{Decoding, decoding, start, is_settled, is_data, after_digits, after_line, in_trailers, next_stage, next_decoding, ReadsOn}
+use Rattle.http_wire.specs.ChunkedBodies.{line_text, print_line, IsLine, Chunk, print_chunk, IsChunk, print_chunks, is_trailer_byte, IsTrailer, print_trailer, print_trailers, ChunkedBody, print_body, IsBody, chunk_data as joined}
+use Rattle.http_wire.specs.inner.ChunkDecoder.{Decoding, decoding, start, is_settled, is_data, after_digits, after_line, in_trailers, next_stage, next_decoding, ReadsOn}
 use Rattle.http_wire.proofs.Steps.{same_decoding, reads_on, reads_data}
 
 -- one byte, from a state that is not settled

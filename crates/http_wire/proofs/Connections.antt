@@ -4,7 +4,7 @@ use Rattle.std.proofs.lemmas.List.{append-nil}
 use Rattle.std.specs.Prelude.{option_to_list as told}
 use Rattle.http_wire.specs.declared.request.Request.{Request}
 use Rattle.http_wire.specs.Items.{AsksFor}
-use Rattle.http_wire.specs.Serving.{Run}
+use Rattle.http_wire.specs.ServedConnections.{Run}
 use Rattle.http_wire.proofs.WholeItems.{asks-append}
 
 -- Requests, one after the other.

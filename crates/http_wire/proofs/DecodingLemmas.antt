@@ -1,13 +1,13 @@
 -- The bytes after a head, decoded as they arrive.
 use Rattle.std.proofs.Common.{◌≡◌, ℕ, ◌+◌, ◌-◌, ◌<◌, ◌≤◌, false, List, [], ◌++◌, length, take, drop, zero, suc, Ok, Err, refl, sym, ap, subst, ◌∙◌, arith, length-append, length-drop, append_assoc, take-append-drop}
 use Rattle.std.proofs.lemmas.List.{append-nil, length-take-le, take_at, drop_at, drop_all, drop-drop, nil_from_length}
-use Rattle.xcap_io.proofs.Passing.{gave_none, gave_on}
+use Rattle.xcap_io.proofs.TrafficSums.{gave_none, gave_on}
 use Rattle.xcap_io.specs.Causes.{InputState}
 use Rattle.xcap_io.specs.StreamTraffic.{Gave, IsEnded}
 use Rattle.http_wire.specs.declared.chunk_decoder.ChunkState.TheVariants.{Done, Bad as BadStage, TooLong as LongStage}
 use Rattle.http_wire.specs.declared.body_decoder.DecodeResult.TheVariants.{Whole, TooLong, Bad, Cut}
-use Rattle.http_wire.specs.inner.Decoding.{Decoding, start, is_settled, ReadsOn}
-use Rattle.http_wire.specs.Chunked.{PassesLimit, MayBecomeBody}
+use Rattle.http_wire.specs.inner.ChunkDecoder.{Decoding, start, is_settled, ReadsOn}
+use Rattle.http_wire.specs.ChunkedBodies.{PassesLimit, MayBecomeBody}
 use Rattle.http_wire.specs.inner.ReadBuffer.{Gains, HasBody, HasNoBodyYet, Decodes, DecodesSoFar}
 use Rattle.http_wire.proofs.Steps.{IsInLimits, reads_on, reads_in_limits, fewer_after, left_of}
 use Rattle.http_wire.proofs.BodyReached.{start_in_limits}

@@ -2,7 +2,7 @@
 use Rattle.std.proofs.Common.{◌≡◌, ℕ, ◌+◌, ◌<◌, ◌≤◌, inl, inr, Bool, ◌==◌, ◌||◌, List, [], ◌++◌, length, take, drop, map, slice_range, Result, Ok, Err, MatchResult, refl, sym, ap, subst, ◌∙◌, arith, length-drop, append_assoc, take-append-drop}
 use Rattle.std.proofs.lemmas.List.{append-nil, drop-drop, length-take-le}
 use Rattle.xcap_io.proofs.Lines.{counts_on, reads_on}
-use Rattle.xcap_io.proofs.Passing.{gave_none, gave_on}
+use Rattle.xcap_io.proofs.TrafficSums.{gave_none, gave_on}
 use Rattle.xcap_io.specs.Causes.{InputState, StreamState, Reads, OnlyReads}
 use Rattle.xcap_io.specs.StreamTraffic.{Gave, IsEnded}
 use Rattle.httparse.specs.Grammar.{RequestHead}
@@ -18,9 +18,9 @@ use Rattle.http_wire.specs.declared.request.Asked.{Asked}
 use Rattle.http_wire.specs.declared.request.Asked.TheVariants.{Request as Requested, Bad, TooLong, NoMemory}
 use Rattle.http_wire.specs.Fields.{asks_to_close}
 use Rattle.http_wire.specs.Framing.{framing}
-use Rattle.http_wire.specs.Chunked.{print_line, print_chunks, HasNoBody, MayBecomeBody, PassesLimit}
+use Rattle.http_wire.specs.ChunkedBodies.{print_line, print_chunks, HasNoBody, MayBecomeBody, PassesLimit}
 use Rattle.http_wire.specs.Items.{bad, too_long, coded, field_of, request_of, Opens, BehindHead, IsFramed, AsksFor, with_length, in_chunks, IsBad, bad_fields, body_cut, no_body, IsTooLong, long_body, long_chunks, IsUnfinished, lacks_body, lacks_chunks}
-use Rattle.http_wire.specs.Asking.{IsNext, IsAsked, Asks}
+use Rattle.http_wire.specs.NextRequests.{IsNext, IsAsked, Asks}
 use Rattle.http_wire.specs.inner.ReadBuffer.{Gains, IsHeadAt, IsOpenAt, HasBody, HasNoBodyYet, Decodes}
 use Rattle.http_wire.proofs.Fronts.{begins-append, head_at-append}
 

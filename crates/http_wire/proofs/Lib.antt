@@ -4,11 +4,11 @@ pub mod BodyReached
 pub mod BodyRuns
 pub mod Buffers
 pub mod Connections
-pub mod Counting
 pub mod DecodingLemmas
 pub mod FieldSteps
 pub mod Fronts
 pub mod ItemLemmas
+pub mod KnownTraffic
 pub mod OneTalk
 pub mod Steps
 pub mod WholeItems

@@ -12,8 +12,8 @@ use Rattle.http_wire.specs.declared.framing.Framing.TheVariants.{Bad as BadField
 use Rattle.http_wire.specs.declared.request.Request.{Request}
 use Rattle.http_wire.specs.Framing.{framing}
 use Rattle.http_wire.specs.Heads.{HasNoHead}
-use Rattle.http_wire.specs.Chunked.{ChunkedBody, print_body, ReadsBody, HasNoBody, PassesLimit, chunk_data as joined}
-use Rattle.http_wire.specs.inner.Decoding.{Decoding, decoding, start}
+use Rattle.http_wire.specs.ChunkedBodies.{ChunkedBody, print_body, ReadsBody, HasNoBody, PassesLimit, chunk_data as joined}
+use Rattle.http_wire.specs.inner.ChunkDecoder.{Decoding, decoding, start}
 use Rattle.http_wire.specs.declared.chunk_decoder.ChunkState.TheVariants.{Done, TooLong}
 use Rattle.http_wire.specs.Items.{Item, asks, bad, too_long, coded, request_of, Opens, BehindHead, IsFramed, AsksFor, with_length, in_chunks, IsBad, no_head, bad_fields, body_cut, no_body, IsTooLong, long_body, long_chunks, FirstItem, SameRest, ends_connection, Talk}
 use Rattle.http_wire.specs.inner.ReadBuffer.{HasNoBodyYet}

@@ -9,8 +9,8 @@ use Rattle.httparse.specs.Ascii.{line_feed, carriage_return, semicolon}
 use Rattle.httparse.specs.Grammar.{is_ows, is_value_byte}
 use Rattle.http_wire.specs.declared.chunk_decoder.ChunkState.{ChunkState}
 use Rattle.http_wire.specs.declared.chunk_decoder.ChunkState.TheVariants.{Size, Blank, Extension, SizeEnd, Data, DataEnd, Trailers, Trailer, TrailerEnd, LastEnd, Done, Bad, TooLong}
-use Rattle.http_wire.specs.Chunked.{is_trailer_byte}
-use Rattle.http_wire.specs.inner.Decoding.{Decoding, decoding, is_settled, is_data, after_digits, in_digits, in_extension, after_line, after_data, in_trailers, if_feed, next_stage, next_decoding, ReadsOn, Fits, bytes_left}
+use Rattle.http_wire.specs.ChunkedBodies.{is_trailer_byte}
+use Rattle.http_wire.specs.inner.ChunkDecoder.{Decoding, decoding, is_settled, is_data, after_digits, in_digits, in_extension, after_line, after_data, in_trailers, if_feed, next_stage, next_decoding, ReadsOn, Fits, bytes_left}
 
 -- A fact about the state after each kind of byte, from the fact at each state that may follow.
 

@@ -6,7 +6,7 @@ use Rattle.httparse.specs.Grammar.{RequestHead}
 use Rattle.http_wire.specs.declared.framing.Framing.{Framing}
 use Rattle.http_wire.specs.declared.framing.Framing.TheVariants.{Bad as BadFields, Coded as OtherCoding, TooLong as LongBody, Length, Chunked}
 use Rattle.http_wire.specs.declared.request.Request.{Request}
-use Rattle.http_wire.specs.Chunked.{print_line, print_chunks, print_body, ReadsBody, HasNoBody, MayBecomeBody, PassesLimit}
+use Rattle.http_wire.specs.ChunkedBodies.{print_line, print_chunks, print_body, ReadsBody, HasNoBody, MayBecomeBody, PassesLimit}
 use Rattle.http_wire.specs.Items.{Item, asks, bad, too_long, coded, Opens, BehindHead, IsFramed, AsksFor, with_length, in_chunks, bad_fields, no_body, long_body, long_chunks, FirstItem, LiesWhole, IsUnfinished, lacks_head, lacks_body, lacks_chunks}
 use Rattle.http_wire.specs.inner.ReadBuffer.{HasNoBodyYet}
 use Rattle.http_wire.proofs.Fronts.{lies_in_front}

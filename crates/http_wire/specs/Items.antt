@@ -15,8 +15,9 @@ use Rattle.http_wire.specs.Limits.{max_body_bytes, max_requests}
 use Rattle.http_wire.specs.Heads.{BeginsWithHead, HasNoHead}
 use Rattle.http_wire.specs.Fields.{asks_to_close}
 use Rattle.http_wire.specs.Framing.{framing}
-use Rattle.http_wire.specs.Chunked.{ChunkedBody, ReadsBody, HasNoBody, MayBecomeBody, PassesLimit}
-use Rattle.http_wire.specs.Chunked.{chunk_data}
+use Rattle.http_wire.specs.ChunkedBodies.{ChunkedBody, ReadsBody, HasNoBody, MayBecomeBody}
+use Rattle.http_wire.specs.ChunkedBodies.{PassesLimit}
+use Rattle.http_wire.specs.ChunkedBodies.{chunk_data}
 
 -- An item: a request, or what gets a 400, 413 or 501 in place of one.
 pub data Item : Type 0 where

@@ -1,9 +1,9 @@
-pub mod Asking
-pub mod Chunked
+pub mod ChunkedBodies
 pub mod Fields
 pub mod Framing
 pub mod Heads
 pub mod Items
 pub mod Limits
-pub mod Serving
+pub mod NextRequests
+pub mod ServedConnections
 pub mod inner

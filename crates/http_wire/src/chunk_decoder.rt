@@ -1,9 +1,11 @@
 // Decodes chunked bodies as their bytes arrive (RFC 9112, section 7.1).
 ghost use Rattle.std.specs.Prelude.{◌≡◌, ◌<◌, ◌≤◌, ◌+◌, length, take, false, IfOk};
-ghost use Rattle.http_wire.specs.inner.Decoding.{Decoding, start, is_settled, is_data};
-ghost use Rattle.http_wire.specs.inner.Decoding.{after_digits, in_digits, in_extension, after_line};
-ghost use Rattle.http_wire.specs.inner.Decoding.{in_trailers, if_feed, next_stage, next_decoding};
-ghost use Rattle.http_wire.specs.inner.Decoding.{ReadsOn, Fits};
+ghost use Rattle.http_wire.specs.inner.ChunkDecoder.{Decoding, start, is_settled, is_data};
+ghost use Rattle.http_wire.specs.inner.ChunkDecoder.{after_digits, in_digits, in_extension};
+ghost use Rattle.http_wire.specs.inner.ChunkDecoder.{after_line};
+ghost use Rattle.http_wire.specs.inner.ChunkDecoder.{in_trailers, if_feed, next_stage};
+ghost use Rattle.http_wire.specs.inner.ChunkDecoder.{next_decoding};
+ghost use Rattle.http_wire.specs.inner.ChunkDecoder.{ReadsOn, Fits};
 
 use crate::limits::{MAX_BODY, MAX_DIGITS, MAX_LINE, MAX_TRAILERS};
 use httparse::{is_header_value_token, is_space_or_tab, parse_hex_digit};
@@ -173,7 +175,7 @@ pub struct Decoder {
 
 impl Model for Decoder {
     ghost use Rattle.std.specs.Prelude.{◌≡◌, ◌≤◌, length, take};
-    ghost use Rattle.http_wire.specs.inner.Decoding.{Decoding, Fits};
+    ghost use Rattle.http_wire.specs.inner.ChunkDecoder.{Decoding, Fits};
     ghost use Rattle.http_wire.specs.declared.limits.TheConstants.{MAX_BODY};
 
     ghost Value = { Decoding };

@@ -3,7 +3,7 @@ ghost use Rattle.std.specs.Prelude.{◌≡◌, ◌↔◌, ◌++◌, true, List, 
 ghost use Rattle.xcap_io.specs.Histories.{Traffic};
 ghost use Rattle.http_wire.specs.Items.{Item, FirstItem, IsFirst, SameRest, Talk, LiesWhole};
 ghost use Rattle.http_wire.specs.Items.{IsUnfinished};
-ghost use Rattle.http_wire.specs.Serving.{HasBytes};
+ghost use Rattle.http_wire.specs.ServedConnections.{HasBytes};
 
 /// A law: a connection's bytes have one first item, and after a request one rest; so they have one
 /// sequence of items, and it doesn't matter how reads cut them.

@@ -2,7 +2,7 @@
 ghost use Rattle.std.specs.Prelude.{◌≡◌, ◌+◌, ◌-◌, ◌<◌, ◌≤◌, ◌↔◌, [], length, drop, take};
 ghost use Rattle.std.specs.Prelude.{slice_range, IfOk, OnErr, IsTrue};
 ghost use Rattle.xcap_io.specs.Causes.{OnlyReads};
-ghost use Rattle.http_wire.specs.Asking.{RequestReaderState, fresh_request_reader};
+ghost use Rattle.http_wire.specs.NextRequests.{RequestReaderState, fresh_request_reader};
 ghost use Rattle.http_wire.specs.inner.ReadBuffer.{Gains, GainedOrEnded, HoldsOrEnded};
 
 use crate::chunk_decoder::Decoder;
@@ -150,7 +150,7 @@ pub struct RequestReader {
 
 impl Model for RequestReader {
     ghost use Rattle.std.specs.Prelude.{◌≡◌, ◌<◌, false};
-    ghost use Rattle.http_wire.specs.Asking.{RequestReaderState};
+    ghost use Rattle.http_wire.specs.NextRequests.{RequestReaderState};
     ghost use Rattle.http_wire.specs.declared.limits.TheConstants.{MAX_REQUESTS};
 
     ghost Value = { RequestReaderState };

@@ -3,7 +3,7 @@ ghost use Rattle.std.specs.Prelude.{◌≡◌, ◌≤◌, ◌+◌, true, false, 
 ghost use Rattle.xcap_io.specs.Causes.{OnlyReads};
 ghost use Rattle.httparse.specs.Grammar.{RequestHead};
 ghost use Rattle.http_wire.specs.inner.ReadBuffer.{IsHeadAt, IsOpenAt};
-ghost use Rattle.http_wire.specs.Asking.{Asks, IsReaderStateAfter};
+ghost use Rattle.http_wire.specs.NextRequests.{Asks, IsReaderStateAfter};
 
 use crate::body_decoder::{DecodeResult, decode};
 use crate::chunk_decoder::Decoder;

@@ -6,8 +6,8 @@ use Rattle.xml_names.specs.declared.read_error.ReadError.TheVariants.{Fault, NoM
 use Rattle.xml_names.specs.Memory.{Answered}
 use Rattle.list_resolve.specs.Walks.{Item, address, mark}
 use Rattle.list_resolve.specs.declared.uri_collector.TheConstants.{MARK_LIMIT}
-use Rattle.list_resolve.specs.Flat.{item_address, is_mark, with_address, flat_of}
-use Rattle.list_resolve.specs.inner.Gathering.{FlatError, Tally, Fails, no_items, with_item, with_items}
+use Rattle.list_resolve.specs.FlatLists.{item_address, is_mark, with_address, flat_of}
+use Rattle.list_resolve.specs.inner.WalkStates.{FlatError, Tally, Fails, no_items, with_item, with_items}
 
 -- the addresses of a walk, in order, and the number of references that it met
 abbrev addresses : List Item → List (List ℕ)

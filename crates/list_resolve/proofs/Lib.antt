@@ -1,9 +1,9 @@
 pub mod Documents
 pub mod Flats
-pub mod Leading
 pub mod OneList
-pub mod Passing
+pub mod ReferenceTargets
 pub mod Services
+pub mod SkippedElements
 pub mod Spots
 pub mod Texts
 pub mod Walks

@@ -7,14 +7,14 @@ use Rattle.list_resolve.specs.declared.fault.FlatFault.{FlatFault}
 use Rattle.list_resolve.specs.declared.fault.FlatFault.TheVariants.{NoService}
 use Rattle.xml_names.specs.declared.read_error.ReadError.TheVariants.{Fault, NoMemory}
 use Rattle.xml_names.specs.Memory.{Answered}
-use Rattle.list_resolve.specs.inner.Gathering.{FlatError}
+use Rattle.list_resolve.specs.inner.WalkStates.{FlatError}
 use Rattle.list_resolve.specs.ScopedElements.{ScopedElement}
 use Rattle.list_resolve.specs.Walks.{walk}
 use Rattle.list_resolve.specs.declared.reference.Reference.{Reference}
 use Rattle.list_resolve.specs.Resolution.{ResolutionContext, ResolvedReference, tree_held}
-use Rattle.list_resolve.specs.Flat.{IsFlatList, flat_of, service_of}
+use Rattle.list_resolve.specs.FlatLists.{IsFlatList, flat_of, service_of}
 use Rattle.list_resolve.specs.inner.SkippedElements.{reference_resolved_in}
-use Rattle.list_resolve.proofs.Leading.{are_leads, one_map}
+use Rattle.list_resolve.proofs.ReferenceTargets.{are_leads, one_map}
 
 -- the context in which the references of a service are resolved
 abbrev ground : StoreContents → List ℕ → DocId → ResolutionContext

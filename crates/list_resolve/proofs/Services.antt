@@ -7,7 +7,7 @@ use Rattle.xml_tree.specs.Nodes.{content_of}
 use Rattle.xml_tree.specs.declared.tree.Node.{Node}
 use Rattle.xml_tree.specs.declared.tree.Node.TheVariants.{Elem, Chars, Comment}
 use Rattle.list_resolve.specs.ScopedElements.{ScopedElement}
-use Rattle.list_resolve.specs.Flat.{first_service, service_element}
+use Rattle.list_resolve.specs.FlatLists.{first_service, service_element}
 
 abbrev pub first_among : List ℕ → ScopedElement → List Node → Option ScopedElement
 first_among uri root [] = None

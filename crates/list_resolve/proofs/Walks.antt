@@ -17,7 +17,7 @@ use Rattle.list_resolve.specs.Resolution.{ResolutionContext, ResolvedReference}
 use Rattle.list_resolve.specs.Places.{is_on}
 use Rattle.list_resolve.specs.Walks.{Item, address, mark, walked, scoped_element_items, walk_after}
 use Rattle.list_resolve.specs.inner.Kids.{child_items}
-use Rattle.list_resolve.specs.inner.Gathering.{FlatError, Tally, Gathered, Fails, with_item, with_items}
+use Rattle.list_resolve.specs.inner.WalkStates.{FlatError, Tally, Gathered, Fails, with_item, with_items}
 use Rattle.list_resolve.specs.inner.SkippedElements.{Gathers}
 use Rattle.list_resolve.specs.declared.uri_collector.TheConstants.{MARK_LIMIT}
 

@@ -4,7 +4,7 @@ use Rattle.std.specs.Prelude.{if◌then◌else◌}
 use Rattle.xml_tree.specs.Tree.{Tree, tree_of, of_children}
 use Rattle.xml_names.specs.Limits.{u64_max}
 use Rattle.xml_names.specs.Scopes.{decl_of}
-use Rattle.xml_names.specs.Expanded.{name_of}
+use Rattle.xml_names.specs.ExpandedNames.{name_of}
 use Rattle.usage_docs.specs.SchemaTable.{lists_namespace}
 use Rattle.usage_docs.specs.Services.{document_len}
 use Rattle.list_resolve.specs.declared.document.TheConstants.{DOCUMENT_LIMIT}

@@ -1,5 +1,5 @@
 pub mod Documents
-pub mod Flat
+pub mod FlatLists
 pub mod Places
 pub mod References
 pub mod Resolution

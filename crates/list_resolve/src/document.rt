@@ -2,7 +2,7 @@
 ghost use Rattle.std.specs.Prelude.{◌≡◌, [], ◌∷◌, ◌++◌, IfOk, IsTrue, OnOk, codes, min};
 ghost use Rattle.usage_docs.specs.Services.{document_len};
 ghost use Rattle.usage_docs.specs.Words.{is_ascii};
-ghost use Rattle.xml_names.specs.Expanded.{name_of};
+ghost use Rattle.xml_names.specs.ExpandedNames.{name_of};
 ghost use Rattle.xml_names.specs.Memory.{Answered};
 ghost use Rattle.xml_tree.specs.Tree.{of_children, tree_of};
 ghost use Rattle.list_resolve.specs.Documents.{entry_tree, flat_document, flat_tree, list_tree};

@@ -5,7 +5,7 @@ ghost use Rattle.std.specs.Option.{option_map_or};
 ghost use Rattle.xml_names.specs.Memory.{Answered};
 ghost use Rattle.usage_docs.specs.declared.schema_table.Key.TheVariants.{Uri};
 ghost use Rattle.usage_docs.specs.Keys.{value_of};
-ghost use Rattle.list_resolve.specs.Flat.{IsFlatList, flat_of, service_of, service_element};
+ghost use Rattle.list_resolve.specs.FlatLists.{IsFlatList, flat_of, service_of, service_element};
 ghost use Rattle.list_resolve.specs.Resolution.{tree_held};
 ghost use Rattle.list_resolve.specs.Walks.{walk};
 ghost use Rattle.list_resolve.specs.inner.SkippedElements.{reference_resolved_in};

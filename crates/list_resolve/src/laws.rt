@@ -3,7 +3,7 @@ ghost use Rattle.std.specs.Prelude.{◌≡◌, ℕ, List, Result};
 ghost use Rattle.doc_names.specs.declared.doc_id.DocId.{DocId};
 ghost use Rattle.store_core.specs.Contents.{StoreContents};
 ghost use Rattle.list_resolve.specs.declared.fault.FlatFault.{FlatFault};
-ghost use Rattle.list_resolve.specs.Flat.{IsFlatList};
+ghost use Rattle.list_resolve.specs.FlatLists.{IsFlatList};
 
 /// A law: under each root each service address has exactly one result in each document of the
 /// contents: its flat list, or why there is none.

@@ -2,7 +2,7 @@
 ghost use Rattle.std.specs.Prelude.{◌≡◌, ◌≤◌, ◌∷◌, [], chars, IfOk, OnOk, IfErr};
 ghost use Rattle.list_resolve.specs.Places.{is_on};
 ghost use Rattle.list_resolve.specs.Walks.{address, mark};
-ghost use Rattle.list_resolve.specs.inner.Gathering.{Fails, gathering, nothing, passing};
+ghost use Rattle.list_resolve.specs.inner.WalkStates.{Fails, gathering, nothing, passing};
 
 use crate::document_place::Place;
 use crate::fault::{FlatError, FlatFault};
@@ -27,7 +27,7 @@ pub(crate) struct UriCollector {
 impl Model for UriCollector {
     ghost use Rattle.std.specs.Prelude.{◌≤◌};
     ghost use Rattle.list_resolve.specs.declared.uri_collector.TheConstants.{MARK_LIMIT};
-    ghost use Rattle.list_resolve.specs.inner.Gathering.{Gathered, gathered_code};
+    ghost use Rattle.list_resolve.specs.inner.WalkStates.{Gathered, gathered_code};
 
     ghost Value = { Gathered };
 

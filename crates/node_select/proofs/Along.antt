@@ -9,7 +9,7 @@ use Rattle.xml_tree.proofs.TreeScopeLemmas.{scope_at-below}
 use Rattle.node_select.specs.declared.selector.Step.{Step}
 use Rattle.node_select.specs.Selection.{SelectsChild, SelectsAmong, SelectsPath}
 use Rattle.node_select.specs.LastStep.{Parent}
-use Rattle.node_select.proofs.Reaching.{path_is}
+use Rattle.node_select.proofs.ReachLemmas.{path_is}
 
 pub one_path : (steps : List Step) (root : Tree) (p q : List ℕ) → SelectsPath steps root p → SelectsPath steps root q → p ≡ q
 one_path steps root p q h k = same_Some p q (sym ((path_is steps root p).1 h) ∙ (path_is steps root q).1 k)

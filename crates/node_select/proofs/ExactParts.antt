@@ -8,17 +8,17 @@ use Rattle.std.specs.Char.{is_ascii_digit as is_digit, is_ascii_hexdigit as is_h
 use Rattle.xml_names.specs.Characters.{is_char, is_name_start, is_name_char}
 use Rattle.xml_grammar.specs.Digits.{decimal_digits, hexadecimal}
 use Rattle.xml_grammar.specs.Rules.{word, run, either, valued, optional, between, keeping_first, keeping_second, number}
-use Rattle.xml_grammar.specs.Reading.{starts, read_word, read_valued}
+use Rattle.xml_grammar.specs.TextReading.{starts, read_word, read_valued}
 use Rattle.xml_grammar.specs.readers.Functions.{read_either}
 use Rattle.xml_grammar.specs.Answers.{Faults}
 use Rattle.xml_grammar.proofs.Exact.{Rest, ahead, Exact, exact_sequence}
 use Rattle.xml_grammar.proofs.Leaves.{exact_word}
 use Rattle.xml_grammar.proofs.Greedy.{exact_number}
 use Rattle.xml_grammar.proofs.Carry.{exact_valued}
-use Rattle.xml_grammar.proofs.Closed.{exact_only, heads_unless}
+use Rattle.xml_grammar.proofs.ClosedRules.{exact_only, heads_unless}
 use Rattle.xml_grammar.proofs.Heads.{Heads, Starts, Not, heads_starts, heads_weaker, heads_optional, starts_word, starts_weaker, starts_valued, starts_either, starts_sequence, starts_number, starts_judged}
 use Rattle.xml_grammar.proofs.Laws.{Lawful, Quiet, Inside, inside_ahead, quiet_valued, quiet_sequence, quiet_optional, quiet_behind, quiet_word, quiet_name_of, quiet_only, lawful_valued, lawful_sequence, lawful_optional, lawful_behind, lawful_before, lawful_word, lawful_name_of, lawful_either, lawful_number, lawful_between, lawful_run, lawful_quoted, lawful_only, lawful_some_of}
-use Rattle.xml_grammar.proofs.Led.{led_valued, led_word}
+use Rattle.xml_grammar.proofs.LedRules.{led_valued, led_word}
 use Rattle.xml_grammar.proofs.Shapes.{exact_before, exact_behind, exact_name_of, exact_some_of, exact_quoted, starts_name_of, starts_behind}
 use Rattle.xml_grammar.proofs.Tests.{exact_either_head, exact_optional_head, exact_between_run_head, exact_either_next}
 use Rattle.xml_names.specs.declared.names.Decl.{Decl}
@@ -33,7 +33,7 @@ use Rattle.node_select.specs.readers.SelectorValues.{attr_test, element_test}
 use Rattle.node_select.specs.readers.Words.{star, at_sign, open_bracket, close_bracket, equals_sign}
 use Rattle.node_select.specs.readers.Selectors.{read_position, read_inside_quotes, read_value}
 use Rattle.node_select.specs.Faults.{marks}
-use Rattle.node_select.proofs.Judging.{judged_attribute, judged_node_name, judged_test}
+use Rattle.node_select.proofs.NameReading.{judged_attribute, judged_node_name, judged_test}
 use Rattle.node_select.proofs.JudgedNames.{lawful_named, exact_name, prefixed, prefixed_attribute}
 
 -- this character

@@ -5,7 +5,7 @@ use Rattle.std.proofs.lemmas.Bool.{eqb-true}
 use Rattle.std.proofs.lemmas.List.{append_cancel_right, append_cancel_left, length-append, take-append-drop}
 use Rattle.xml_names.specs.Characters.{is_name_start}
 use Rattle.xml_grammar.specs.Rules.{Event, Begin, Mark, Rule, word, many, only, judged, optional, keeping_second, valued}
-use Rattle.xml_grammar.specs.Reading.{Stop, Syntax, Faulty, ◌>>=◌, Reader, head_is, starts, read_word, read_valued}
+use Rattle.xml_grammar.specs.TextReading.{Stop, Syntax, Faulty, ◌>>=◌, Reader, head_is, starts, read_word, read_valued}
 use Rattle.xml_grammar.specs.readers.Functions.{all_of, read_behind, read_optional, read_whole}
 use Rattle.xml_grammar.specs.Answers.{Answers, Faults}
 use Rattle.xml_grammar.proofs.Exact.{Rest, ahead, Exact, IsRead, IsStopped, exact_sequence}
@@ -14,7 +14,7 @@ use Rattle.xml_grammar.proofs.Carry.{Idle, Covers, exact_valued, covers_either, 
 use Rattle.xml_grammar.proofs.Heads.{Heads, Starts, Not, heads_starts, heads_optional, heads_valued, starts_word, starts_valued, starts_sequence, starts_covers, uses}
 use Rattle.xml_grammar.proofs.Repeats.{exact_many, heads_many}
 use Rattle.xml_grammar.proofs.Laws.{Lawful, Inside, inside_ahead, lawful_valued, lawful_sequence, lawful_optional, lawful_behind, lawful_word, lawful_either, lawful_many}
-use Rattle.xml_grammar.proofs.Led.{led_word, led_behind, led_covers_rest, next_false, stopped_covers}
+use Rattle.xml_grammar.proofs.LedRules.{led_word, led_behind, led_covers_rest, next_false, stopped_covers}
 use Rattle.xml_grammar.proofs.Fronts.{starts_is}
 use Rattle.xml_grammar.proofs.Shapes.{exact_behind, covers_by, covers_empty, covered_valued, covered_sequence, starts_behind}
 use Rattle.xml_grammar.proofs.Tests.{exact_either_head, exact_optional_head, failed_covers, heads_covers}
@@ -39,7 +39,7 @@ use Rattle.node_select.specs.declared.selector.PatchSelector.{PatchSelector}
 use Rattle.std.specs.Str.{chars}
 use Rattle.xml_names.specs.Memory.{Answered}
 use Rattle.xml_names.specs.declared.read_error.ReadError.{ReadError}
-use Rattle.xml_tokens.proofs.Answering.{answered_so}
+use Rattle.xml_tokens.proofs.MemoryAnswers.{answered_so}
 use Rattle.node_select.specs.declared.fault.SelectorFault.{SelectorFault}
 use Rattle.node_select.specs.declared.fault.SelectorFault.TheVariants.{BadSelector, UnboundPrefix}
 use Rattle.node_select.specs.readers.Raw
@@ -47,9 +47,9 @@ use Rattle.node_select.specs.readers.Selectors as reader
 use Rattle.node_select.specs.readers.Whole as raw
 use Rattle.node_select.specs.readers.Whole.{meant, selector_read, patch_selector_read}
 use Rattle.node_select.specs.Faults.{marks, byte_of, stop_place, IsSelectorAnswer, IsPatchSelectorAnswer, selector_result as told}
-use Rattle.node_select.proofs.Agreeing.{Agrees, verdict, counted, dropped}
-use Rattle.node_select.proofs.Resolved.{selector_follows, patch_selector_follows}
-use Rattle.node_select.proofs.Judging.{judged_steps, judged_end, judged_selector, judged_patch_end, judged_patch_selector}
+use Rattle.node_select.proofs.WidthReading.{Agrees, verdict, counted, dropped}
+use Rattle.node_select.proofs.ResolvedSelectors.{selector_follows, patch_selector_follows}
+use Rattle.node_select.proofs.NameReading.{judged_steps, judged_end, judged_selector, judged_patch_end, judged_patch_selector}
 use Rattle.node_select.proofs.ExactParts.{Is, clash, other, exact_attribute, exact_position, lawful_attribute, lawful_position}
 use Rattle.node_select.proofs.StepFronts.{fronted_step}
 use Rattle.node_select.proofs.ExactSteps.{into_optional, and_left, exact_step, lawful_step, starts_step, read_covers}

@@ -6,7 +6,7 @@ use Rattle.xml_names.specs.Characters.{is_name_start}
 use Rattle.xml_names.specs.declared.names.Decl.{Decl}
 use Rattle.std.specs.Char.{is_ascii_digit as is_digit}
 use Rattle.xml_grammar.specs.Rules.{Event, Begin, Mark, Rule, word, sequence, optional, keeping_first, keeping_second, valued, some_of}
-use Rattle.xml_grammar.specs.Reading.{head_is, starts}
+use Rattle.xml_grammar.specs.TextReading.{head_is, starts}
 use Rattle.xml_grammar.specs.readers.Functions.{read_optional}
 use Rattle.xml_grammar.specs.Answers.{Faults}
 use Rattle.xml_grammar.proofs.Exact.{Rest, ahead, Exact, IsRead, Passed, exact_sequence}
@@ -14,7 +14,7 @@ use Rattle.xml_grammar.proofs.Carry.{Idle, Covers, exact_valued, covers_either, 
 use Rattle.xml_grammar.proofs.Fronts.{GoesOn, compare}
 use Rattle.xml_grammar.proofs.Heads.{Heads, Starts, Not, heads_weaker, heads_optional, starts_word, starts_weaker, starts_valued, starts_either, starts_sequence, starts_judged}
 use Rattle.xml_grammar.proofs.Laws.{Lawful, Inside, inside_ahead, lawful_valued, lawful_sequence, lawful_optional}
-use Rattle.xml_grammar.proofs.Led.{Led, led_valued, led_then}
+use Rattle.xml_grammar.proofs.LedRules.{Led, led_valued, led_then}
 use Rattle.xml_grammar.proofs.Shapes.{exact_optional, covers_by, covers_empty, starts_behind, starts_before, starts_some_of}
 use Rattle.xml_grammar.proofs.Tests.{exact_optional_head, passed_covers, failed_covers, next_covers, other_covers}
 use Rattle.xml_tokens.specs.declared.fault_kind.FaultKind.{FaultKind}
@@ -25,7 +25,7 @@ use Rattle.node_select.specs.readers.SelectorValues.{element_test, attr_test, st
 use Rattle.node_select.specs.readers.Words.{at_sign, open_bracket, close_bracket, equals_sign}
 use Rattle.node_select.specs.readers.Selectors.{position_follows, test_follows, read_position}
 use Rattle.node_select.specs.Faults.{marks}
-use Rattle.node_select.proofs.Judging.{judged_test, judged_step}
+use Rattle.node_select.proofs.NameReading.{judged_test, judged_step}
 use Rattle.node_select.proofs.ExactParts.{Is, clash, in_qname, starts_qname, exact_position, exact_test, exact_node_name, lawful_position, lawful_test, lawful_node_name}
 
 -- a beginning of a member is a beginning of the optional member

@@ -4,7 +4,7 @@ use Rattle.std.proofs.lemmas.Bool.{cases_order, cases_lt}
 use Rattle.std.proofs.lemmas.Option.{same_Some}
 use Rattle.node_select.specs.StepSelection.{IsAtPosition, Matches}
 use Rattle.node_select.specs.InsertionPoints.{IsFree, IsLawfulInsertion}
-use Rattle.node_select.proofs.Inserted.{get-insert_before, get-insert_at, get-insert_behind, take-insert_before, count-insert_behind, count_up_to, count_past, one_more}
+use Rattle.node_select.proofs.ListEdits.{get-insert_before, get-insert_at, get-insert_behind, take-insert_before, count-insert_behind, count_up_to, count_past, one_more}
 
 -- a child before the gap matches as before
 pub match_before : {A : Type 0} (named tested : A → Bool) (position : Option ℕ) (xs : List A) (gap : ℕ) (e : A) (i : ℕ) → gap ≤ length xs → i < gap → Matches named tested position (insert xs gap e) i ↔ Matches named tested position xs i

@@ -9,7 +9,7 @@ use Rattle.xml_names.specs.declared.names.Name.{Name}
 use Rattle.xml_names.specs.declared.names.Decl.{Decl}
 use Rattle.xml_names.specs.Characters.{is_name_start, is_name_char}
 use Rattle.xml_grammar.specs.Rules.{Event, Begin, Mark, Rule, AllPass, word, only, judged, optional, keeping_second}
-use Rattle.xml_grammar.specs.Reading.{Stop, Syntax, Faulty, Reader, ◌>>=◌, front_of, after_front}
+use Rattle.xml_grammar.specs.TextReading.{Stop, Syntax, Faulty, Reader, ◌>>=◌, front_of, after_front}
 use Rattle.xml_grammar.specs.readers.Functions.{read_judged, read_only, judgement}
 use Rattle.xml_grammar.proofs.Exact.{Rest, ahead, Exact, IsRead, IsAtFault, Outcome, Passed, Behind, Later}
 use Rattle.xml_grammar.proofs.Laws.{Lawful, Quiet, Inside, inside_ahead, lawful_judged}
@@ -22,7 +22,7 @@ use Rattle.xml_tokens.specs.readers.Tokens.{read_name, read_qname}
 use Rattle.node_select.specs.Names.{is_unbound}
 use Rattle.node_select.specs.Grammar.{IsUnbound, names_attribute}
 use Rattle.node_select.specs.Faults.{marks}
-use Rattle.node_select.proofs.Judging.{judge}
+use Rattle.node_select.proofs.NameReading.{judge}
 
 -- ---- names
 

@@ -8,7 +8,7 @@ use Rattle.node_select.specs.declared.descent.Reached.{Reached}
 use Rattle.node_select.specs.declared.selector.Step.{Step}
 use Rattle.node_select.specs.inner.LongestMatches.{ReachesBelow}
 use Rattle.node_select.specs.Selection.{is_named, is_tested, selected_child, selected_among, depth_among, longest_in, IsLongestMatch, SelectsPath}
-use Rattle.node_select.proofs.Reaching.{among_next, depth_next, longer, longest_is, path_is, sole_selected}
+use Rattle.node_select.proofs.ReachLemmas.{among_next, depth_next, longer, longest_is, path_is, sole_selected}
 
 -- one step leads to a child, and the other steps on from there
 pub goes_on : (c : List (List Decl)) (child_elements : List Tree) (s : Step) (steps : List Step) (base : List ℕ) (i : ℕ) (child_element : Tree) (below reached : Reached) → selected_child c s child_elements ≡ Some i → slice_get child_elements i ≡ Some child_element

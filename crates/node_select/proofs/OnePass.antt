@@ -4,7 +4,7 @@ use Rattle.std.proofs.Common.{◌≡◌, ℕ, ◌+◌, ◌<◌, inl, inr, ◌↔
 use Rattle.std.proofs.lemmas.Bool.{cases_lt}
 use Rattle.std.proofs.lemmas.Option.{same_Some, none-some, slice_get_within}
 use Rattle.node_select.specs.StepSelection.{Matches, Selects, selected}
-use Rattle.node_select.proofs.Selecting.{answer_is}
+use Rattle.node_select.proofs.SelectionAgreement.{answer_is}
 
 -- below n no number has the property, or this one alone
 abbrev pub OnlyBelow : (ℕ → Type 0) → ℕ → Option ℕ → Type 0

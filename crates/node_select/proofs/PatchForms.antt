@@ -2,7 +2,7 @@
 use Rattle.std.proofs.Common.{◌≡◌, ℕ, ◌+◌, false, List, [], ◌∷◌, Option, Some, None, Result, Ok, Err, IfOk, refl, sym, ap, ◌∙◌, subst}
 use Rattle.std.specs.Str.{chars}
 use Rattle.std.specs.declared.alloc.AllocError.{AllocError}
-use Rattle.xml_grammar.specs.Reading.{Stop, ◌>>=◌}
+use Rattle.xml_grammar.specs.TextReading.{Stop, ◌>>=◌}
 use Rattle.xml_grammar.specs.readers.Functions.{all_of, read_whole}
 use Rattle.xml_grammar.proofs.Whole.{told_alike}
 use Rattle.xml_tokens.specs.declared.fault_kind.FaultKind.{FaultKind}
@@ -13,10 +13,10 @@ use Rattle.node_select.specs.Grammar.{patch_selector}
 use Rattle.node_select.specs.readers.Raw.{RawPatchEnd, RawPatchSelector, PatchElement, PatchAttribute, PatchChars, patch_end_of, patch_selector_of, unbound_from, unbound_patch_end}
 use Rattle.node_select.specs.readers.Selectors.{read_patch_selector}
 use Rattle.node_select.specs.readers.Whole.{patch_form_read, raw_form_of, raw_form_if_parsed}
-use Rattle.node_select.proofs.Agreeing.{Agrees, counted, verdict}
+use Rattle.node_select.proofs.WidthReading.{Agrees, counted, verdict}
 use Rattle.node_select.proofs.ExactSelectors.{patch_selector_answers}
-use Rattle.node_select.proofs.Judging.{judged_patch_selector}
-use Rattle.node_select.proofs.Resolved.{patch_selector_follows}
+use Rattle.node_select.proofs.NameReading.{judged_patch_selector}
+use Rattle.node_select.proofs.ResolvedSelectors.{patch_selector_follows}
 
 same_form : (end : RawPatchEnd) → raw_form_of end ≡ form_of (patch_end_of [] end)
 same_form PatchElement = refl

@@ -3,7 +3,7 @@ use Rattle.std.proofs.Common.{◌≡◌, ℕ, zero, suc, ◌+◌, ◌-◌, ◌�
 use Rattle.std.specs.Prelude.{nat_eq}
 use Rattle.xml_names.specs.declared.names.Name.{Name}
 use Rattle.std.specs.Char.{is_ascii_digit as is_digit}
-use Rattle.xml_grammar.specs.Reading.{Stop, Syntax, Reader, ◌>>=◌, read_word, read_sequence, read_valued}
+use Rattle.xml_grammar.specs.TextReading.{Stop, Syntax, Reader, ◌>>=◌, read_word, read_sequence, read_valued}
 use Rattle.xml_grammar.specs.readers.Functions.{read_at_most, read_many, read_sized, read_only, read_optional, read_name_of, read_before, read_behind, read_whole, all_of}
 use Rattle.xml_tokens.specs.declared.fault_kind.FaultKind.{FaultKind}
 use Rattle.xml_tokens.specs.Tokens.{is_quote, is_raw_in}

@@ -2,7 +2,7 @@
 -- that shows.
 use Rattle.std.specs.Prelude.{◌≡◌, ℕ, ◌-◌, Bool, true, false, List, [], length, drop, Option, None}
 use Rattle.std.specs.Prelude.{Some, Result, Ok, Err, encode_utf8_all, chars}
-use Rattle.xml_grammar.specs.Reading.{Stop, Syntax, Faulty}
+use Rattle.xml_grammar.specs.TextReading.{Stop, Syntax, Faulty}
 use Rattle.xml_grammar.specs.Answers as grammar
 use Rattle.xml_tokens.specs.declared.fault_kind.FaultKind.{FaultKind}
 use Rattle.xml_names.specs.declared.names.Decl.{Decl}

@@ -4,7 +4,7 @@ use Rattle.std.specs.Prelude.{ℕ, Bool, not, ◌&&◌, List, [], ◌∷◌, Opt
 use Rattle.std.specs.Prelude.{if◌then◌else◌}
 use Rattle.std.specs.Str.{bytes_eq}
 use Rattle.xml_names.specs.Scopes.{bound, xmlns_prefix}
-use Rattle.xml_names.specs.Expanded.{ExpandedName}
+use Rattle.xml_names.specs.ExpandedNames.{ExpandedName}
 use Rattle.xml_names.specs.declared.names.Decl.{Decl}
 use Rattle.xml_names.specs.declared.names.Name.{Name}
 

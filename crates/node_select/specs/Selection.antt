@@ -8,7 +8,7 @@ use Rattle.std.specs.List.{list_any}
 use Rattle.std.specs.Str.{bytes_eq}
 use Rattle.xml_tree.specs.Tree.{Tree, child_elements_of, at}
 use Rattle.xml_tree.specs.TreeScopes.{scope_at, inside}
-use Rattle.xml_names.specs.Expanded.{ExpandedName, element_name, attr_name}
+use Rattle.xml_names.specs.ExpandedNames.{ExpandedName, element_name, attr_name}
 use Rattle.xml_names.specs.declared.names.Decl.{Decl}
 use Rattle.xml_names.specs.declared.names.Attr.{Attr}
 use Rattle.node_select.specs.StepSelection as step_laws

@@ -56,7 +56,7 @@ impl Bindings {
 
     // The bindings as declarations of one element, with an index if they are many and there is
     // memory for one.
-    pub(crate) fn declared(&self) -> IndexedDecls<'_>
+    pub(crate) fn indexed_decls(&self) -> IndexedDecls<'_>
         ensures declares_bindings { result ≡ self.now }
     {
         declared_in(self.alloc, &self.decls)

@@ -2,7 +2,7 @@
 ghost use Rattle.std.specs.Prelude.{◌≡◌, ◌+◌, ◌<◌, ◌^◌, IfOk, chars, map, Option, option_map};
 ghost use Rattle.xml_tokens.specs.readers.TokenViews.{name_in};
 ghost use Rattle.node_select.specs.declared.name_resolution.Unresolved.TheVariants as troubles;
-ghost use Rattle.node_select.specs.readers.Resolving.{Means};
+ghost use Rattle.node_select.specs.readers.NameResolution.{Means};
 ghost use Rattle.node_select.specs.Names.{prefix_uri, attr_uri, name_uri};
 ghost use Rattle.node_select.specs.readers.Raw.{HasRoom, attr_test, end_of, name_test};
 ghost use Rattle.node_select.specs.readers.Raw.{patch_end_of, step_of, steps_of, unbound_at};

@@ -1,6 +1,6 @@
 //! The grammar of selectors, read from left to right.
 ghost use Rattle.std.specs.Prelude.{chars, map, IfOk, Ok};
-ghost use Rattle.xml_grammar.specs.Reading.{read_valued, read_word};
+ghost use Rattle.xml_grammar.specs.TextReading.{read_valued, read_word};
 ghost use Rattle.xml_grammar.specs.readers.Functions.{read_behind, read_optional, read_whole};
 ghost use Rattle.xml_tokens.specs.readers.Results.{Gives};
 ghost use Rattle.node_select.specs.readers.Words.{slash};

@@ -7,7 +7,7 @@ ghost use Rattle.node_select.specs.readers.Raw.{HasRoom, first_unbound, first_un
 ghost use Rattle.node_select.specs.readers.Raw.{patch_selector_of, selector_of};
 ghost use Rattle.node_select.specs.readers.Views.{patch_end_in, patch_selector_in, selector_in};
 ghost use Rattle.node_select.specs.readers.Views.{step_in};
-ghost use Rattle.node_select.specs.readers.Resolving.{Means};
+ghost use Rattle.node_select.specs.readers.NameResolution.{Means};
 ghost use Rattle.node_select.specs.readers.ParseErrors.{Tells, TellsUnresolved};
 ghost use Rattle.node_select.specs.readers.Whole.{patch_form_read, patch_selector_read};
 ghost use Rattle.node_select.specs.readers.Whole.{raw_form_of, selector_read};
@@ -70,14 +70,14 @@ fn resolve_selector(
     ensures means_selector { Means (first_unbound bindings.now (selector_in raw.now))
         (selector_of bindings.now (chars default_uri.now) (selector_in raw.now)) result }
 {
-    let declared = bindings.declared();
-    let (steps, at) = steps(alloc, &declared, default_uri, &raw.steps, 0)?;
-    let end = end(alloc, &declared, &raw.end, at)?;
+    let indexed_decls = bindings.indexed_decls();
+    let (steps, at) = steps(alloc, &indexed_decls, default_uri, &raw.steps, 0)?;
+    let end = end(alloc, &indexed_decls, &raw.end, at)?;
     Ok(Selector { steps, end })
 }
 
 // The selector of a patch that a raw selector means.
-fn patch_resolved(
+fn resolve_patch_selector(
     alloc: Global,
     raw: &RawPatchSelector<'_>,
     bindings: &Bindings,
@@ -89,9 +89,9 @@ fn patch_resolved(
         (patch_selector_of bindings.now (chars default_uri.now) (patch_selector_in raw.now))
         result }
 {
-    let declared = bindings.declared();
-    let (steps, at) = steps(alloc, &declared, default_uri, &raw.steps, raw.slash)?;
-    let end = patch_end(alloc, &declared, &raw.end, at)?;
+    let indexed_decls = bindings.indexed_decls();
+    let (steps, at) = steps(alloc, &indexed_decls, default_uri, &raw.steps, raw.slash)?;
+    let end = patch_end(alloc, &indexed_decls, &raw.end, at)?;
     Ok(PatchSelector { steps, end })
 }
 
@@ -127,7 +127,7 @@ fn patch_selector_of_text(
 {
     match raw_patch_selector(alloc, text) {
         Err(stop) => Err(parse_fault(text, &stop)),
-        Ok(raw) => match patch_resolved(alloc, &raw, bindings, default_uri) {
+        Ok(raw) => match resolve_patch_selector(alloc, &raw, bindings, default_uri) {
             Err(why) => Err(resolution_fault(text, &why)),
             Ok(selector) => Ok(selector),
         },

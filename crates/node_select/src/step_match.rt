@@ -6,7 +6,7 @@ ghost use Rattle.std.specs.List.{find, list_any};
 ghost use Rattle.std.specs.Option.{option_copied};
 ghost use Rattle.std.specs.Str.{bytes_eq};
 ghost use Rattle.xml_tree.specs.Tree.{child_elements_of};
-ghost use Rattle.xml_names.specs.Expanded.{element_name, attr_name};
+ghost use Rattle.xml_names.specs.ExpandedNames.{element_name, attr_name};
 ghost use Rattle.node_select.specs.StepSelection.{is_at_position, child_matches};
 ghost use Rattle.node_select.specs.Names.{is_named_so, uri_of};
 ghost use Rattle.node_select.specs.Selection.{has_asked, is_asked, is_attr, is_named, is_tested};
@@ -166,7 +166,7 @@ fn has_value(test: &AttrTest, attrs: &[Attr]) -> bool
 
 // Whether an element has an attribute that passes the test, in the scope around it. Values are
 // compared first, since few elements have the value.
-#[tactic(auto, using(crate::proofs::Valued::none_valued))]
+#[tactic(auto, using(crate::proofs::ValueTests::none_valued))]
 fn has_tested(
     alloc: Global,
     scope: &LinkedScope<'_>,

@@ -3,7 +3,7 @@ ghost use Rattle.std.specs.Prelude.{◌≡◌, ◌<◌, ◌^◌, ◌++◌, [], �
 ghost use Rattle.std.specs.Prelude.{OnOk, Ok};
 ghost use Rattle.xml_grammar.specs.Digits.{decimal_digits};
 ghost use Rattle.std.specs.Str.{bytes_eq};
-ghost use Rattle.xml_grammar.specs.Reading.{read_sequence};
+ghost use Rattle.xml_grammar.specs.TextReading.{read_sequence};
 ghost use Rattle.xml_grammar.specs.readers.Functions.{read_optional};
 ghost use Rattle.xml_tokens.specs.readers.Results.{Gives};
 ghost use Rattle.xml_tokens.specs.readers.TokenViews.{name_in};

@@ -1,10 +1,10 @@
+pub mod ActionResults
+pub mod ActionTrees
 pub mod Depths
-pub mod Done
-pub mod Located
+pub mod LocationActions
+pub mod LocationLemmas
 pub mod Lows
-pub mod Making
-pub mod Operating
-pub mod Replaying
+pub mod OperationOrder
+pub mod OperationStages
 pub mod Sites
-pub mod Spotted
-pub mod Turning
+pub mod WholeNotices

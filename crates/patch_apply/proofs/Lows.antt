@@ -3,16 +3,16 @@ use Rattle.std.proofs.Common.{◌≡◌, ◌≤◌, ℕ, suc, Bool, true, false,
 use Rattle.std.specs.List.{list_all, list_any, slice_get}
 use Rattle.xml_names.specs.Attributes.{remove_first}
 use Rattle.xml_tree.specs.Edits.{change_at, put_over}
-use Rattle.xml_names.specs.Expanded.{attr_name, same_expanded}
+use Rattle.xml_names.specs.ExpandedNames.{attr_name, same_expanded}
 use Rattle.xml_tree.specs.Nodes.{exchange_nodes, nodes_of, text_node}
 use Rattle.xml_tree.specs.TreeScopes.{scope_around, scope_at}
 use Rattle.xml_tree.specs.Tree.{Content, Tree, at, height}
 use Rattle.xml_names.specs.declared.names.Decl.{Decl}
 use Rattle.xml_names.specs.declared.names.Name.{Name}
 use Rattle.node_select.specs.declared.selector.PatchSelector.{PatchSelector}
-use Rattle.patch_rules.specs.PatchOperations.{Directive, NoSpace, Prefix, RootTouched, Unlocated, OperationError, WrongNodes, PatchAction, Put, NewAttr, Replace, Remove, Location, AtElement, AtAttr, AtText, attr_of, cut_element, cut_nodes, done, given, is_bare, is_below, is_bound_type, is_known, locate, made, means_alike, is_off_root, spot_path, plain_value, put_at, rewritten, scope_of_put, sole_element, space_fits, suits, task_of, tested, value_in, with_attrs, within_depth, operation_word}
+use Rattle.patch_rules.specs.PatchOperations.{Directive, NoSpace, Prefix, RootTouched, Unlocated, OperationError, WrongNodes, PatchAction, Put, NewAttr, Replace, Remove, Location, AtElement, AtAttr, AtText, attr_of, cut_element, cut_nodes, apply_action, given, is_bare, is_below, is_bound_type, is_known, locate, made, means_alike, is_off_root, spot_path, plain_value, put_at, rewritten, scope_of_put, sole_element, space_fits, suits, task_of, tested, value_in, with_attrs, within_depth, operation_word}
 use Rattle.patch_rules.specs.Selectors.{Reading}
-use Rattle.patch_rules.specs.readers.Applied.{apply_operation, reading_in}
+use Rattle.patch_rules.specs.readers.AppliedOperations.{apply_operation, reading_in}
 use Rattle.patch_apply.proofs.Depths.{low_made}
 
 abbrev Low : Tree → Type 0
@@ -45,7 +45,7 @@ module _ (c : List (List Decl)) (content : Content) (t x : Tree) where
   abbrev is_new : Name → List ℕ → Bool
   is_new name p = not (list_any (λ a. same_expanded (attr_name (scope_at p t) a.name) (attr_name c name)) (unwrap_or (option_map (λ e. e.attrs) (at p t)) []))
 
-  done_low : (task : PatchAction) (location : Location) → done c task location content t ≡ Ok x → Low x
+  done_low : (task : PatchAction) (location : Location) → apply_action c task location content t ≡ Ok x → Low x
   done_low (Put position) location e =
       let p = spot_path location in
       let some = is_some (slice_get (nodes_of content) 0) in
@@ -112,5 +112,5 @@ applied_low c o t x e =
     let ws = plain_value (codes "ws") o.attrs in
     low_made x (
     chain_low (plain_value (codes "sel") o.attrs) (list_all is_known o.attrs) (option_and_then (λ w. task_of w pos type ws) (operation_word o.name.local)) reading_in (λ y f. suits y f.ends) (λ f. f.means here)
-    (is_bound_type here) (λ s. locate s t) (λ y location. done here y location o.content t) x (λ y location h. done_low here o.content t x y location h) e
+    (is_bound_type here) (λ s. locate s t) (λ y location. apply_action here y location o.content t) x (λ y location h. done_low here o.content t x y location h) e
     )

@@ -10,13 +10,13 @@ ghost use Rattle.patch_rules.specs.Replay.{Patched, Removed, is_all_mine, last_n
 ghost use Rattle.patch_rules.specs.Replay.{operation_count};
 ghost use Rattle.patch_rules.specs.readers.Replay.{all_taken, replayed, document_taken};
 ghost use Rattle.patch_rules.specs.Replay as words;
-ghost use Rattle.patch_rules.specs.Replayed.{HoldsSound};
+ghost use Rattle.patch_rules.specs.ReplayLaws.{HoldsSound};
 ghost use Rattle.patch_apply.specs.ApplyAnswers.{Applies};
 ghost use Rattle.patch_apply.specs.inner.Results.{AppliesAs, AreGiven};
 ghost use Rattle.patch_apply.specs.declared.document_outcomes.DocumentOutcome.{
   DocumentOutcome as TheTurn,
 };
-ghost use Rattle.xcap_uri.specs.Naming.{is_name_of};
+ghost use Rattle.xcap_uri.specs.PrintedNames.{is_name_of};
 ghost use Rattle.patch_parse.specs.Operations.{ours_in};
 ghost use Rattle.patch_apply.specs.Views.{IsWithinLevels, answer_in, stored_in};
 ghost use Rattle.patch_apply.specs.inner.PrivateTypes.{contents_in, turn_in};

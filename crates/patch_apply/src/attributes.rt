@@ -5,7 +5,7 @@ ghost use Rattle.xml_names.specs.Memory.{Answered};
 ghost use Rattle.xml_names.specs.Limits.{max_levels};
 ghost use Rattle.xml_names.specs.Attributes.{with_value};
 ghost use Rattle.xml_tree.specs.Edits.{change_at};
-ghost use Rattle.xml_names.specs.Expanded.{attr_name, same_expanded};
+ghost use Rattle.xml_names.specs.ExpandedNames.{attr_name, same_expanded};
 ghost use Rattle.xml_tree.specs.Nodes.{nodes_of, text_node};
 ghost use Rattle.xml_tree.specs.TreeScopes.{scope_at};
 ghost use Rattle.xml_tree.specs.Tree.{at, height};

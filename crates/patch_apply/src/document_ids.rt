@@ -1,6 +1,6 @@
 //! Names of documents, read back (RFC 4825, section 6.2; RFC 3986, section 2.1).
 ghost use Rattle.std.specs.Prelude.{◌≡◌, ◌∷◌, [], IfOk, Some, map, codes};
-ghost use Rattle.xcap_uri.specs.Naming.{are_parts, is_name_of, is_part};
+ghost use Rattle.xcap_uri.specs.PrintedNames.{are_parts, is_name_of, is_part};
 
 use doc_names::{DocId, Home};
 use percent_encoding::percent_decode;

@@ -8,7 +8,7 @@ ghost use Rattle.xml_names.specs.Limits.{u64_max, max_levels};
 ghost use Rattle.xml_tree.specs.Tree.{Tree, height};
 ghost use Rattle.patch_rules.specs.PatchOperations as words;
 ghost use Rattle.patch_rules.specs.Replay.{WrongTag, held_tag, numbered};
-ghost use Rattle.patch_rules.specs.readers.Replay.{all_applied, by_tags, change_outcome};
+ghost use Rattle.patch_rules.specs.readers.Replay.{apply_all, by_tags, change_outcome};
 ghost use Rattle.patch_rules.specs.readers.Replay.{renewed_copy};
 ghost use Rattle.patch_apply.specs.inner.Results.{AreGiven, EditsAs};
 ghost use Rattle.patch_apply.specs.Views.{IsWithinLevels, stored_in, version_in};
@@ -55,7 +55,7 @@ fn error_at(error: ReadError<OperationError>, number: usize) -> ReadError<ApplyF
 
 // Applies operations, one after another, to a tree; `before` operations of the diff document come
 // before them.
-fn all_applied(
+fn apply_all(
     alloc: Global,
     before: usize,
     scope: &Scope<'_>,
@@ -66,7 +66,7 @@ fn all_applied(
     requires height_bounded { height tree.old ≤ max_levels }
     ensures as_specified { (n : ℕ) → before ≡ min n u64_max
         → Answered (AreGiven (λ _. tree.new)
-        (all_applied n scope.now (map (λ x. x.now) operations.now) tree.old)) result }
+        (apply_all n scope.now (map (λ x. x.now) operations.now) tree.old)) result }
     ensures within_levels { OnOk result (height tree.new ≤ max_levels) }
 {
     let mut number = before;
@@ -141,7 +141,7 @@ fn change_outcome(
     if is_body_unchanged(scope, operations) {
         return Ok(DocumentOutcome::Updated);
     }
-    all_applied(alloc, before, scope, operations, &mut held.root)?;
+    apply_all(alloc, before, scope, operations, &mut held.root)?;
     Ok(DocumentOutcome::Updated)
 }
 

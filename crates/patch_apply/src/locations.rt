@@ -5,7 +5,7 @@ ghost use Rattle.xml_tree.specs.TreeScopes.{scope_at};
 ghost use Rattle.xml_tree.specs.Tree.{at, height};
 ghost use Rattle.node_select.specs.declared.selector.PatchEnd.TheVariants as ends;
 ghost use Rattle.patch_rules.specs.PatchOperations.{locate_end, locate};
-ghost use Rattle.patch_apply.specs.inner.Locating.{Spots, path_in};
+ghost use Rattle.patch_apply.specs.inner.LocationViews.{Spots, path_in};
 
 use crate::nodes::selected_text;
 use node_select::{PatchEnd, PatchSelector, find_attr, select_steps};

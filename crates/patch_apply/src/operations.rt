@@ -5,11 +5,11 @@ ghost use Rattle.xml_tree.specs.declared.scope.TheConstants.{SCOPE_LIMIT};
 ghost use Rattle.xml_names.specs.Limits.{max_levels};
 ghost use Rattle.xml_tree.specs.Tree.{height};
 ghost use Rattle.patch_rules.specs.PatchOperations.{remove_done, replace_done};
-ghost use Rattle.patch_rules.specs.readers.Applied.{apply_operation};
+ghost use Rattle.patch_rules.specs.readers.AppliedOperations.{apply_operation};
 ghost use Rattle.patch_rules.specs.PatchOperations as words;
 ghost use Rattle.patch_apply.specs.inner.Results.{EditsAs};
-ghost use Rattle.patch_apply.specs.inner.Locating.{IsSpot, IsThere};
-ghost use Rattle.patch_apply.specs.inner.Stages.{done_where, said_done};
+ghost use Rattle.patch_apply.specs.inner.LocationViews.{IsSpot, IsThere};
+ghost use Rattle.patch_apply.specs.inner.Stages.{locate_and_apply, said_done};
 ghost use Rattle.patch_parse.specs.Views.{task_in};
 
 use crate::attributes::{add_attr, remove_attr, remove_text, replace_attr, replace_text};
@@ -67,7 +67,7 @@ fn remove(
 }
 
 // Carries out a patch action at a location.
-fn done(
+fn apply_action(
     alloc: Global,
     here: &Scope<'_>,
     task: PatchAction,
@@ -78,8 +78,11 @@ fn done(
     requires place_exists { IsThere tree.old location }
     requires height_bounded { height tree.old ≤ max_levels }
     ensures as_specified { (w : words.Location) → IsSpot tree.old location w
-        → Answered (EditsAs (words.done here.now (task_in task) w operation.now.content tree.old)
-        tree.new) result }
+        → Answered
+        (EditsAs
+        (words.apply_action here.now (task_in task) w operation.now.content tree.old)
+        tree.new)
+        result }
 {
     match task {
         PatchAction::Put(position) => {
@@ -101,7 +104,7 @@ fn done(
 }
 
 // Carries out a patch action at the location that a selector selects.
-fn done_where(
+fn locate_and_apply(
     alloc: Global,
     here: &Scope<'_>,
     task: PatchAction,
@@ -111,13 +114,15 @@ fn done_where(
 ) -> Result<(), ReadError<OperationError>>
     requires height_bounded { height tree.old ≤ max_levels }
     ensures as_specified { Answered
-        (EditsAs (done_where here.now (task_in task) selector.now operation.now.content tree.old)
-        tree.new) result }
+        (EditsAs
+        (locate_and_apply here.now (task_in task) selector.now operation.now.content tree.old)
+        tree.new)
+        result }
 {
     let Some(location) = locate(alloc, selector, tree) else {
         return Err(ReadError::Fault(OperationError::Unlocated));
     };
-    done(alloc, here, task, location, operation, tree)
+    apply_action(alloc, here, task, location, operation, tree)
 }
 
 // Applies an operation that has a selector and whose attributes are known.
@@ -138,7 +143,7 @@ fn apply_selected(
     };
     match selector_for(alloc, here, sel, &task) {
         Err(error) => Err(error),
-        Ok(selector) => done_where(alloc, here, task, &selector, operation, tree),
+        Ok(selector) => locate_and_apply(alloc, here, task, &selector, operation, tree),
     }
 }
 

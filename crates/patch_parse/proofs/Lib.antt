@@ -1,5 +1,5 @@
 pub mod ByNodes
 pub mod Items
 pub mod SameNames
-pub mod Selecting
+pub mod SelectorReading
 pub mod Words

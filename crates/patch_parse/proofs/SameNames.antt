@@ -2,7 +2,7 @@
 use Rattle.std.proofs.Common.{◌≡◌, ℕ, true, false, cond, ◌&&◌, List, [], Option, None, bytes_eq, refl, sym, ap, ◌∙◌}
 use Rattle.std.proofs.Math.Bool.{and-true}
 use Rattle.std.specs.Cmp.Lexicographic.{bytes_decides}
-use Rattle.xml_names.specs.Expanded.{ExpandedName, attr_name, element_name, same_expanded, same_uri}
+use Rattle.xml_names.specs.ExpandedNames.{ExpandedName, attr_name, element_name, same_expanded, same_uri}
 use Rattle.xml_names.specs.Scopes.{bound}
 use Rattle.xml_names.specs.declared.names.Decl.{Decl}
 use Rattle.xml_names.specs.declared.names.Name.{Name}

@@ -8,7 +8,7 @@ use Rattle.node_select.specs.declared.selector.PatchSelector.{PatchSelector}
 use Rattle.patch_rules.specs.PatchOperations.{OperationError, Directive, Prefix, PatchAction, given}
 use Rattle.patch_rules.specs.PatchOperations.{is_bound_type, plain_value, suits, task_of, tested}
 use Rattle.patch_rules.specs.PatchOperations.{operation_word}
-use Rattle.patch_rules.specs.readers.Applied.{reading_in}
+use Rattle.patch_rules.specs.readers.AppliedOperations.{reading_in}
 use Rattle.patch_rules.specs.Replay.{is_in_diff_namespace}
 
 -- the patch action, by the name and the attributes of an operation

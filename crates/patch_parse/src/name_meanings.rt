@@ -2,7 +2,7 @@
 //! 6).
 ghost use Rattle.std.specs.Prelude.{◌≡◌, option_map, chars};
 ghost use Rattle.std.specs.List.{list_all, list_any};
-ghost use Rattle.xml_names.specs.Expanded.{attr_name, element_name, same_expanded, same_uri};
+ghost use Rattle.xml_names.specs.ExpandedNames.{attr_name, element_name, same_expanded, same_uri};
 ghost use Rattle.patch_rules.specs.PatchOperations.{means_alike};
 ghost use Rattle.patch_parse.specs.inner.Contents.{element_alike, node_alike};
 

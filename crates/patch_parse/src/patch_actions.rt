@@ -125,7 +125,7 @@ fn without_prefix(alloc: Global, local: &[char]) -> Result<Option<Name>, AllocEr
 }
 
 // A QName, cut at its first colon.
-#[tactic(auto, using(patch_rules::proofs::Cutting::cut_from_front))]
+#[tactic(auto, using(patch_rules::proofs::NameCuts::cut_from_front))]
 fn name_of_text(alloc: Global, text: &[char]) -> Result<Option<Name>, AllocError>
     ensures ok { IfOk result (λ name. name ≡ name_of_text text.now) }
 {

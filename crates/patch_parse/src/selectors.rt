@@ -6,7 +6,7 @@ ghost use Rattle.xml_names.specs.Scopes.{bindings_in, bound};
 ghost use Rattle.node_select.specs.Faults.{form_of as end_form};
 ghost use Rattle.node_select.specs.Names.{prefix_uri};
 ghost use Rattle.patch_rules.specs.PatchOperations.{is_element_form, suits};
-ghost use Rattle.patch_rules.specs.readers.Applied.{reading_in};
+ghost use Rattle.patch_rules.specs.readers.AppliedOperations.{reading_in};
 ghost use Rattle.patch_parse.specs.inner.Forms.{IsRefused, IsUnbound, is_type_bound, unbound_with};
 ghost use Rattle.patch_parse.specs.Views.{IsGiven};
 ghost use Rattle.patch_parse.specs.Operations.{selector_tested};

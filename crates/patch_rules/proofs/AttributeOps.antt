@@ -5,7 +5,7 @@ use Rattle.std.specs.List.{AllByRecursion, find, list_any}
 use Rattle.xml_names.specs.Markup.{print_name}
 use Rattle.xml_names.specs.Attributes.{remove_first, is_written_so as is_named}
 use Rattle.xml_tree.specs.Edits.{drop_attr, write_attr}
-use Rattle.xml_names.specs.Expanded.{attr_name, same_expanded}
+use Rattle.xml_names.specs.ExpandedNames.{attr_name, same_expanded}
 use Rattle.xml_tree.specs.Proper.{IsNamed}
 use Rattle.xml_names.specs.Scopes.{bindings_in, bound, xmlns_prefix}
 use Rattle.xml_tree.specs.TreeScopes.{scope_at}
@@ -23,12 +23,12 @@ use Rattle.node_select.specs.declared.selector.PatchEnd.TheVariants.{Attribute, 
 use Rattle.node_select.specs.declared.selector.Step.{Step}
 use Rattle.patch_rules.specs.PatchOperations as words
 use Rattle.patch_rules.specs.PatchOperations.{AtAttr, AtElement, attr_of, rewritten, with_attrs}
-use Rattle.patch_rules.specs.readers.Applied.{apply_operation}
+use Rattle.patch_rules.specs.readers.AppliedOperations.{apply_operation}
 use Rattle.edit_ops.specs.Operations.{attr_path_text, change_operation as told}
 use Rattle.patch_rules.specs.Premises.{ArePositions, Meets, around_operations}
 use Rattle.patch_rules.proofs.PathSelection.{attr_form, attr_means, attr_read, locates_attr, locates_element, path_form, path_means, path_read, steps}
 use Rattle.patch_rules.proofs.Prefixes.{Meets-told, attr_alike, same_expanded-refl}
-use Rattle.patch_rules.proofs.Operating.{applied_by, change_at-agree, made_is}
+use Rattle.patch_rules.proofs.PassedOperations.{applied_by, change_at-agree, made_is}
 use Rattle.patch_rules.proofs.Attributes.{Agree, Sole, agrees, any_agree, found_any, known_type, may_name, new_behind, none_passes, not_unbound, removed_agree, rewritten_agree, type_read, uri_is}
 
 -- what is known of the name of an attribute that is written or removed, in the scope of its

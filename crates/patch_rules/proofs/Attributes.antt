@@ -6,10 +6,10 @@ use Rattle.std.specs.List.{AllByRecursion, IsDistinct, find, list_all, list_any}
 use Rattle.std.proofs.lemmas.Slice.Eq.{bytes_eq-Decides}
 use Rattle.xml_names.specs.Attributes.{change_first, remove_first, with_new_value, with_attr, is_written_so as is_named}
 use Rattle.xml_names.specs.Characters.{is_name, is_name_start, is_name_char}
-use Rattle.xml_names.specs.Expanded.{ExpandedName, attr_name, same_expanded, same_uri}
+use Rattle.xml_names.specs.ExpandedNames.{ExpandedName, attr_name, same_expanded, same_uri}
 use Rattle.xml_names.specs.Markup.{print_name}
 use Rattle.xml_tree.specs.Proper.{IsAttribute, IsNamed, is_prefix}
-use Rattle.xml_names.specs.Scopes.{bindings_in, bound, declared, joined, some_text, xml_prefix, xml_uri, xmlns_prefix}
+use Rattle.xml_names.specs.Scopes.{bindings_in, bound, declared_uri, joined, some_text, xml_prefix, xml_uri, xmlns_prefix}
 use Rattle.xml_names.specs.declared.names.Name.{Name}
 use Rattle.xml_names.specs.declared.names.Decl.{Decl}
 use Rattle.xml_names.specs.declared.names.Attr.{Attr}
@@ -18,9 +18,9 @@ use Rattle.tree_text.proofs.PrintedNames.{IsWritten}
 use Rattle.tree_text.proofs.PrintedValues.{both as parts}
 use Rattle.node_select.specs.Names.{attr_uri, is_unbound, prefix_uri, uri_of}
 use Rattle.node_select.specs.Selection.{is_attr}
-use Rattle.patch_rules.proofs.Cutting.{cut_from_front}
+use Rattle.patch_rules.proofs.NameCuts.{cut_from_front}
 use Rattle.patch_rules.specs.PatchOperations.{attr_of, no_declaration, rewritten, type_of, with_prefix}
-use Rattle.patch_rules.specs.inner.Cutting.{cut_onto}
+use Rattle.patch_rules.specs.inner.NameCuts.{cut_onto}
 use Rattle.edit_ops.specs.Operations.{attr_name_text}
 use Rattle.patch_rules.specs.Premises.{Meets}
 use Rattle.patch_rules.proofs.Prefixes.{both, same_uri-refl}
@@ -165,9 +165,9 @@ Full-text (Some (c ∷ cs)) = tt
 Full-bound : (c : List (List Decl)) (p : List ℕ) → Full (bound c p)
 Full-bound c p = by (bytes_eq p xml_prefix)
   where
-    by : (b : Bool) → Full (cond b (Some xml_uri) (some_text (declared (joined c) p)))
+    by : (b : Bool) → Full (cond b (Some xml_uri) (some_text (declared_uri (joined c) p)))
     by true = Full-xml
-    by false = Full-text (declared (joined c) p)
+    by false = Full-text (declared_uri (joined c) p)
 
 Full-attr : (c : List (List Decl)) (n : Name) → Full (attr_name c n).uri
 Full-attr c n = by (bytes_eq n.prefix [])

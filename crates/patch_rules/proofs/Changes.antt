@@ -19,11 +19,11 @@ use Rattle.edit_ops.specs.Changes.{Fits, edited}
 use Rattle.edit_ops.specs.declared.change.Change.{Change}
 use Rattle.edit_ops.specs.declared.change.Change.TheVariants.{CreateDocument, Insert, Replace, Remove, SetAttr, DropAttr, RemoveDocument}
 use Rattle.patch_rules.specs.PatchOperations.{attr_of}
-use Rattle.patch_rules.specs.readers.Applied.{apply_operation}
+use Rattle.patch_rules.specs.readers.AppliedOperations.{apply_operation}
 use Rattle.edit_ops.specs.Notes.{AreNotesOf, Note, is_fresh, note_of, scope_of_place, tree_after}
 use Rattle.edit_ops.specs.Operations.{operation, change_operation as told}
 use Rattle.patch_rules.specs.Replay.{numbered, then_next}
-use Rattle.patch_rules.specs.readers.Replay.{all_applied}
+use Rattle.patch_rules.specs.readers.Replay.{apply_all}
 use Rattle.patch_rules.specs.Notices.{operations}
 use Rattle.patch_rules.proofs.Lengths.{HasPositions, HasPositions-short}
 use Rattle.patch_rules.specs.Premises.{ArePositions, AreTold, IsTold, around_operations}
@@ -156,9 +156,9 @@ module _ (d uri : List ℕ) (ne : d ≢ []) where
       ap (λ (x : Note). apply_operation (around_operations d uri) (told d x.bindings x.fresh n.change) t) is
       ∙ applied_told t n.change fits before.proper (HasPositions-short t before.short) after.proper after.low
 
-  pub all_applied_notes : (count tag : ℕ) (t : Tree) (ns : List Note) → AreNotesOf tag t ns → AreTold t ns → all_applied count (around_operations d uri) (operations d ns) t ≡ Ok (tree_after t ns)
+  pub all_applied_notes : (count tag : ℕ) (t : Tree) (ns : List Note) → AreNotesOf tag t ns → AreTold t ns → apply_all count (around_operations d uri) (operations d ns) t ≡ Ok (tree_after t ns)
   all_applied_notes count tag t [] h told = refl
   all_applied_notes count tag t (n ∷ ns) h told =
       let one = applied_note tag t n h.0 h.1 told.0 (first_told (edited t n.change) ns told.1) in
-      ap (λ r. then_next (numbered count r) (all_applied (suc count) (around_operations d uri) (operations d ns))) one
+      ap (λ r. then_next (numbered count r) (apply_all (suc count) (around_operations d uri) (operations d ns))) one
       ∙ all_applied_notes (suc count) n.next (edited t n.change) ns h.2 told.1

@@ -4,7 +4,7 @@ use Rattle.std.specs.Prelude.{unwrap_or}
 use Rattle.xml_tree.specs.Edits.{parent_path, put, put_kid, put_over}
 use Rattle.xml_names.specs.Markup.{byte_len, closing, opening, print_decl}
 use Rattle.xml_tree.specs.Print.{ending, is_empty, print, print_content}
-use Rattle.xml_names.specs.inner.Gathering.{gathered, placed}
+use Rattle.xml_names.specs.inner.DeclarationMaps.{gathered, placed}
 use Rattle.xml_names.specs.Scopes.{bindings_in, binds, joined}
 use Rattle.xml_tree.specs.TreeScopes.{scope_around, scope_at}
 use Rattle.xml_tree.specs.Tree.{Content, last, more, comment_node, Tree, tree_of, at, child_elements, child_elements_of}

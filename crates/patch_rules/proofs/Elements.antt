@@ -18,11 +18,11 @@ use Rattle.node_select.specs.declared.selector.PatchEnd.TheVariants.{Element}
 use Rattle.node_select.specs.declared.selector.Step.{Step}
 use Rattle.patch_rules.specs.PatchOperations as words
 use Rattle.patch_rules.specs.PatchOperations.{AtElement}
-use Rattle.patch_rules.specs.readers.Applied.{apply_operation}
+use Rattle.patch_rules.specs.readers.AppliedOperations.{apply_operation}
 use Rattle.patch_rules.specs.Premises.{ArePositions, around_operations}
 use Rattle.patch_rules.proofs.PathSelection.{locates_element, path_form, path_means, path_read, steps}
 use Rattle.patch_rules.proofs.Prefixes.{Meets-told, alone_alike}
-use Rattle.patch_rules.proofs.Operating.{applied_by, around-snoc, cut_element-is, made_is, is_off_root-snoc, put_after, put_first}
+use Rattle.patch_rules.proofs.PassedOperations.{applied_by, around-snoc, cut_element-is, made_is, is_off_root-snoc, put_after, put_first}
 
 pub some_and : (o : Option Tree) (P : Tree → Type 0) → IsSomeAnd o P → (e : Tree) × (o ≡ Some e) × P e
 some_and None P h = absurd h

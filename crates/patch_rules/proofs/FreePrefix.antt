@@ -6,7 +6,7 @@ use Rattle.std.proofs.lemmas.Slice.Eq.{bytes_eq-Decides}
 use Rattle.std.specs.Set.{is_member}
 use Rattle.xml_tree.specs.Tree.{Content, last, more, comment_node, Tree}
 use Rattle.xml_names.specs.declared.names.Decl.{Decl}
-use Rattle.patch_rules.specs.inner.Declaring.{prefixes, prefixes_in}
+use Rattle.patch_rules.specs.inner.DeclaredPrefixes.{prefixes, prefixes_in}
 use Rattle.patch_rules.specs.Notices.{IsFirstFree, candidate, declarations, declarations_in, declares, first_free, is_declared_in, is_taken}
 
 -- ---- candidates

@@ -6,7 +6,7 @@ use Rattle.edit_ops.specs.Notes.{Note}
 use Rattle.edit_ops.specs.Operations.{operation}
 use Rattle.patch_rules.specs.Notices.{candidate, declarations, declares, first_free, is_declared_in, is_taken, operations, prefix_for}
 use Rattle.patch_rules.proofs.FreePrefix.{is_first_free}
-use Rattle.patch_rules.specs.Replayed.{IsPrefixFor}
+use Rattle.patch_rules.specs.ReplayLaws.{IsPrefixFor}
 use Rattle.patch_rules.proofs.Wholes.{told_decls}
 
 pub candidate-some : (k : ℕ) → candidate k ≢ []

@@ -2,7 +2,7 @@
 use Rattle.std.proofs.Common.{◌≡◌, ℕ, true, false, ◌==◌, Bool, suc, List, [], ◌∷◌, length, sym, ◌∙◌, arith}
 use Rattle.std.proofs.lemmas.Bool.Decides.{nat_tests}
 use Rattle.edit_ops.specs.Notes.{Note}
-use Rattle.edit_ops.specs.Recorded.{all_notes as joined}
+use Rattle.edit_ops.specs.RecordParts.{all_notes as joined}
 use Rattle.patch_rules.specs.inner.Lists.{is_none}
 
 positive : (k : ℕ) → (suc k == 0) ≡ false

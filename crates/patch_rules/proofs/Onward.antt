@@ -8,7 +8,7 @@ use Rattle.std.proofs.lemmas.Slice.Eq.{bytes_eq-Decides}
 use Rattle.xml_names.specs.Attributes.{remove_first}
 use Rattle.xml_names.specs.Characters.{all_chars, is_char, is_name}
 use Rattle.xml_tree.specs.Edits.{change_at, parent_path, put_over}
-use Rattle.xml_names.specs.Expanded.{ExpandedName, attr_name, element_name, same_expanded}
+use Rattle.xml_names.specs.ExpandedNames.{ExpandedName, attr_name, element_name, same_expanded}
 use Rattle.xml_tree.specs.Nodes.{exchange_nodes, nodes_of, text_node}
 use Rattle.xml_tree.specs.Proper.{IsAttribute, IsNamed, IsTag, Letters, OfNode, IsProperPart, ProperIn, is_prefix}
 use Rattle.xml_tree.specs.inner.Proper.{Proper}
@@ -24,9 +24,9 @@ use Rattle.xml_tree.proofs.ProperEdits.{with-nodes, with-other}
 use Rattle.tree_text.proofs.PrintedValues.{both as parts}
 use Rattle.node_select.specs.Names.{prefix_uri}
 use Rattle.patch_rules.specs.PatchOperations as words
-use Rattle.patch_rules.proofs.Cutting.{cut_from_front}
-use Rattle.patch_rules.specs.PatchOperations.{Position, Behind, Prepend, Before, After, Location, AtElement, AtAttr, AtText, PatchAction, OperationError, attr_done, attr_of, name_of_text, done, given, is_bound_type, made, means_alike, no_declaration, is_off_root, spot_path, put_at, put_done, remove_done, replace_done, rewritten, scope_of_put, sole_element, tested, type_of, value_in, with_attrs, with_prefix, within_depth}
-use Rattle.patch_rules.specs.inner.Cutting.{cut_onto}
+use Rattle.patch_rules.proofs.NameCuts.{cut_from_front}
+use Rattle.patch_rules.specs.PatchOperations.{Position, Behind, Prepend, Before, After, Location, AtElement, AtAttr, AtText, PatchAction, OperationError, attr_done, attr_of, name_of_text, apply_action, given, is_bound_type, made, means_alike, no_declaration, is_off_root, spot_path, put_at, put_done, remove_done, replace_done, rewritten, scope_of_put, sole_element, tested, type_of, value_in, with_attrs, with_prefix, within_depth}
+use Rattle.patch_rules.specs.inner.NameCuts.{cut_onto}
 use Rattle.patch_rules.specs.Premises.{IsSound}
 use Rattle.patch_rules.proofs.Attributes.{not_xmlns, same_expanded-true}
 use Rattle.patch_rules.proofs.Prefixes.{both}
@@ -423,7 +423,7 @@ remove_sound before after (AtText p i) k t u g is =
 -- ---- the whole operation
 
 pub done_sound : (c : List (List Decl)) (task : PatchAction) (location : Location) (k : Content) (t u : Tree) → ((n : Name) → task ≡ words.NewAttr n → IsTyped n) → is_bound_type c task ≡ true → Proper c k → ProperIn [] t
-    → done c task location k t ≡ Ok u → IsSound u
+    → apply_action c task location k t ≡ Ok u → IsSound u
 done_sound c (words.Put pos) location k t u typed known h g is = put_sound c pos (spot_path location) k t u h g is
 done_sound c (words.NewAttr n) location k t u typed known h g is = attr_sound c n (spot_path location) k t u (typed n refl) known h g is
 done_sound c words.Replace location k t u typed known h g is = replace_sound c location k t u h g is

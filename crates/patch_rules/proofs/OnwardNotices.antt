@@ -8,11 +8,11 @@ use Rattle.xml_tree.specs.inner.Proper.{Proper}
 use Rattle.xml_tree.specs.Tree.{Content, last, more, comment_node, Tree, child_elements, child_elements_of}
 use Rattle.xml_names.specs.declared.names.Decl.{Decl}
 use Rattle.node_select.specs.declared.selector.PatchSelector.{PatchSelector}
-use Rattle.patch_rules.specs.PatchOperations.{Location, PatchAction, Word, OperationError, Directive, Prefix, Unlocated, done, given, is_bound_type, is_known, locate, plain_value, suits, task_of, tested, operation_word, apply_operation}
+use Rattle.patch_rules.specs.PatchOperations.{Location, PatchAction, Word, OperationError, Directive, Prefix, Unlocated, apply_action, given, is_bound_type, is_known, locate, plain_value, suits, task_of, tested, operation_word, apply_operation}
 use Rattle.patch_rules.specs.Selectors.{Reading}
-use Rattle.patch_rules.specs.Replay.{CopyAnswer, CopyFault, WrongTag, WrongDocument, ReplicaContents, DocumentOutcome, Now, Missing, copy_answer, documents, held_tag, is_all_mine, has_diff_name, is_in_diff_namespace, numbered, operation_count, operations_in, is_body_unchanged, then_next, unless_missing, all_applied, all_taken, by_tags, change_outcome, renewed_copy, replayed, document_taken}
+use Rattle.patch_rules.specs.Replay.{CopyAnswer, CopyFault, WrongTag, WrongDocument, ReplicaContents, DocumentOutcome, Now, Missing, copy_answer, documents, held_tag, is_all_mine, has_diff_name, is_in_diff_namespace, numbered, operation_count, operations_in, is_body_unchanged, then_next, unless_missing, apply_all, all_taken, by_tags, change_outcome, renewed_copy, replayed, document_taken}
 use Rattle.patch_rules.specs.Premises.{IsSound}
-use Rattle.patch_rules.specs.Replayed.{HoldsSound}
+use Rattle.patch_rules.specs.ReplayLaws.{HoldsSound}
 use Rattle.patch_rules.proofs.Onward.{done_sound, given_ok, task_named, tested_ok}
 
 -- ---- one operation
@@ -90,14 +90,14 @@ module _ (read : List ℕ → Option Reading) where
       let type = plain_value (codes "type") o.attrs in
       let ws = plain_value (codes "ws") o.attrs in
       let r = chain (plain_value (codes "sel") o.attrs) (list_all is_known o.attrs) (option_and_then (λ w. task_of w pos type ws) (operation_word o.name.local)) read (λ y f. suits y f.ends) (λ f. f.means here)
-      (is_bound_type here) (λ s. locate s t) (λ y location. done here y location o.content t) u is in
+      (is_bound_type here) (λ s. locate s t) (λ y location. apply_action here y location o.content t) u is in
       let w = word_there (operation_word o.name.local) (λ x. task_of x pos type ws) r.0 r.2 in
       done_sound here r.0 r.1 o.content t u (λ n same. task_named w.0 pos type ws n (w.1 ∙ ap (λ x. Some x) same)) r.3 h.1 g r.4
 
-  pub all_applied_sound : (n : ℕ) (c : List (List Decl)) (os : List Tree) (t u : Tree) → AllByRecursion (ProperIn c) os → IsSound t → all_applied read n c os t ≡ Ok u → IsSound u
+  pub all_applied_sound : (n : ℕ) (c : List (List Decl)) (os : List Tree) (t u : Tree) → AllByRecursion (ProperIn c) os → IsSound t → apply_all read n c os t ≡ Ok u → IsSound u
   all_applied_sound n c [] t u h g is = let same : t ≡ u = cc in subst IsSound same g
   all_applied_sound n c (o ∷ os) t u h g is =
-      let a = next_ok (numbered n (apply_operation read c o t)) (all_applied read (suc n) c os) u is in
+      let a = next_ok (numbered n (apply_operation read c o t)) (apply_all read (suc n) c os) u is in
       all_applied_sound (suc n) c os a.0 u h.1 (applied_sound c o t a.0 h.0 g.0 (numbered_ok n (apply_operation read c o t) a.0 a.1)) a.2
 
   changed_sound : (n : ℕ) (c : List (List Decl)) (os : List Tree) (tag : List ℕ) (held new : ReplicaContents) → AllByRecursion (ProperIn c) os → HoldsSound held → change_outcome read n c os tag held ≡ Ok (Now new) → HoldsSound new
@@ -105,10 +105,10 @@ module _ (read : List ℕ → Option Reading) where
   changed_sound n c [] tag (Some x) new h g is = absurd (cc)
   changed_sound n c (o ∷ os) tag (Some x) new h g is = by (is_body_unchanged c (o ∷ os)) is
     where
-      by : (b : Bool) → cond b (Ok (Now (Some (tag, x.1)))) (then_next (all_applied read n c (o ∷ os) x.1) (λ t. Ok (Now (Some (tag, t))))) ≡ Ok (Now new) → HoldsSound new
+      by : (b : Bool) → cond b (Ok (Now (Some (tag, x.1)))) (then_next (apply_all read n c (o ∷ os) x.1) (λ t. Ok (Now (Some (tag, t))))) ≡ Ok (Now new) → HoldsSound new
       by true e = let same : Some (tag, x.1) ≡ new = cc in subst HoldsSound same g
       by false e =
-          let a = next_ok (all_applied read n c (o ∷ os) x.1) (λ t. Ok (Now (Some (tag, t)))) (Now new) e in
+          let a = next_ok (apply_all read n c (o ∷ os) x.1) (λ t. Ok (Now (Some (tag, t)))) (Now new) e in
           let same : Some (tag, a.0) ≡ new = now_is (Some (tag, a.0)) new a.2 in
           subst HoldsSound same (all_applied_sound n c (o ∷ os) x.1 a.0 h g a.1)
         where

@@ -1,7 +1,7 @@
 -- Diff documents without operations: of a document that is gone, and of tags alone.
 use Rattle.std.proofs.Common.{◌≡◌, ℕ, Bool, true, List, [], ◌∷◌, Some, None, Ok, codes, decimal, refl, arith}
 use Rattle.xml_names.specs.Characters.{all_chars}
-use Rattle.xml_names.specs.Expanded.{attr_name}
+use Rattle.xml_names.specs.ExpandedNames.{attr_name}
 use Rattle.xml_tree.specs.Tree.{Tree}
 use Rattle.edit_ops.specs.Notes.{Note, tag_after}
 use Rattle.edit_ops.specs.Operations.{plain_attr as plain}
@@ -9,12 +9,12 @@ use Rattle.patch_rules.specs.Notices.{candidate, diff_uri, gone_notice, removed_
 use Rattle.patch_rules.specs.Replay.{Fetch, Removed, Replays, Same}
 use Rattle.patch_rules.specs.readers.Replay.{replayed}
 use Rattle.patch_rules.specs.Premises.{around_operations}
-use Rattle.patch_rules.specs.Replayed.{IsReadBack}
+use Rattle.patch_rules.specs.ReplayLaws.{IsReadBack}
 use Rattle.patch_rules.proofs.ProperNotices.{AreDocuments, IsDiffPrefix-candidate, diff_proper, document_sound, no_prefixes, two_names}
 use Rattle.patch_rules.proofs.Numbers.{number_chars}
 use Rattle.patch_rules.proofs.Outcomes.{replays}
 use Rattle.patch_rules.proofs.ProperOperations.{IsDiffPrefix, named_ours, plain_attribute}
-use Rattle.patch_rules.proofs.Stated.{read_back}
+use Rattle.patch_rules.proofs.LawStatements.{read_back}
 use Rattle.patch_rules.proofs.Wholes.{bound_document, same_text}
 
 gone_read_so : (is_mine : List ℕ → Bool) (root sel : List ℕ) (tag : ℕ) (t : Tree) → is_mine sel ≡ true → replayed is_mine (gone_notice root sel tag) (Some (decimal tag, t)) ≡ Ok (Removed, None)

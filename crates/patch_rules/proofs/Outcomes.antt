@@ -11,10 +11,10 @@ use Rattle.xml_tree.specs.Proper.{IsAttribute, ProperIn}
 use Rattle.xml_tree.specs.Tree.{Tree, child_elements_of}
 use Rattle.xml_names.specs.declared.names.Attr.{Attr}
 use Rattle.xml_names.specs.declared.names.Decl.{Decl}
-use Rattle.patch_rules.specs.PatchOperations.{OperationError, Directive, Prefix, Unlocated, apply_operation, done, given, is_bound_type, is_known, locate, operation_word, plain_value, suits, task_of, tested}
+use Rattle.patch_rules.specs.PatchOperations.{OperationError, Directive, Prefix, Unlocated, apply_operation, apply_action, given, is_bound_type, is_known, locate, operation_word, plain_value, suits, task_of, tested}
 use Rattle.patch_rules.specs.Selectors.{AreReadings, Reading}
-use Rattle.patch_rules.specs.Replay.{CopyAnswer, CopyFault, ReplicaContents, Missing, Now, Replays, DocumentOutcome, WrongDocument, WrongTag, all_applied, all_taken, by_tags, change_outcome, copy_answer, document_taken, documents, held_tag, is_all_mine, has_diff_name, is_in_diff_namespace, numbered, operation_count, operations_in, renewed_copy, replayed, is_body_unchanged, then_next, unless_missing}
-use Rattle.patch_rules.specs.readers.Applied.{reading_in}
+use Rattle.patch_rules.specs.Replay.{CopyAnswer, CopyFault, ReplicaContents, Missing, Now, Replays, DocumentOutcome, WrongDocument, WrongTag, apply_all, all_taken, by_tags, change_outcome, copy_answer, document_taken, documents, held_tag, is_all_mine, has_diff_name, is_in_diff_namespace, numbered, operation_count, operations_in, renewed_copy, replayed, is_body_unchanged, then_next, unless_missing}
+use Rattle.patch_rules.specs.readers.AppliedOperations.{reading_in}
 use Rattle.patch_rules.proofs.OnwardNotices.{kept_proper, kids_proper}
 use Rattle.patch_rules.proofs.SelectorAnswers.{are_readings, one_reading}
 
@@ -64,7 +64,7 @@ by_reading c o t reading =
     given (selector.means here) Prefix (λ s.
     tested (is_bound_type here task) Prefix (
     given (locate s t) Unlocated (λ location.
-    done here task location o.content t)))))))
+    apply_action here task location o.content t)))))))
 
 module _ (read other : List ℕ → Option Reading) (are : AreReadings read) (others : AreReadings other) where
   pub alike : (sel : List ℕ) → all_chars sel ≡ true → read sel ≡ other sel
@@ -75,11 +75,11 @@ module _ (read other : List ℕ → Option Reading) (are : AreReadings read) (ot
       given_alike (plain_value (codes "sel") o.attrs) Directive (λ sel. by_reading c o t (read sel)) (λ sel. by_reading c o t (other sel))
       (λ sel e. ap (by_reading c o t) (alike sel (selector_chars c o sel h e)))
 
-  all_alike : (n : ℕ) (c : List (List Decl)) (os : List Tree) (t : Tree) → AllByRecursion (ProperIn c) os → all_applied read n c os t ≡ all_applied other n c os t
+  all_alike : (n : ℕ) (c : List (List Decl)) (os : List Tree) (t : Tree) → AllByRecursion (ProperIn c) os → apply_all read n c os t ≡ apply_all other n c os t
   all_alike n c [] t h = refl
   all_alike n c (o ∷ os) t h =
-      ap (λ r. then_next (numbered n r) (all_applied read (suc n) c os)) (applied_alike c o t h.0)
-      ∙ next_alike (numbered n (apply_operation other c o t)) (all_applied read (suc n) c os) (all_applied other (suc n) c os) (λ x. all_alike (suc n) c os x h.1)
+      ap (λ r. then_next (numbered n r) (apply_all read (suc n) c os)) (applied_alike c o t h.0)
+      ∙ next_alike (numbered n (apply_operation other c o t)) (apply_all read (suc n) c os) (apply_all other (suc n) c os) (λ x. all_alike (suc n) c os x h.1)
 
   changed_alike : (n : ℕ) (c : List (List Decl)) (os : List Tree) (tag : List ℕ) (held : ReplicaContents) → AllByRecursion (ProperIn c) os → change_outcome read n c os tag held ≡ change_outcome other n c os tag held
   changed_alike n c os tag None h = refl

@@ -11,17 +11,17 @@ use Rattle.xml_tree.specs.Tree.{Tree, at, child_elements_of}
 use Rattle.xml_names.specs.declared.names.Name.{Name}
 use Rattle.xml_names.specs.declared.names.Decl.{Decl}
 use Rattle.node_select.specs.StepSelection.{Selects}
-use Rattle.node_select.proofs.Inserted.{count-cons}
+use Rattle.node_select.proofs.ListEdits.{count-cons}
 use Rattle.node_select.specs.Grammar.{names_attribute}
 use Rattle.node_select.specs.Names.{attr_uri, is_unbound}
 use Rattle.node_select.specs.readers.Raw.{PatchAttribute, PatchElement, steps_of, unbound_from, unbound_patch_end}
 use Rattle.node_select.specs.Selection.{is_attr, SelectsAmong, selected_in}
 use Rattle.node_select.specs.declared.selector.PatchEnd.TheVariants.{Element, Attribute}
 use Rattle.node_select.specs.declared.selector.Step.{Step}
-use Rattle.node_select.proofs.Reaching.{path_is}
+use Rattle.node_select.proofs.ReachLemmas.{path_is}
 use Rattle.patch_rules.specs.PatchOperations.{AtElement, AtAttr, locate}
 use Rattle.patch_rules.specs.Selectors.{Reading}
-use Rattle.patch_rules.specs.readers.Applied.{reading_in, reading_of, reading_if_parsed}
+use Rattle.patch_rules.specs.readers.AppliedOperations.{reading_in, reading_of, reading_if_parsed}
 use Rattle.edit_ops.specs.Operations.{attr_path_text}
 use Rattle.patch_rules.specs.Premises.{ArePositions}
 use Rattle.patch_rules.proofs.PathTexts.{attr_selector, next_step, path_selector, raw_steps}

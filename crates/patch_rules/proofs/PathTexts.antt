@@ -8,7 +8,7 @@ use Rattle.std.proofs.lemmas.Fmt.{decimal-digits_of, decimal_nonempty}
 use Rattle.std.specs.Char.{is_ascii_digit as is_digit}
 use Rattle.xml_grammar.specs.Digits as digits
 use Rattle.xml_grammar.specs.Rules.{AllPass, number_from}
-use Rattle.xml_grammar.specs.Reading.{Reader, head_is, read_word, read_sequence, read_valued, read_some_of}
+use Rattle.xml_grammar.specs.TextReading.{Reader, head_is, read_word, read_sequence, read_valued, read_some_of}
 use Rattle.xml_grammar.specs.readers.Functions.{read_empty, read_many, read_only, read_optional, read_behind, read_whole}
 use Rattle.xml_names.specs.Markup.{print_name}
 use Rattle.xml_names.specs.declared.names.Name.{Name}

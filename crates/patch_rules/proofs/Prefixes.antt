@@ -7,10 +7,10 @@ use Rattle.std.proofs.lemmas.Slice.Eq.{bytes_eq-Decides}
 use Rattle.xml_names.specs.declared.names.Name.{Name}
 use Rattle.xml_names.specs.declared.names.Decl.{Decl}
 use Rattle.xml_names.specs.declared.names.Attr.{Attr}
-use Rattle.xml_names.specs.Expanded.{ExpandedName, attr_name, element_name, same_expanded, same_uri}
+use Rattle.xml_names.specs.ExpandedNames.{ExpandedName, attr_name, element_name, same_expanded, same_uri}
 use Rattle.xml_tree.specs.Proper.{IsAttribute, IsNamed, ProperIn}
 use Rattle.xml_tree.specs.inner.Proper.{Proper}
-use Rattle.xml_names.specs.Scopes.{bindings_in, bound, declared, joined, some_text, xml_prefix, xml_uri}
+use Rattle.xml_names.specs.Scopes.{bindings_in, bound, declared_uri, joined, some_text, xml_prefix, xml_uri}
 use Rattle.xml_tree.specs.Tree.{Content, last, more, comment_node, Tree, of_children}
 use Rattle.xml_names.proofs.BindingWords.{bound-bindings_in}
 use Rattle.xml_tree.proofs.ScopesAlike.{bound-inner}
@@ -27,7 +27,7 @@ inner false None x y p f h = f h
 
 pub Meets-inner : (c d : List (List Decl)) (ds : List Decl) → Meets c d → Meets (c ++ ds ∷ []) (d ++ ds ∷ [])
 Meets-inner c d ds m p h =
-    bound-inner c ds p ∙ inner (bytes_eq p xml_prefix) (declared ds p) (declared (joined c) p) (declared (joined d) p) p (m p) (λ ne. subst (λ o. IsSome o) (bound-inner c ds p) (h ne))
+    bound-inner c ds p ∙ inner (bytes_eq p xml_prefix) (declared_uri ds p) (declared_uri (joined c) p) (declared_uri (joined d) p) p (m p) (λ ne. subst (λ o. IsSome o) (bound-inner c ds p) (h ne))
     ∙ sym (bound-inner d ds p)
 
 -- ---- names
@@ -78,4 +78,4 @@ told_alike false None x d p uri true ne e h is =
 
 pub Meets-told : (place : List (List Decl)) (d uri : List ℕ) → d ≢ [] → Meets place (around_operations d uri ++ bindings_in place ∷ [])
 Meets-told place d uri ne p h =
-    told_alike (bytes_eq p xml_prefix) (declared (joined (bindings_in place ∷ [])) p) (bound place p) d p uri (bytes_eq d p) ne (bound-bindings_in place p) h refl
+    told_alike (bytes_eq p xml_prefix) (declared_uri (joined (bindings_in place ∷ [])) p) (bound place p) d p uri (bytes_eq d p) ne (bound-bindings_in place p) h refl

@@ -7,7 +7,7 @@ use Rattle.std.proofs.lemmas.Bool.Decides.{nat_tests}
 use Rattle.std.proofs.lemmas.Fmt.{decimal-digits_of}
 use Rattle.std.proofs.lemmas.Int.Digits.{all_below_base_digits_of}
 use Rattle.xml_names.specs.Characters.{all_chars, is_name_char}
-use Rattle.xml_names.specs.Expanded.{ExpandedName, attr_name, same_expanded}
+use Rattle.xml_names.specs.ExpandedNames.{ExpandedName, attr_name, same_expanded}
 use Rattle.xml_tree.specs.Proper.{ProperIn, is_declaration, is_prefix}
 use Rattle.xml_tree.specs.inner.Proper.{Proper}
 use Rattle.xml_names.specs.Scopes.{xml_uri, xmlns_prefix, xmlns_uri}

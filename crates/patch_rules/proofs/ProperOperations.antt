@@ -5,7 +5,7 @@ use Rattle.std.proofs.lemmas.Bool.Decides.{nat_tests}
 use Rattle.xml_names.specs.Attributes.{with_new_value, with_attr, is_written_so as is_named}
 use Rattle.xml_names.specs.Characters.{all_chars, is_char, is_name, is_name_char, is_name_start}
 use Rattle.xml_tree.specs.Edits.{put_over, set_at, write_attr}
-use Rattle.xml_names.specs.Expanded.{ExpandedName, attr_name, same_expanded}
+use Rattle.xml_names.specs.ExpandedNames.{ExpandedName, attr_name, same_expanded}
 use Rattle.xml_names.specs.Markup.{print_name}
 use Rattle.xml_tree.specs.Proper.{IsAttribute, IsNamed, IsTag, Letters, IsProperPart, ProperIn, is_prefix}
 use Rattle.xml_tree.specs.inner.Proper.{Proper}

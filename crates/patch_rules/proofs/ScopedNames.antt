@@ -9,12 +9,12 @@ use Rattle.xml_names.specs.declared.names.Name.{Name}
 use Rattle.xml_names.specs.declared.names.Decl.{Decl}
 use Rattle.xml_names.specs.declared.names.Attr.{Attr}
 use Rattle.xml_tree.specs.Edits.{parent_path}
-use Rattle.xml_names.specs.Expanded.{attr_name, same_expanded}
+use Rattle.xml_names.specs.ExpandedNames.{attr_name, same_expanded}
 use Rattle.xml_tree.specs.Proper.{IsAttribute, IsNamed, IsTag, IsProperPart, ProperIn, is_declaration}
 use Rattle.xml_tree.specs.inner.Proper.{Proper}
 use Rattle.xml_names.specs.Scopes.{AreInOrder, bindings_in, binds, joined}
 use Rattle.xml_tree.specs.TreeScopes.{scope_around, scope_at}
-use Rattle.xml_names.specs.inner.Gathering.{gathered, placed}
+use Rattle.xml_names.specs.inner.DeclarationMaps.{gathered, placed}
 use Rattle.xml_tree.specs.Tree.{Content, last, more, comment_node, Tree, child_elements_of}
 use Rattle.xml_names.proofs.BindingWords.{AreInOrder-bindings_in, gathered_are}
 use Rattle.xml_names.proofs.ByteOrder.{order, order_same}

@@ -5,7 +5,7 @@ use Rattle.std.specs.Str.{chars}
 use Rattle.std.proofs.lemmas.Bool.Decides.{nat_tests}
 use Rattle.std.proofs.lemmas.Str.{chars-encodes}
 use lib.Utf8.{scalar, scalars}
-use Rattle.xml_grammar.specs.Reading.{Stop}
+use Rattle.xml_grammar.specs.TextReading.{Stop}
 use Rattle.xml_grammar.specs.readers.Functions.{read_whole}
 use Rattle.xml_tokens.specs.declared.fault_kind.FaultKind.{FaultKind}
 use Rattle.tree_text.proofs.PrintedValues.{both as parts}
@@ -21,7 +21,7 @@ use Rattle.node_select.specs.readers.Whole.{meant, patch_selector_read, patch_re
 use Rattle.node_select.proofs.ExactSelectors.{one_patch_selector, patch_selector_answer}
 use Rattle.node_select.proofs.PatchForms.{form_answer, one_form}
 use Rattle.patch_rules.specs.Selectors.{AreReadings, IsReading, Reading, selector_in}
-use Rattle.patch_rules.specs.readers.Applied.{reading_in, reading_of, reading_if_parsed}
+use Rattle.patch_rules.specs.readers.AppliedOperations.{reading_in, reading_of, reading_if_parsed}
 use Rattle.patch_rules.specs.SelectedNodes.{IsTakenAs}
 use Rattle.patch_rules.proofs.Prefixes.{both}
 

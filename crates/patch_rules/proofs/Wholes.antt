@@ -3,7 +3,7 @@ use Rattle.std.proofs.Common.{◌≡◌, ◌≢◌, ℕ, ◌+◌, Bool, true, fa
 use Rattle.std.specs.List.{AllByRecursion}
 use Rattle.std.specs.Prelude.{unwrap_or}
 use Rattle.std.proofs.lemmas.Slice.Eq.{bytes_eq-Decides}
-use Rattle.xml_names.specs.Scopes.{bound, declared, xml_prefix}
+use Rattle.xml_names.specs.Scopes.{bound, declared_uri, xml_prefix}
 use Rattle.xml_tree.specs.Tree.{Tree, child_elements, of_children as listed}
 use Rattle.xml_names.specs.declared.names.Decl.{Decl}
 use Rattle.edit_ops.specs.Changes.{edited}
@@ -15,7 +15,7 @@ use Rattle.edit_ops.specs.Operations.{operation, change_operation as told}
 use Rattle.patch_rules.specs.Replay.{ReplicaContents, Now, copy_answer, documents, is_all_mine, has_diff_name, is_in_diff_namespace, operation_count, operations_in, is_body_unchanged, then_next, unless_missing}
 use Rattle.patch_rules.specs.readers.Replay.{all_taken, replayed, document_taken}
 use Rattle.patch_rules.specs.Premises.{AreTold, around_operations}
-use Rattle.patch_rules.specs.Replayed.{answer_for}
+use Rattle.patch_rules.specs.ReplayLaws.{answer_for}
 use Rattle.patch_rules.proofs.Changes.{all_applied_notes, first_told}
 use Rattle.patch_rules.proofs.Prefixes.{both}
 
@@ -64,11 +64,11 @@ operations_change c d [] = refl
 operations_change c d (n ∷ []) = rw (told_changes d n.bindings n.fresh n.change) refl
 operations_change c d (n ∷ m ∷ ns) = refl
 
-not_declared : (d : List ℕ) (bs : List Decl) → declares d bs ≡ false → declared bs d ≡ None
+not_declared : (d : List ℕ) (bs : List Decl) → declares d bs ≡ false → declared_uri bs d ≡ None
 not_declared d [] h = refl
 not_declared d (b ∷ bs) h = by (bytes_eq b.prefix d) refl (not_declared d bs)
   where
-    by : (x : Bool) → bytes_eq b.prefix d ≡ x → (declares d bs ≡ false → declared bs d ≡ None) → declared (b ∷ bs) d ≡ None
+    by : (x : Bool) → bytes_eq b.prefix d ≡ x → (declares d bs ≡ false → declared_uri bs d ≡ None) → declared_uri (b ∷ bs) d ≡ None
     by true e rest = absurd (let z : true ≡ false = rw e at h in cc)
     by false e rest = rw (e, rest (rw e at h)) refl
 
@@ -77,7 +77,7 @@ module _ (d : List ℕ) (some : d ≢ []) (other : bytes_eq d xml_prefix ≡ fal
   top = (record { prefix = d; uri = diff_uri } ∷ []) ∷ []
 
   pub bound_operation : (bs : List Decl) → declares d bs ≡ false → bound (around_operations d diff_uri ++ bs ∷ []) d ≡ Some diff_uri
-  bound_operation bs h = let none : declared (bs ++ []) d ≡ None = ap (λ l. declared l d) (append-nil bs) ∙ not_declared d bs h in rw (other, none, same_text d) refl
+  bound_operation bs h = let none : declared_uri (bs ++ []) d ≡ None = ap (λ l. declared_uri l d) (append-nil bs) ∙ not_declared d bs h in rw (other, none, same_text d) refl
 
   pub bound_document : bound (around_operations d diff_uri) d ≡ Some diff_uri
   bound_document = rw (other, same_text d) refl

@@ -2,7 +2,7 @@ pub mod Notices
 pub mod PatchOperations
 pub mod Premises
 pub mod Replay
-pub mod Replayed
+pub mod ReplayLaws
 pub mod SelectedNodes
 pub mod Selectors
 pub mod inner

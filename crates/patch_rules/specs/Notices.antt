@@ -7,7 +7,7 @@ use Rattle.std.specs.Str.{bytes_eq}
 use Rattle.xml_names.specs.Limits.{max_levels}
 use Rattle.xml_tree.specs.Tree.{Content, last, more, comment_node, Tree, tree_of, of_children}
 use Rattle.xml_names.specs.declared.names.Decl.{Decl}
-use Rattle.xml_names.specs.Expanded.{name_of}
+use Rattle.xml_names.specs.ExpandedNames.{name_of}
 use Rattle.edit_ops.specs.Notes.{Note, tag_after}
 use Rattle.edit_ops.specs.Operations.{operation, plain_attr}
 

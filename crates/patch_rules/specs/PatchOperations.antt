@@ -6,11 +6,11 @@ use Rattle.std.specs.Prelude.{is_some, option_map, option_and_then, unwrap_or, s
 use Rattle.std.specs.Prelude.{Ok, Err, if◌then◌else◌, find}
 use Rattle.std.specs.List.{list_all, list_any}
 use Rattle.std.specs.Str.{bytes_eq}
-use Rattle.xml_grammar.specs.Reading.{front_of, after_front}
+use Rattle.xml_grammar.specs.TextReading.{front_of, after_front}
 use Rattle.xml_names.specs.Attributes.{remove_first, with_new_value, is_written_so}
 use Rattle.xml_names.specs.Characters.{is_name, is_space}
 use Rattle.xml_tree.specs.Edits.{change_at, own_number, parent_path, put_over}
-use Rattle.xml_names.specs.Expanded.{element_name, attr_name, same_expanded}
+use Rattle.xml_names.specs.ExpandedNames.{element_name, attr_name, same_expanded}
 use Rattle.xml_tree.specs.Nodes.{exchange_nodes, is_text, nodes_of, place, text_node, text_of}
 use Rattle.xml_names.specs.Scopes.{bindings_in, xmlns_prefix}
 use Rattle.xml_tree.specs.TreeScopes.{scope_around, scope_at}
@@ -366,12 +366,14 @@ spot_path (AtElement p) = p
 spot_path (AtAttr p f) = p
 spot_path (AtText p i) = p
 
-abbrev pub done : List (List Decl) → PatchAction → Location → Content → Tree
+abbrev pub apply_action : List (List Decl) → PatchAction → Location → Content → Tree
     → Result Tree OperationError
-done c (Put position) location content t = put_done c position (spot_path location) content t
-done c (NewAttr name) location content t = attr_done c name (spot_path location) content t
-done c Replace location content t = replace_done c location content t
-done c (Remove before after) location content t = remove_done before after location content t
+apply_action c (Put position) location content t =
+    put_done c position (spot_path location) content t
+apply_action c (NewAttr name) location content t = attr_done c name (spot_path location) content t
+apply_action c Replace location content t = replace_done c location content t
+apply_action c (Remove before after) location content t =
+    remove_done before after location content t
 
 -- ---- the whole operation
 
@@ -387,16 +389,16 @@ abbrev pub apply_operation : (List ℕ → Option Reading) → List (List Decl) 
     → Result Tree OperationError
 apply_operation read c o t =
     let here = c ++ o.decls ∷ [] in
-    given (plain_value (codes "sel") o.attrs) Directive (λ sel.
-    tested (list_all is_known o.attrs) Directive
-    (given (option_and_then (λ w.
+    let action = option_and_then (λ w.
     task_of w (plain_value (codes "pos") o.attrs) (plain_value (codes "type") o.attrs)
     (plain_value (codes "ws") o.attrs))
-    (operation_word o.name.local))
-    Directive (λ task.
+    (operation_word o.name.local) in
+    given (plain_value (codes "sel") o.attrs) Directive (λ sel.
+    tested (list_all is_known o.attrs) Directive
+    (given action Directive (λ task.
     given (read sel) Directive (λ selector.
     tested (suits task selector.ends) Directive
     (given (selector.means here) Prefix (λ s.
     tested (is_bound_type here task) Prefix
     (given (locate s t) Unlocated (λ location.
-    done here task location o.content t))))))))
+    apply_action here task location o.content t))))))))

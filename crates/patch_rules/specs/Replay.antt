@@ -6,7 +6,7 @@ use Rattle.std.specs.Prelude.{Err, if◌then◌else◌}
 use Rattle.std.specs.List.{list_all}
 use Rattle.std.specs.Option.{option_map_or}
 use Rattle.std.specs.Str.{bytes_eq}
-use Rattle.xml_names.specs.Expanded.{element_name}
+use Rattle.xml_names.specs.ExpandedNames.{element_name}
 use Rattle.xml_tree.specs.Tree.{Tree, child_elements_of}
 use Rattle.xml_names.specs.declared.names.Decl.{Decl}
 use Rattle.node_select.specs.Names.{is_named_so, uri_of}
@@ -139,10 +139,10 @@ is_all_mine is_mine ds =
 -- selectors
 
 module _ (read : List ℕ → Option Reading) where
-  abbrev pub all_applied : ℕ → List (List Decl) → List Tree → Tree → Result Tree CopyFault
-  all_applied n c [] t = Ok t
-  all_applied n c (o ∷ os) t =
-      then_next (numbered n (apply_operation read c o t)) (all_applied (suc n) c os)
+  abbrev pub apply_all : ℕ → List (List Decl) → List Tree → Tree → Result Tree CopyFault
+  apply_all n c [] t = Ok t
+  apply_all n c (o ∷ os) t =
+      then_next (numbered n (apply_operation read c o t)) (apply_all (suc n) c os)
 
   -- the document with the new tag: by its operations, with the same body, or unknown
   abbrev pub change_outcome : ℕ → List (List Decl) → List Tree → List ℕ → ReplicaContents
@@ -151,7 +151,7 @@ module _ (read : List ℕ → Option Reading) where
   change_outcome n c [] tag (Some h) = Ok Missing
   change_outcome n c (o ∷ os) tag (Some h) =
       if is_body_unchanged c (o ∷ os) then Ok (Now (Some (tag, h.1)))
-      else then_next (all_applied n c (o ∷ os) h.1) (λ t. Ok (Now (Some (tag, t))))
+      else then_next (apply_all n c (o ∷ os) h.1) (λ t. Ok (Now (Some (tag, t))))
 
   -- a document with a new tag; without one the replica is empty afterwards, and its operations
   -- aren't looked at

@@ -8,7 +8,7 @@ use Rattle.node_select.specs.declared.fault.SelectorFault.TheVariants.{BadSelect
 use Rattle.node_select.specs.declared.selector.PatchSelector.{PatchSelector}
 use Rattle.patch_rules.specs.PatchOperations.{Location, locate}
 use Rattle.patch_rules.specs.Selectors.{Reading}
-use Rattle.patch_rules.specs.readers.Applied.{reading_in}
+use Rattle.patch_rules.specs.readers.AppliedOperations.{reading_in}
 
 -- what a text selects in a tree, as the selector of an operation in the scope
 abbrev pub selected_by : List (List Decl) → List ℕ → Tree → Option Location

@@ -1,4 +1,4 @@
 -- What private functions and proofs use. No clause of a public call needs it.
-pub mod Cutting
-pub mod Declaring
+pub mod DeclaredPrefixes
 pub mod Lists
+pub mod NameCuts

@@ -2,7 +2,7 @@
 //! 5874, section 3).
 ghost use Rattle.std.specs.Prelude.{◌≡◌, [], ◌∷◌, ◌++◌, IfOk, OnOk, chars, codes};
 ghost use Rattle.edit_ops.specs.Operations.{plain_attr};
-ghost use Rattle.xml_names.specs.Expanded.{name_of};
+ghost use Rattle.xml_names.specs.ExpandedNames.{name_of};
 ghost use Rattle.xml_names.specs.Scopes.{decl_of};
 ghost use Rattle.xml_tree.specs.Tree.{last, tree_of};
 ghost use Rattle.patch_rules.specs.Notices.{diff, diff_uri};

@@ -23,16 +23,16 @@ ghost use Rattle.edit_ops.specs.Notes.{AreNotesOf, Note, note_of, tag_after, tre
 ghost use Rattle.edit_ops.specs.Operations.{attr_path_text, operation};
 ghost use Rattle.patch_rules.specs.PatchOperations as words;
 ghost use Rattle.patch_rules.specs.PatchOperations.{AtAttr, AtElement};
-ghost use Rattle.patch_rules.specs.readers.Applied.{apply_operation, reading_in};
+ghost use Rattle.patch_rules.specs.readers.AppliedOperations.{apply_operation, reading_in};
 ghost use Rattle.patch_rules.specs.Notices.{aggregate_notice, declarations, gone_notice};
 ghost use Rattle.patch_rules.specs.Notices.{operations, patching_notice, prefix_for, tags_notice};
 ghost use Rattle.patch_rules.specs.Replay.{CopyAnswer, CopyFault, Fetch, ReplicaContents, Removed};
 ghost use Rattle.patch_rules.specs.Replay.{Replays, Same};
 ghost use Rattle.patch_rules.specs.Selectors.{AreReadings, Reading};
-ghost use Rattle.patch_rules.specs.readers.Replay.{all_applied, replayed};
+ghost use Rattle.patch_rules.specs.readers.Replay.{apply_all, replayed};
 ghost use Rattle.patch_rules.specs.Premises.{AreFew, ArePositions, AreTold, IsSound, IsTold, Meets};
 ghost use Rattle.patch_rules.specs.Premises.{around_operations};
-ghost use Rattle.patch_rules.specs.Replayed.{HoldsSound, IsPrefixFor, IsReadBack, answer_for};
+ghost use Rattle.patch_rules.specs.ReplayLaws.{HoldsSound, IsPrefixFor, IsReadBack, answer_for};
 ghost use Rattle.patch_rules.specs.SelectedNodes.{IsTakenAs, selected_by};
 
 /// A law: by the grammar, the text of an operation's selector has one meaning: the meaning that is
@@ -70,7 +70,7 @@ pub fn operations_make_changes()
         (operation prefix (note_of previous next t change)) t ≡ Ok (edited t change) }
     ensures all_in_order { (prefix uri : List ℕ) (count tag : ℕ) (t : Tree) (ns : List Note)
         → prefix ≢ [] → AreNotesOf tag t ns → AreTold t ns
-        → all_applied count (around_operations prefix uri) (operations prefix ns) t
+        → apply_all count (around_operations prefix uri) (operations prefix ns) t
         ≡ Ok (tree_after t ns) }
 {}
 

@@ -2,7 +2,7 @@
 use Rattle.std.proofs.Common.{◌≡◌, ℕ, true, false, List, [], ◌∷◌, ◌++◌, codes, refl, ap, ◌∙◌}
 use Rattle.xml_tree.specs.Tree.{Tree}
 use Rattle.xml_tree.specs.Edits.{with_elem}
-use Rattle.xml_names.specs.Expanded.{name_of as in_diff}
+use Rattle.xml_names.specs.ExpandedNames.{name_of as in_diff}
 use Rattle.edit_ops.specs.Notes.{Note, tag_after}
 use Rattle.edit_ops.specs.Operations.{plain_attr as plain}
 use Rattle.patch_rules.specs.Notices.{all_at_once, diff, diff_uri, document, operations, prefix_for, tags_alone}
@@ -11,7 +11,7 @@ use Rattle.patch_write.specs.Modes.{notice_of}
 use Rattle.patch_write.specs.inner.Modes.{documents_of, told_notes}
 use Rattle.xcap_uri.specs.declared.target.Mode.{Mode}
 use Rattle.xcap_uri.specs.declared.target.Mode.TheVariants.{NoPatching, XcapPatching, Aggregate}
-use Rattle.patch_write.proofs.Listing.{all-listed}
+use Rattle.patch_write.proofs.ElementLists.{all-listed}
 
 -- ---- whole diff documents
 

@@ -4,13 +4,13 @@ use Rattle.std.specs.Set.{is_member}
 use Rattle.xml_names.specs.declared.names.Decl.{Decl}
 use Rattle.edit_ops.specs.declared.change.Change.{Change}
 use Rattle.edit_ops.specs.declared.change.Change.TheVariants.{CreateDocument, Insert, Replace, Remove, SetAttr, DropAttr, RemoveDocument}
-use Rattle.edit_ops.specs.Recorded.{all_notes as joined}
+use Rattle.edit_ops.specs.RecordParts.{all_notes as joined}
 use Rattle.edit_ops.specs.Notes.{Note}
 use Rattle.edit_ops.specs.Operations.{change_operation as told}
-use Rattle.patch_rules.specs.inner.Declaring.{prefixes, prefixes_in}
+use Rattle.patch_rules.specs.inner.DeclaredPrefixes.{prefixes, prefixes_in}
 use Rattle.patch_rules.specs.Notices.{candidate, first_free, operations, prefix_for}
 use Rattle.patch_rules.proofs.FreePrefix.{among-without, candidate-one, length-whole, length-without, taken_whole, whole, without}
-use Rattle.patch_write.specs.inner.Declaring.{prefixes_put, prefixes_of_record}
+use Rattle.patch_write.specs.inner.DeclaredPrefixes.{prefixes_put, prefixes_of_record}
 
 -- ---- a search that found a free candidate
 

@@ -1,7 +1,7 @@
 pub mod Built
+pub mod ElementLists
 pub mod FreePrefix
-pub mod Gaining
-pub mod Listing
-pub mod Named
 pub mod Numbers
+pub mod PrefixSets
 pub mod Words
+pub mod WrittenNames

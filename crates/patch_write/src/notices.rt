@@ -3,12 +3,12 @@ ghost use Rattle.std.specs.Prelude.{◌≡◌, [], ◌∷◌, ◌++◌, IfOk, On
 ghost use Rattle.std.specs.Prelude.{encode_utf8_all};
 ghost use Rattle.doc_names.specs.Ids.{id_text};
 ghost use Rattle.xml_tree.specs.Edits.{with_elem};
-ghost use Rattle.xml_names.specs.Expanded.{name_of};
+ghost use Rattle.xml_names.specs.ExpandedNames.{name_of};
 ghost use Rattle.xml_tree.specs.Print.{document_print};
 ghost use Rattle.xml_tree.specs.Tree.{last, tree_of};
 ghost use Rattle.edit_ops.specs.Notes.{tag_after};
 ghost use Rattle.edit_ops.specs.Operations.{operation, plain_attr, sel_attr};
-ghost use Rattle.edit_ops.specs.Recorded.{all_notes};
+ghost use Rattle.edit_ops.specs.RecordParts.{all_notes};
 ghost use Rattle.patch_rules.specs.Notices.{all_at_once, candidate, diff, document, gone_notice};
 ghost use Rattle.patch_rules.specs.Notices.{one_by_one, operations, prefix_for, removed_document};
 ghost use Rattle.patch_rules.specs.Notices.{tags_alone};

@@ -27,7 +27,7 @@ fn child_text(alloc: Global, parent: &Path, child: usize) -> Result<Text, AllocE
 }
 
 // Adds a name as it is written.
-#[tactic(auto, using(crate::proofs::Named::bare_name))]
+#[tactic(auto, using(crate::proofs::WrittenNames::bare_name))]
 fn push_name(text: &mut Text, name: &Name) -> Result<(), AllocError>
     ensures appended { OnOk result (text.new ≡ text.old ++ print_name name.now) }
 {

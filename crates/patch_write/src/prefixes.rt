@@ -1,13 +1,13 @@
 //! The prefix of a diff document: `d`, or the first of `d1`, `d2` and so on that nothing in its
 //! operations declares.
 ghost use Rattle.std.specs.Prelude.{◌≡◌, ℕ, List, ◌++◌, IfOk, OnOk, flat_map, length};
-ghost use Rattle.edit_ops.specs.Recorded.{all_notes};
+ghost use Rattle.edit_ops.specs.RecordParts.{all_notes};
 ghost use Rattle.std.specs.Set.{is_member};
 ghost use Rattle.std.specs.Str.{bytes_eq};
 ghost use Rattle.patch_rules.specs.Notices.{candidate, first_free, prefix_for};
-ghost use Rattle.patch_rules.specs.inner.Declaring.{prefixes, prefixes_in};
-ghost use Rattle.patch_write.specs.inner.Declaring.{Gains, Holds, prefixes_at, prefixes_put};
-ghost use Rattle.patch_write.specs.inner.Declaring.{prefixes_of_record};
+ghost use Rattle.patch_rules.specs.inner.DeclaredPrefixes.{prefixes, prefixes_in};
+ghost use Rattle.patch_write.specs.inner.DeclaredPrefixes.{Gains, Holds, prefixes_at, prefixes_put};
+ghost use Rattle.patch_write.specs.inner.DeclaredPrefixes.{prefixes_of_record};
 
 use edit_ops::{Change, EditNote, Notes};
 use std::alloc::{AllocError, Global};

@@ -1,6 +1,6 @@
 -- What has a text is what a selector finds.
 use Rattle.std.proofs.Common.{◌≡◌, ℕ, Bool, true, false, cond, ◌||◌, List, [], ◌∷◌, Option, Some, None, IsSome, is_some, refl, sym, ap, ◌∙◌, option_map}
-use Rattle.tree_text.specs.Printing.{body_print}
+use Rattle.tree_text.specs.AttributeBodyPrints.{body_print}
 use Rattle.std.specs.List.{find, list_any}
 use Rattle.std.specs.Option.{option_and_then}
 use Rattle.xml_tree.specs.Tree.{Tree, at}
@@ -11,7 +11,7 @@ use Rattle.node_select.specs.Selection.{Found, has_end, is_attr, selected_in}
 use Rattle.node_select.specs.declared.selector.End.{End}
 use Rattle.node_select.specs.declared.selector.End.TheVariants.{Element, Attribute, Namespaces}
 use Rattle.node_select.specs.declared.selector.Selector.{Selector}
-use Rattle.node_select.proofs.Reaching.{path_is}
+use Rattle.node_select.proofs.ReachLemmas.{path_is}
 use Rattle.reply_bodies.specs.Nodes.{found_text, node_text, text_at}
 
 -- something is found where an item passes

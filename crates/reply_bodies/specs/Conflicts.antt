@@ -4,7 +4,7 @@ use Rattle.xml_tree.specs.Tree.{last, Tree, tree_of, more_of}
 use Rattle.xml_names.specs.Markup.{text_escape, value_escape}
 use Rattle.xml_tree.specs.Print.{header}
 use Rattle.xml_names.specs.declared.names.Decl.{Decl}
-use Rattle.xml_names.specs.Expanded.{name_of}
+use Rattle.xml_names.specs.ExpandedNames.{name_of}
 use Rattle.reply_bodies.specs.declared.conflicts.ErrorBody.{ErrorBody}
 use Rattle.reply_bodies.specs.declared.conflicts.ErrorBody.TheVariants.{NotUtf8, NotWellFormed}
 use Rattle.reply_bodies.specs.declared.conflicts.ErrorBody.TheVariants.{NotXmlFrag, NotXmlAttValue}

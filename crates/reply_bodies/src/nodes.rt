@@ -6,7 +6,7 @@ ghost use Rattle.xml_names.specs.Limits.{max_levels};
 ghost use Rattle.xml_tree.specs.Print.{print};
 ghost use Rattle.xml_names.specs.Scopes.{bindings_in};
 ghost use Rattle.xml_tree.specs.Tree.{at, height, last, tree_of};
-ghost use Rattle.tree_text.specs.Printing.{body_print};
+ghost use Rattle.tree_text.specs.AttributeBodyPrints.{body_print};
 ghost use Rattle.node_select.specs.Selection.{is_attr};
 ghost use Rattle.reply_bodies.specs.Nodes.{encoded, found_text, node_media, node_text, text_at};
 
@@ -182,18 +182,6 @@ pub fn found_text(
         return Ok(None);
     };
     text_at(alloc, root, &path, &selector.end)
-}
-
-/// Whether a selector finds something in a document. Allocates only for indexes of declarations;
-/// the result is the same without them.
-pub fn is_found(alloc: Global, root: &Element, selector: &Selector) -> bool
-    requires { height root.now ≤ max_levels }
-    ensures exact { result ≡ is_some (found_text root.now selector.now) }
-{
-    let Some(path) = select(alloc, root, selector) else {
-        return false;
-    };
-    has_node_at(alloc, root, &path, &selector.end)
 }
 
 /// The media type of what a selector with this end finds (RFC 4825, section 15.2). Does not

@@ -9,10 +9,10 @@ use Rattle.request_checks.specs.declared.method.Method.TheVariants.{Get, Head, P
 unfoldable pub method_of : List ℕ → Method
 method_of name =
     if bytes_eq name (chars (codes "GET")) then Get
-    else (if bytes_eq name (chars (codes "HEAD")) then Head
-    else (if bytes_eq name (chars (codes "PUT")) then Put
-    else (if bytes_eq name (chars (codes "DELETE")) then Delete
-    else Other)))
+    else if bytes_eq name (chars (codes "HEAD")) then Head
+    else if bytes_eq name (chars (codes "PUT")) then Put
+    else if bytes_eq name (chars (codes "DELETE")) then Delete
+    else Other
 
 -- it reads, and changes nothing
 abbrev pub is_reading : Method → Bool

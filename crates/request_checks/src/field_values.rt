@@ -20,7 +20,7 @@ fn is_word(text: &Text, word: &[u8]) -> bool
 }
 
 // The value of the first field of this name, and the fields after it.
-fn first_named<'a>(mut fields: &'a [Field], name: &[u8]) -> Option<(&'a Bytes, &'a [Field])>
+fn find_field<'a>(mut fields: &'a [Field], name: &[u8]) -> Option<(&'a Bytes, &'a [Field])>
     requires { IsTrue (list_all is_ascii name.now) }
     ensures first_and_others { MatchOption result (fields_named name.now fields.now ≡ [])
         (λ found. fields_named name.now fields.now
@@ -43,8 +43,8 @@ pub fn single_value<'a>(fields: &'a [Field], name: &[u8]) -> Option<&'a [u8]>
     ensures value_if_single { MatchOption result (length (fields_named name.now fields.now) ≢ 1)
         (λ value. fields_named name.now fields.now ≡ value.now ∷ []) }
 {
-    let (value, rest) = first_named(fields, name)?;
-    match first_named(rest, name) {
+    let (value, rest) = find_field(fields, name)?;
+    match find_field(rest, name) {
         Some(_) => None,
         None => Some(value.as_slice()),
     }
@@ -56,7 +56,7 @@ pub fn all_values_are(mut fields: &[Field], name: &[u8], word: &[u8]) -> bool
     ensures exact { result
         ≡ list_all (λ v. same_ignoring_case v word.now) (fields_named name.now fields.now) }
 {
-    'fields: while let Some((value, rest)) = first_named(fields, name) {
+    'fields: while let Some((value, rest)) = find_field(fields, name) {
         if !is_same_ignoring_case(value.as_slice(), word) {
             return false;
         }
@@ -75,7 +75,7 @@ pub fn copy_values(
     ensures ok { IfOk result (λ values. values ≡ fields_named name.now fields.now) }
 {
     let mut values = List::empty(alloc);
-    'fields: while let Some((value, rest)) = first_named(fields, name) {
+    'fields: while let Some((value, rest)) = find_field(fields, name) {
         let value = value.copy(alloc)?;
         values.push(value)?;
         fields = rest;

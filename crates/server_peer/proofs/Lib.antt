@@ -1,3 +1,3 @@
-mod Answered
-mod Keeping
+mod ReplyFronts
 mod Rooms
+mod ServedTraffic

@@ -1,4 +1,4 @@
 pub mod Peers
 pub mod Rooms
-pub mod Serving
+pub mod ServedBytes
 pub mod inner

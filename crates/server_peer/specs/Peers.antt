@@ -7,7 +7,7 @@ use Rattle.xcap_io.specs.Histories.{with_taken}
 use Rattle.xcap_io.specs.Memory.{one_more}
 use Rattle.xcap_machine.specs.Servers.{ServerState}
 use Rattle.server_peer.specs.Rooms.{RepliesState, WrittenState}
-use Rattle.server_peer.specs.Serving.{AddsReplies}
+use Rattle.server_peer.specs.ServedBytes.{AddsReplies}
 
 -- The server, the bytes written and replied on the current connection, the history of the
 -- connections so far, the addresses of the connections, the latest first, and the number of failed

@@ -10,8 +10,8 @@
 
 mod peer;
 mod replies;
+mod serve_bytes;
 mod server_end;
-mod serving;
 mod written_bytes;
 
 pub use peer::ServerPeer;

@@ -136,7 +136,7 @@ impl ServerPeer {
         let count = buf.len().min(left.len());
         buf[..count].copy_from_slice(&left[..count]);
         self.given += count;
-        self.log.gave(&buf[..count]);
+        self.log.record_read(&buf[..count]);
         Ok(count)
     }
 }
@@ -175,7 +175,7 @@ impl Sink for ServerPeer {
         if count == 0 {
             return Err(fault(&mut self.write_faults));
         }
-        self.log.took(&piece[..count]);
+        self.log.record_write(&piece[..count]);
         Ok(count)
     }
 }

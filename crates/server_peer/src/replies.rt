@@ -1,8 +1,8 @@
 // The server's replies on the current connection.
 ghost use Rattle.std.specs.Prelude.{◌≡◌, ◌<◌, ◌≤◌, ◌^◌, ◌&&◌, ◌==◌, [], false, length, drop, IfOk};
-ghost use Rattle.server_peer.specs.Serving.{AddsReplies};
+ghost use Rattle.server_peer.specs.ServedBytes.{AddsReplies};
 
-use crate::serving::reply_to;
+use crate::serve_bytes::reply_to;
 use std::alloc::Global;
 use std::marker::Model;
 use xcap_io::NoMemory;

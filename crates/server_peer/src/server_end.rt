@@ -45,7 +45,7 @@ impl Source for ServerEnd<'_> {
         let count = buf.len().min(self.asked.len() - self.given);
         buf[..count].copy_from_slice(&self.asked[self.given..self.given + count]);
         self.given += count;
-        self.log.gave(&buf[..count]);
+        self.log.record_read(&buf[..count]);
         Ok(count)
     }
 }
@@ -56,7 +56,7 @@ impl Sink for ServerEnd<'_> {
         self.room[self.held..self.held + count].copy_from_slice(&piece[..count]);
         self.held += count;
         self.is_over |= count < piece.len();
-        self.log.took(piece);
+        self.log.record_write(piece);
         Ok(piece.len())
     }
 }

@@ -24,11 +24,11 @@ use Rattle.store_core.specs.ValidStates.{AreDistinct, IsSoundFor, IsValidState, 
 use Rattle.doc_names.specs.Usages.{usage_of}
 use Rattle.store_core.specs.DocumentChanges.{Act, Makes, Edits, Removes, act_of, after_act, against, against_number, against_tree, answered, changing, content_after, document_in, stored_name, note_for, only_if, other_addresses, other_lengths, taken}
 use Rattle.store_core.specs.AcceptableChanges.{Suits, SuitsAct}
-use Rattle.store_core.proofs.Apart.{none-filtered, one-exchanged, one-filtered}
+use Rattle.store_core.proofs.DistinctItems.{none-filtered, one-exchanged, one-filtered}
 use Rattle.store_core.proofs.KeptAfter.{round}
 use Rattle.doc_names.proofs.SameIds.{id_exact}
-use Rattle.store_core.proofs.Accepted.{uris_of, length_of, rest, rest-addresses, rest-lengths, sum-put, sum-first, find-map, not_found_refusal}
-use Rattle.store_core.proofs.Admitted.{apart-unmix, neither, no-more, not-told, not-yet, nothing-taken}
+use Rattle.store_core.proofs.AcceptedChanges.{uris_of, length_of, rest, rest-addresses, rest-lengths, sum-put, sum-first, find-map, not_found_refusal}
+use Rattle.store_core.proofs.AdmissionLemmas.{apart-unmix, neither, no-more, not-told, not-yet, nothing-taken}
 
 admits-tree : (c : Content) (id : DocId) (is_new : Bool) (t : Tree) → AllByRecursion (λ uri. AllByRecursion (λ o. uri ≢ o) (other_addresses c id)) (addresses_in id.auid t) → document_len t ≤ 262144 → (is_new && nat_le 1000 (length c.documents)) ≡ false → other_lengths c id + document_len t ≤ 33554432 → against_tree c id is_new t ≡ None
 admits-tree c id is_new t services short few room =

@@ -11,7 +11,7 @@ use Rattle.std.specs.declared.cmp.Ordering.TheVariants.{Less, Equal, Greater}
 use Rattle.xml_tree.specs.Tree.{Tree}
 use Rattle.store_core.specs.Indexes.{AreByUser, AreIndexTrees, indexed}
 use Rattle.store_core.proofs.InOrder.{Pair, cmp, each-placed, in_order, placed, put, turned}
-use Rattle.store_core.proofs.Sorting.{Rises, from-lower, one-order, rises-sorted, sorted-rises, tied}
+use Rattle.store_core.proofs.SortLemmas.{Rises, from-lower, one-order, rises-sorted, sorted-rises, tied}
 use Rattle.store_core.specs.Contents.{StoreContents as Content}
 
 abbrev less : Pair → Pair → Bool

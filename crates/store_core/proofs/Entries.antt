@@ -16,9 +16,9 @@ use Rattle.store_core.specs.Contents.{StoredDocument, Represents, stored_of, Sto
 use Rattle.store_core.specs.ValidStates.{AreDistinct, IsKept, IsSoundFor, IsValidState, addresses, addresses_in}
 use Rattle.doc_names.specs.Usages.{usage_of}
 use Rattle.store_core.specs.DocumentChanges.{document_in, stored_name}
-use Rattle.store_core.specs.inner.Storing.{content_in, stored_in, len_in, name_in, uris_in}
-use Rattle.store_core.proofs.Accepted.{sum-mapped}
-use Rattle.store_core.proofs.Apart.{apart-behind, each-weaker}
+use Rattle.store_core.specs.inner.StoreMemory.{content_in, stored_in, len_in, name_in, uris_in}
+use Rattle.store_core.proofs.AcceptedChanges.{sum-mapped}
+use Rattle.store_core.proofs.DistinctItems.{apart-behind, each-weaker}
 use Rattle.doc_names.proofs.SameIds.{other-name, id_exact}
 
 -- ---- lists

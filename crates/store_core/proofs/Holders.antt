@@ -9,9 +9,9 @@ use Rattle.std.specs.Set.{is_member}
 use Rattle.std.specs.Str.{bytes_eq}
 use Rattle.store_core.specs.ValidStates.{AreDistinct}
 use Rattle.std.specs.Option.{option_or as or_else}
-use Rattle.store_core.specs.inner.Storing.{holder_in, is_others}
-use Rattle.store_core.proofs.Admitted.{apart-unmix, unlike-all}
-use Rattle.store_core.proofs.Apart.{apart-middle, each-weaker}
+use Rattle.store_core.specs.inner.StoreMemory.{holder_in, is_others}
+use Rattle.store_core.proofs.AdmissionLemmas.{apart-unmix, unlike-all}
+use Rattle.store_core.proofs.DistinctItems.{apart-middle, each-weaker}
 
 neither-of : (a b : Bool) → (a || b) ≡ false → (a ≡ false) × (b ≡ false)
 neither-of true b h = cc

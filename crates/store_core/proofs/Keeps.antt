@@ -9,9 +9,9 @@ use Rattle.store_core.specs.Contents.{Represents, StoreContents as Content}
 use Rattle.store_core.specs.ValidStates.{IsValidState}
 use Rattle.store_core.specs.Queries.{Asks}
 use Rattle.store_core.specs.DocumentChanges.{act_of, after, against, answered, changing, content_after, document_in, stored_name, note_for}
-use Rattle.store_core.proofs.Accepted.{accepted-suits}
+use Rattle.store_core.proofs.AcceptedChanges.{accepted-suits}
 use Rattle.store_core.proofs.KeptAfter.{kept-after}
-use Rattle.store_core.proofs.Standing.{stands-after}
+use Rattle.store_core.proofs.StateContents.{stands-after}
 
 abbrev holding : Content → Result (Note × Content) StoreRefusal → Content
 holding c (Ok x) = x.1

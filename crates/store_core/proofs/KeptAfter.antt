@@ -16,7 +16,7 @@ use Rattle.store_core.specs.ValidStates.{AreDistinct, IsKept, IsSoundFor, IsUser
 use Rattle.doc_names.specs.Usages.{usage_of}
 use Rattle.store_core.specs.DocumentChanges.{Act, Makes, Edits, Removes, act_of, after, after_act}
 use Rattle.store_core.specs.AcceptableChanges.{Suits, SuitsAct}
-use Rattle.store_core.proofs.Apart.{each-append, each-left, each-right, each-weaker, apart-put, apart-cut, apart-behind, split, one-exchanged, one-filtered}
+use Rattle.store_core.proofs.DistinctItems.{each-append, each-left, each-right, each-weaker, apart-put, apart-cut, apart-behind, split, one-exchanged, one-filtered}
 use Rattle.doc_names.proofs.SameIds.{not-same, other-name}
 
 abbrev pub name_of : Document → DocId

@@ -4,7 +4,7 @@ use Rattle.std.proofs.lemmas.Iterator.Adapters.{position_from-zero}
 use Rattle.std.specs.List.{AllByRecursion, position, position_from}
 use Rattle.std.specs.Prelude.{max}
 use Rattle.store_core.specs.inner.Addresses.{ComeAt}
-use Rattle.store_core.proofs.Admitted.{no-place}
+use Rattle.store_core.proofs.AdmissionLemmas.{no-place}
 
 max-zero : (n : ℕ) → max n 0 ≡ n
 max-zero n = omega arith

@@ -22,17 +22,17 @@ use Rattle.store_core.specs.ValidStates.{IsSoundFor, addresses_in}
 use Rattle.store_core.specs.Queries.{Asks, MayBeFor}
 use Rattle.store_core.specs.DocumentChanges.{Act, Edits, act_of, against, against_number, against_tree, answered, changing, content_after, document_in, stored_name, note_for, other_lengths}
 use Rattle.store_core.specs.TreeChanges.{IsStagedIn, is_within}
-use Rattle.store_core.specs.inner.Making.{IsOwn}
+use Rattle.store_core.specs.inner.UnsharedTrees.{IsOwn}
 use Rattle.store_core.specs.PreparedChanges.{Exchanges, HasTree, IsPlanned, IsReady, IsStepOf, Readied, total_of}
-use Rattle.store_core.proofs.Accepted.{passes, not_found_refusal}
-use Rattle.store_core.proofs.Apart.{none-filtered}
-use Rattle.store_core.proofs.Asked.{asked, found-name}
-use Rattle.store_core.proofs.Exchanging.{exchanged-by}
-use Rattle.store_core.proofs.Planning.{refused-first, refused-last, not-refused-at-all}
-use Rattle.store_core.specs.Stored.{Stored, entry_of}
+use Rattle.store_core.proofs.AcceptedChanges.{passes, not_found_refusal}
+use Rattle.store_core.proofs.DistinctItems.{none-filtered}
+use Rattle.store_core.proofs.ChangePremises.{asked, found-name}
+use Rattle.store_core.proofs.ServiceChanges.{exchanged-by}
+use Rattle.store_core.proofs.ChangeReasons.{refused-first, refused-last, not-refused-at-all}
+use Rattle.store_core.specs.StoreViews.{Stored, entry_of}
 use Rattle.store_core.specs.inner.Addresses.{AreExchanged, enter_in, first_number, leave_in}
-use Rattle.store_core.specs.declared.outlines.Outline.{Outline}
-use Rattle.store_core.specs.inner.Planning.{IsHeldAs, IsNewOutline, IsNoted, IsOutline, Plans}
+use Rattle.store_core.specs.declared.change_builder.Outline.{Outline}
+use Rattle.store_core.specs.inner.ChangePlans.{IsHeldAs, IsNewOutline, IsNoted, IsOutline, Plans}
 
 -- ---- any change
 

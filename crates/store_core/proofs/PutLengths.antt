@@ -7,7 +7,7 @@ use Rattle.xml_names.proofs.PrintLengths.{byte_len-append}
 use Rattle.edit_ops.specs.Lengths.{element_len}
 use Rattle.edit_ops.specs.declared.change.Change.{Change}
 use Rattle.edit_ops.specs.declared.change.Change.TheVariants.{CreateDocument, Insert, Replace, Remove, SetAttr, DropAttr, RemoveDocument}
-use Rattle.edit_ops.specs.Inserted.{BringsElement, inserted_part}
+use Rattle.edit_ops.specs.InsertedElements.{BringsElement, inserted_part}
 use Rattle.store_core.specs.inner.Prints.{IsInsertedPrint, IsPrintOf}
 
 pub print_len : (t : Tree) (bytes : List ℕ) → bytes ≡ encode_utf8_all (document_print t) → length bytes ≡ 39 + byte_len (print t)

@@ -4,7 +4,7 @@ use Rattle.std.proofs.lemmas.Bool.Decides.{nat_tests}
 use Rattle.std.proofs.lemmas.List.Sums.{sum_by-append}
 use Rattle.circular_buffer.specs.Buffer.{keep_last}
 use Rattle.store_core.specs.State.{is_small, small_end}
-use Rattle.store_core.proofs.Accepted.{sum-first}
+use Rattle.store_core.proofs.AcceptedChanges.{sum-first}
 
 module _ {A : Type 0} (weight : A → ℕ) where
   pub one-stays : (xs : List A) → length xs ≤ 1 → small_end weight xs ≡ xs

@@ -12,7 +12,7 @@ use Rattle.xml_names.specs.declared.names.Attr.{Attr}
 use Rattle.xml_tree.specs.TreeScopes.{inside}
 use Rattle.usage_docs.specs.UniqueKeys.{HasUniqueKeys, mark, mark_of}
 use Rattle.usage_docs.specs.Keys.{attribute_of, key_of, key_value, value_of}
-use Rattle.usage_docs.specs.SchemaTable.{Scope, child_named, kind_of, content_model_of, namespace_of_children, root_kind, element_namespace, local_name_of}
+use Rattle.usage_docs.specs.SchemaTable.{Scope, child_kind, kind_of, content_model_of, namespace_of_children, root_kind, element_namespace, local_name_of}
 use Rattle.usage_docs.specs.Services.{service_uri, service_uris}
 use Rattle.usage_docs.specs.declared.keys.Clash.{Clash}
 use Rattle.usage_docs.specs.declared.schema_table.ElementKind.{ElementKind}
@@ -25,7 +25,7 @@ use Rattle.store_core.specs.ValidStates.{AreDistinct, addresses_in}
 use Rattle.doc_names.specs.Usages.{usage_of}
 use Rattle.store_core.specs.Queries.{MayBeFor}
 use Rattle.store_core.specs.DocumentChanges.{taken}
-use Rattle.store_core.proofs.Apart.{each-append, each-left, each-right, apart-put}
+use Rattle.store_core.proofs.DistinctItems.{each-append, each-left, each-right, apart-put}
 
 -- ---- lists
 
@@ -106,7 +106,7 @@ of-space true s kind h = child-of-root s kind h
 of-space false s kind h = cc
 
 kind-of-child : (c : Scope) (e : Tree) (kind : ElementKind) → kind_of RlsServices (inside c e) e.name ≡ Some kind → kind ≡ Service
-unfolding kind_of child_named content_model_of local_name_of
+unfolding kind_of child_kind content_model_of local_name_of
 kind-of-child c e kind h = of-space (bytes_eq (element_namespace (inside c e) e.name) (namespace_of_children RlsServices)) (bytes_eq e.name.local (codes "service")) kind h
 
 key-of-service : (ats : List Attr) → key_value Service ats ≡ value_of Uri ats

@@ -9,7 +9,7 @@ use Rattle.store_core.specs.DocumentChanges.{document_in, stored_name}
 use Rattle.store_core.specs.Contents.{StoredDocument, Represents, stored_of, StoreContents as Content}
 use Rattle.store_core.specs.ValidStates.{IsKept, IsSoundFor, IsValidState}
 use Rattle.store_core.specs.State.{Document, State}
-use Rattle.store_core.proofs.Asked.{found-name}
+use Rattle.store_core.proofs.ChangePremises.{found-name}
 
 -- each stored document may be a document of its application usage
 abbrev pub AllSound : Content → Type 0

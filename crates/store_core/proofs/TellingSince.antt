@@ -5,15 +5,15 @@ use Rattle.std.specs.Option.{option_map}
 use Rattle.doc_names.specs.Equality.{same_id}
 use Rattle.doc_names.specs.declared.doc_id.DocId.{DocId}
 use Rattle.edit_ops.specs.Notes.{Note}
-use Rattle.edit_ops.specs.Recorded.{all_notes as joined}
+use Rattle.edit_ops.specs.RecordParts.{all_notes as joined}
 use Rattle.store_core.specs.declared.entry.Entry.{Entry}
 use Rattle.store_core.specs.DocumentChanges.{document_in, stored_name}
 use Rattle.store_core.specs.Contents.{StoredDocument}
 use Rattle.store_core.specs.Since.{ChangesSince, Gone, ReportedChanges, notes_from, since}
 use Rattle.store_core.specs.inner.ChangesSince.{held_since, changes_since_of}
-use Rattle.store_core.specs.inner.Storing.{stored_in}
+use Rattle.store_core.specs.inner.StoreMemory.{stored_in}
 use Rattle.store_core.proofs.Entries.{read-as}
-use Rattle.store_core.specs.Stored.{Stored}
+use Rattle.store_core.specs.StoreViews.{Stored}
 
 -- ---- in two slices
 

@@ -8,7 +8,7 @@ use Rattle.std.specs.Option.{ForSome, option_map_or}
 use Rattle.std.specs.Str.{bytes_eq}
 use Rattle.doc_names.specs.declared.usages.Usage.TheVariants as usages
 use Rattle.xml_names.specs.Attributes.{is_written_so, with_new_value, with_attr, without_attr}
-use Rattle.xml_names.specs.Expanded.{ExpandedName, attr_name, same_expanded}
+use Rattle.xml_names.specs.ExpandedNames.{ExpandedName, attr_name, same_expanded}
 use Rattle.xml_names.specs.Scopes.{bound}
 use Rattle.xml_tree.specs.TreeScopes.{inside}
 use Rattle.xml_tree.specs.Tree.{Content, last, more, comment_node, Tree, child_elements, child_elements_of}

@@ -4,7 +4,7 @@ use Rattle.xml_tree.specs.Tree.{Tree}
 use Rattle.edit_ops.specs.Changes.{Fits, edited}
 use Rattle.edit_ops.specs.declared.change.Change.{Change}
 use Rattle.edit_ops.specs.declared.change.Change.TheVariants.{CreateDocument, Insert, Replace, Remove, SetAttr, DropAttr, RemoveDocument}
-use Rattle.edit_ops.specs.Inserted.{BringsElement, inserted_part}
+use Rattle.edit_ops.specs.InsertedElements.{BringsElement, inserted_part}
 use Rattle.store_core.specs.TreeChanges.{is_within}
 
 pub brings-whole : (t : Tree) (change : Change) → Fits t change → is_within change ≡ false → BringsElement change

@@ -1,6 +1,6 @@
 -- The meaning of a store's result with the records since a version.
 use Rattle.store_core.specs.Since.{ChangesSince, ReportedChanges}
-use Rattle.edit_ops.specs.Recorded.{all_notes}
+use Rattle.edit_ops.specs.RecordParts.{all_notes}
 use Rattle.store_core.specs.Since as since
 use Rattle.store_core.specs.declared.since.Since.{Since}
 use Rattle.store_core.specs.declared.since.Since.TheVariants.{Gone, Unknown, Changes}

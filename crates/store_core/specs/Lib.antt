@@ -9,7 +9,7 @@ pub mod PreparedChanges
 pub mod Queries
 pub mod Since
 pub mod State
-pub mod Stored
+pub mod StoreViews
 pub mod TreeChanges
 pub mod Trees
 pub mod ValidStates

@@ -16,7 +16,7 @@ use Rattle.store_core.specs.Queries.{Asks}
 use Rattle.store_core.specs.TreeChanges.{IsOwnWhere, IsStagedIn}
 use Rattle.store_core.specs.DocumentChanges.{Edits, act_of, changing, content_after, document_in}
 use Rattle.store_core.specs.DocumentChanges.{stored_name}
-use Rattle.store_core.specs.Stored.{Stored, entry_of}
+use Rattle.store_core.specs.StoreViews.{Stored, entry_of}
 
 -- ---- a prepared change
 

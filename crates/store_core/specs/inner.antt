@@ -1,10 +1,10 @@
 -- Definitions for private functions and proofs. No clause of a public call needs them.
 pub mod Addresses
+pub mod ChangePlans
 pub mod ChangesSince
-pub mod Making
-pub mod Planning
 pub mod Prints
 pub mod Rings
 pub mod Roots
 pub mod ServiceListing
-pub mod Storing
+pub mod StoreMemory
+pub mod UnsharedTrees

@@ -1,11 +1,11 @@
 //! The entry of a document in the store, with the retained records of its changes (RFC 5874,
 //! section 3).
 ghost use Rattle.std.specs.Prelude.{◌≡◌, IfOk, OnOk, true};
-ghost use Rattle.store_core.specs.Stored.{entry_of};
+ghost use Rattle.store_core.specs.StoreViews.{entry_of};
 ghost use Rattle.edit_ops.specs.Changes.{Fits};
 ghost use Rattle.usage_docs.specs.Services.{document_len};
 ghost use Rattle.store_core.specs.TreeChanges.{IsOwnWhere, IsStagedIn};
-ghost use Rattle.store_core.specs.inner.Storing.{IsRenewed, as_own};
+ghost use Rattle.store_core.specs.inner.StoreMemory.{IsRenewed, as_own};
 
 use crate::cached_tree::CachedTree;
 use crate::printed_tree::PrintedTree;

@@ -10,17 +10,17 @@
 
 mod addresses;
 mod cached_tree;
+mod change_builder;
 mod commit_change;
 mod entry;
 mod indexes;
 mod laws;
 mod limits;
-mod outlines;
 mod prepare_change;
 mod prepared_change;
 mod printed_tree;
 mod prints;
-mod put;
+mod put_lengths;
 mod refusal;
 mod registry;
 mod retained_records;

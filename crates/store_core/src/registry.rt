@@ -5,7 +5,7 @@ ghost use Rattle.std.specs.Prelude.{if◌then◌else◌};
 ghost use Rattle.std.specs.Set.{is_member};
 ghost use Rattle.std.specs.Str.{bytes_eq};
 ghost use Rattle.indexmap.specs.IndexMap.{spare};
-ghost use Rattle.store_core.specs.inner.Storing.{is_others, registered};
+ghost use Rattle.store_core.specs.inner.StoreMemory.{is_others, registered};
 
 use indexmap::IndexMap;
 use xml_names::Text;

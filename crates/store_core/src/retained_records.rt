@@ -1,7 +1,7 @@
 //! The retained records of a document's changes (RFC 5874, section 3).
 ghost use Rattle.std.specs.Prelude.{◌≡◌, ◌+◌, ◌<◌, ◌≤◌, ◌++◌, ◌∷◌, [], true, false, length, IfOk};
 ghost use Rattle.edit_ops.specs.Operations.{weight};
-ghost use Rattle.edit_ops.specs.Recorded.{all_notes};
+ghost use Rattle.edit_ops.specs.RecordParts.{all_notes};
 ghost use Rattle.store_core.specs.State.{is_small, retained};
 ghost use Rattle.store_core.specs.inner.Rings.{IsRing, counted_weight, counted_in};
 

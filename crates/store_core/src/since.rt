@@ -3,7 +3,7 @@ ghost use Rattle.std.specs.Prelude.{◌≡◌, ◌==◌, ℕ, List, [], if◌the
 ghost use Rattle.std.specs.Option.{option_map};
 ghost use Rattle.doc_names.specs.declared.doc_id.DocId.{DocId};
 ghost use Rattle.edit_ops.specs.Notes.{Note};
-ghost use Rattle.edit_ops.specs.Recorded.{all_notes};
+ghost use Rattle.edit_ops.specs.RecordParts.{all_notes};
 ghost use Rattle.store_core.specs.Contents.{Represents, StoreContents};
 ghost use Rattle.store_core.specs.History.{IsSince};
 ghost use Rattle.store_core.specs.ValidStates.{IsValidState};

@@ -8,8 +8,8 @@ ghost use Rattle.doc_names.specs.Equality.{same_id};
 ghost use Rattle.edit_ops.specs.Changes.{Fits};
 ghost use Rattle.store_core.specs.declared.entry.Entry.{Entry as Held};
 ghost use Rattle.store_core.specs.TreeChanges.{IsOwnWhere, IsStagedIn};
-ghost use Rattle.store_core.specs.inner.Making.{IsOwn};
-ghost use Rattle.store_core.specs.inner.Storing.{IsRenewed, all_as_own, trees_in};
+ghost use Rattle.store_core.specs.inner.UnsharedTrees.{IsOwn};
+ghost use Rattle.store_core.specs.inner.StoreMemory.{IsRenewed, all_as_own, trees_in};
 
 use crate::entry::{Entry, make_tree_unique, update_entry};
 use crate::staged_tree::StagedTree;
@@ -109,7 +109,7 @@ fn end(documents: &mut Documents, doc: &DocId)
 }
 
 impl Step {
-    ghost use Rattle.store_core.specs.inner.Planning.{Stepped, Steppable};
+    ghost use Rattle.store_core.specs.inner.ChangePlans.{Stepped, Steppable};
 
     /// Makes the step under a number, and returns the number of the document's creation.
     pub(crate) fn take(self, documents: &mut Documents, doc: &DocId, number: u64) -> u64

@@ -32,9 +32,9 @@ pub struct Store {
 
 impl Model for Store {
     ghost use Rattle.std.specs.Prelude.{◌+◌};
-    ghost use Rattle.store_core.specs.Stored.{Stored};
+    ghost use Rattle.store_core.specs.StoreViews.{Stored};
     ghost use Rattle.indexmap.specs.IndexMap.{spare};
-    ghost use Rattle.store_core.specs.inner.Storing.{IsStoring, content_in, trees_in};
+    ghost use Rattle.store_core.specs.inner.StoreMemory.{IsStoring, content_in, trees_in};
     ghost use Rattle.std.specs.Coded.{codes};
     ghost use Rattle.xml_tree.specs.inner.Codes.{tree_code};
     ghost use Rattle.doc_names.specs.contracts.doc_id.DocId as d;

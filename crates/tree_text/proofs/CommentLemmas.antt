@@ -3,7 +3,7 @@ use Rattle.std.proofs.Common.{◌≡◌, ℕ, Bool, true, false, cond, List, [],
 use Rattle.std.specs.Prelude.{◌&&◌, not, ◌==◌, nat_eq, None, Some}
 use Rattle.std.specs.List.{list_all, cons_option as with_char}
 use Rattle.std.proofs.lemmas.Bool.{eqb-true, eq-eqb}
-use Rattle.xml_grammar.specs.Reading.{Stop, Syntax, ◌>>=◌, head_is, starts}
+use Rattle.xml_grammar.specs.TextReading.{Stop, Syntax, ◌>>=◌, head_is, starts}
 use Rattle.xml_grammar.specs.readers.Functions.{read_up_to}
 use Rattle.xml_names.specs.Characters.{is_char}
 use Rattle.xml_names.specs.Comments.{is_kept_char, hyphens_apart, is_comment}

@@ -1,6 +1,6 @@
 -- Plain characters before the end of their run are appended to content as they are.
 use Rattle.std.proofs.Common.{◌≡◌, ℕ, true, List, [], Result, Ok, refl, ap, ◌∙◌}
-use Rattle.xml_grammar.specs.Reading.{Stop, ◌>>=◌}
+use Rattle.xml_grammar.specs.TextReading.{Stop, ◌>>=◌}
 use Rattle.xml_tree.specs.Tree.{Content, Tree}
 use Rattle.xml_tree.proofs.Places.{with_text-nil}
 use Rattle.xml_tokens.specs.declared.fault_kind.FaultKind.{FaultKind}

@@ -2,7 +2,7 @@
 use Rattle.std.proofs.Common.{◌≡◌, ℕ, suc, ◌+◌, Bool, true, false, cond, ◌||◌, List, [], ◌∷◌, ◌++◌, length, chars, encode_utf8_all, Result, Ok, Err, refl, sym, subst, ap, ◌∙◌, arith}
 use Rattle.std.proofs.lemmas.List.{same_from_push}
 use Rattle.std.specs.Prelude.{nat_eq, ◌==◌}
-use Rattle.xml_grammar.specs.Reading.{Reader, Stop, Syntax, Faulty, ◌>>=◌, head_is, starts, read_valued}
+use Rattle.xml_grammar.specs.TextReading.{Reader, Stop, Syntax, Faulty, ◌>>=◌, head_is, starts, read_valued}
 use Rattle.xml_grammar.specs.readers.Functions.{judgement, read_judged, read_at_most, read_many}
 use Rattle.xml_tree.specs.Edits.{with_text}
 use Rattle.xml_tree.specs.Tree.{Content, last, Tree, tree_of}
@@ -15,7 +15,7 @@ use Rattle.xml_tokens.specs.declared.parse_error.ParseError.TheVariants as stops
 use Rattle.xml_tokens.specs.readers.Results.{Fails}
 use Rattle.tree_text.specs.readers.Members.{filled, tree_with, with_chars, with_one, read_chars_onto, read_member, read_child, read_onto, read_filled, read_filled_behind}
 use Rattle.tree_text.specs.Names.{decls_of, attrs_of, element_of}
-use Rattle.tree_text.specs.readers.Judging.{counted_back, first_of_tag, tag_fault}
+use Rattle.tree_text.specs.readers.TagNameFaults.{counted_back, first_of_tag, tag_fault}
 use Rattle.tree_text.specs.Pieces.{Markup, Inner, StartTag, with_pieces}
 use Rattle.xml_tokens.specs.readers.Tokens.{read_chars}
 use Rattle.tree_text.specs.readers.Texts.{markup_follows, other_follows, read_markup, read_tag, read_behind_tag, read_element}

@@ -16,7 +16,7 @@ use Rattle.tree_text.specs.FaultKinds.{is_fault, rank, faults}
 use Rattle.xml_tokens.specs.Values.{qname_of, written}
 use Rattle.tree_text.specs.Pieces.{StartTag}
 use Rattle.tree_text.specs.Names.{is_misnamed, is_repeated, IsWrongSaid, widths, IsWrong, inside_tag as inside, opening_size as opening, is_unbound_in as is_unbound}
-use Rattle.tree_text.specs.readers.Judging.{wrong_said, or_later, first_wrong, first_of_tag, counted_back, tag_fault}
+use Rattle.tree_text.specs.readers.TagNameFaults.{wrong_said, or_later, first_wrong, first_of_tag, counted_back, tag_fault}
 use Rattle.xml_tokens.specs.Tokens.{name, qname, spaces}
 use Rattle.tree_text.specs.Grammar.{raw_attribute, tag_end, start_tag}
 use Rattle.xml_tokens.proofs.NameLemmas.{prefixed_size}

@@ -1,3 +1,4 @@
+pub mod ByteResults
 pub mod ChildLemmas
 pub mod CommentLemmas
 pub mod ContentFronts
@@ -31,5 +32,4 @@ pub mod ReadTexts
 pub mod SpaceLemmas
 pub mod StackLemmas
 pub mod TagSizes
-pub mod Told
 pub mod UnboundScopes

@@ -9,7 +9,7 @@ use Rattle.std.specs.BTreeSet.{BTreeSet, Updates, contains}
 use Rattle.std.specs.Cmp.{tied_then, unsigned_tied}
 use Rattle.std.specs.Cmp.Lexicographic.{slice_cmp, texts_ties}
 use Rattle.std.proofs.lemmas.List.Folds.{list_any-append}
-use Rattle.xml_names.specs.Expanded.{attr_name}
+use Rattle.xml_names.specs.ExpandedNames.{attr_name}
 use Rattle.xml_names.proofs.ByteOrder.{order-encodes}
 use Rattle.tree_text.specs.contracts.attribute_meanings.MeaningOrd.TheImpl.{cmp-value}
 use Rattle.tree_text.specs.declared.bindings.Bindings.{Bindings}

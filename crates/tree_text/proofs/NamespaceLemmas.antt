@@ -7,8 +7,8 @@ use Rattle.std.specs.Cmp.Lexicographic.{bytes_decides}
 use Rattle.std.specs.Option.{option_or}
 use Rattle.std.specs.Str.{bytes_eq}
 use Rattle.std.proofs.lemmas.Bool.{eqb-true, eq-eqb}
-use Rattle.xml_names.specs.Expanded.{attr_name, same_uri}
-use Rattle.xml_names.specs.Scopes.{bound, declared, joined, some_text, xml_prefix, xml_uri}
+use Rattle.xml_names.specs.ExpandedNames.{attr_name, same_uri}
+use Rattle.xml_names.specs.Scopes.{bound, declared_uri, joined, some_text, xml_prefix, xml_uri}
 use Rattle.xml_names.specs.declared.names.Decl.{Decl}
 use Rattle.xml_names.specs.declared.names.Name.{Name}
 use Rattle.tree_text.specs.readers.Bindings.{AreOpenNamespaces, lists, number, stack, uris}
@@ -31,9 +31,9 @@ module _ (num : List ℕ → Option ℕ) where
   uri_has true u us o [] ih h = absurd (cc)
   uri_has true u us o (n ∷ ns) ih h = nearest_has o (Some u) (ih ns (cc)) (n, cc)
 
-  declared_has : (ds : List Decl) (p ns : List ℕ) → map num (uris ds p) ≡ map Some ns → HasNumber (declared ds p)
+  declared_has : (ds : List Decl) (p ns : List ℕ) → map num (uris ds p) ≡ map Some ns → HasNumber (declared_uri ds p)
   declared_has [] p ns h = tt
-  declared_has (d ∷ ds) p ns h = uri_has (bytes_eq d.prefix p) d.uri (uris ds p) (declared ds p) ns (declared_has ds p) h
+  declared_has (d ∷ ds) p ns h = uri_has (bytes_eq d.prefix p) d.uri (uris ds p) (declared_uri ds p) ns (declared_has ds p) h
 
   text_has : (o : Option (List ℕ)) → HasNumber o → HasNumber (some_text o)
   text_has None h = tt
@@ -69,8 +69,8 @@ module _ (here : Bindings) (kept : AreOpenNamespaces here) where
   bound_has : (p : List ℕ) → HasNumber (number here.namespaces) (bound (lists here) p)
   bound_has p =
       let num = number here.namespaces in
-      either_has num (bytes_eq p xml_prefix) (Some xml_uri) (some_text (declared (joined (lists here)) p)) (here.namespaces.xml, kept.xml)
-      (text_has num (declared (joined (lists here)) p) (declared_has num (joined (lists here)) p (stack here.namespaces p) (kept.declared p)))
+      either_has num (bytes_eq p xml_prefix) (Some xml_uri) (some_text (declared_uri (joined (lists here)) p)) (here.namespaces.xml, kept.xml)
+      (text_has num (declared_uri (joined (lists here)) p) (declared_has num (joined (lists here)) p (stack here.namespaces p) (kept.declared p)))
 
   attr_has : (n : Name) → HasNumber (number here.namespaces) (attr_name (lists here) n).uri
   attr_has n = either_has (number here.namespaces) (bytes_eq n.prefix []) None (bound (lists here) n.prefix) tt (bound_has n.prefix)

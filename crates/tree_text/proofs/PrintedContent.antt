@@ -2,7 +2,7 @@
 use Rattle.std.proofs.Common.{◌≡◌, ℕ, ◌<◌, Bool, true, false, cond, List, [], ◌∷◌, ◌++◌, length, Result, Ok, IsTrue, refl, sym, ap, subst, ◌∙◌, append_assoc, eqb-true, eq-eqb, length-append, arith}
 use Rattle.std.specs.Prelude.{◌&&◌, ◌==◌, not, nat_eq}
 use Rattle.std.specs.List.{list_all, AllByRecursion}
-use Rattle.xml_grammar.specs.Reading.{Stop, Reader, ◌>>=◌, head_is, starts, read_valued}
+use Rattle.xml_grammar.specs.TextReading.{Stop, Reader, ◌>>=◌, head_is, starts, read_valued}
 use Rattle.xml_grammar.specs.readers.Functions.{read_up_to}
 use Rattle.xml_names.specs.Characters.{is_char, is_name_start}
 use Rattle.xml_names.specs.Comments.{is_kept_char, hyphens_apart, is_comment}

@@ -1,6 +1,6 @@
 -- Printed elements are read as what was printed.
 use Rattle.std.proofs.Common.{◌≡◌, ℕ, zero, suc, ◌+◌, ◌<◌, ◌≤◌, Bool, true, false, cond, List, [], ◌∷◌, ◌++◌, length, None, refl, sym, ap, subst, ◌∙◌, append_assoc, append-nil, flat_map, length-append, arith}
-use Rattle.xml_grammar.specs.Reading.{Reader}
+use Rattle.xml_grammar.specs.TextReading.{Reader}
 use Rattle.xml_names.specs.Characters.{is_name_start}
 use Rattle.xml_tree.specs.Edits.{with_text_before}
 use Rattle.xml_names.specs.Markup.{opening, closing, print_attr, print_decl, print_name, print_text, print_comment}

@@ -3,7 +3,7 @@ use Rattle.std.proofs.Common.{◌≡◌, ℕ, Bool, true, false, List, [], ◌�
 use Rattle.std.specs.Prelude.{◌==◌, None, Some}
 use Rattle.std.specs.List.{list_all}
 use Rattle.xml_grammar.specs.Rules.{AllPass}
-use Rattle.xml_grammar.specs.Reading.{head_is, read_run, read_valued, read_word}
+use Rattle.xml_grammar.specs.TextReading.{head_is, read_run, read_valued, read_word}
 use Rattle.xml_grammar.specs.readers.Functions.{read_empty, read_behind, read_quoted}
 use Rattle.xml_names.specs.Characters.{is_char, is_space, is_name_start, is_name_char, is_name}
 use Rattle.xml_names.specs.Markup.{declaring, print_attr, print_decl, print_name, value_escape, quoted_text as quoted}

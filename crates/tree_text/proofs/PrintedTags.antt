@@ -8,21 +8,21 @@ use Rattle.std.specs.Str.{bytes_eq}
 use Rattle.std.proofs.lemmas.Slice.Eq.{bytes_eq-Decides}
 use Rattle.std.proofs.lemmas.Map.Keys.{IsDistinct-head, IsDistinct-tail}
 use Rattle.xml_names.specs.Characters.{is_char, is_space}
-use Rattle.xml_names.specs.Expanded.{ExpandedName, attr_name, same_expanded}
+use Rattle.xml_names.specs.ExpandedNames.{ExpandedName, attr_name, same_expanded}
 use Rattle.xml_names.specs.Markup.{opening, print_attr, print_name}
 use Rattle.xml_tree.specs.Proper.{is_declaration, is_prefix, may_stand, IsAttribute, IsNamed, IsTag}
-use Rattle.xml_names.specs.Scopes.{bound, declared, joined, some_text, xmlns_prefix}
+use Rattle.xml_names.specs.Scopes.{bound, declared_uri, joined, some_text, xmlns_prefix}
 use Rattle.xml_names.specs.declared.names.Name.{Name}
 use Rattle.xml_names.specs.declared.names.Decl.{Decl}
 use Rattle.xml_names.specs.declared.names.Attr.{Attr}
 use Rattle.xml_tree.proofs.ScopesAlike.{bound-inner}
-use Rattle.xml_grammar.specs.Reading.{Reader}
+use Rattle.xml_grammar.specs.TextReading.{Reader}
 use Rattle.xml_grammar.specs.readers.Functions.{read_judged}
 use Rattle.xml_tokens.specs.readers.Words.{less}
 use Rattle.xml_tokens.specs.declared.fault_kind.FaultKind.{FaultKind}
 use Rattle.tree_text.specs.declared.raw_attribute.RawAttribute.{RawAttribute}
 use Rattle.tree_text.specs.Names.{decls_of, attrs_of, is_misnamed, says_again, is_repeated, raw_attribute_decl as decl_of, is_declaring as declares, is_unbound_in as is_unbound}
-use Rattle.tree_text.specs.readers.Judging.{wrong_said, first_wrong, first_of_tag, counted_back, tag_fault}
+use Rattle.tree_text.specs.readers.TagNameFaults.{wrong_said, first_wrong, first_of_tag, counted_back, tag_fault}
 use Rattle.tree_text.specs.Names as names
 use Rattle.tree_text.specs.Pieces.{StartTag}
 use Rattle.tree_text.specs.readers.TagValues.{start_tag_of}
@@ -57,7 +57,7 @@ Declarations ds = AllByRecursion (λ d. IsTrue (is_declaration d)) ds
 decl_parts : (d : Decl) → IsTrue (is_declaration d) → (is_prefix d.prefix ≡ true) × (list_all is_char d.uri ≡ true) × (may_stand d ≡ true)
 decl_parts d h = three_true (is_prefix d.prefix) (list_all is_char d.uri) (may_stand d) h
 
-undeclared : (ds : List Decl) → Declarations ds → declared ds xmlns_prefix ≡ None
+undeclared : (ds : List Decl) → Declarations ds → declared_uri ds xmlns_prefix ≡ None
 undeclared [] h = refl
 undeclared (d ∷ ds) h =
     let m = (decl_parts d h.0).2 in
@@ -66,7 +66,7 @@ undeclared (d ∷ ds) h =
 
 -- no proper declaration binds `xmlns`
 pub still_unbound : (scope : List (List Decl)) (ds : List Decl) → bound scope xmlns_prefix ≡ None → Declarations ds → bound (scope ++ ds ∷ []) xmlns_prefix ≡ None
-still_unbound scope ds h k = bound-inner scope ds xmlns_prefix ∙ ap (λ (z : Option (List ℕ)). some_text (option_or z (declared (joined scope) xmlns_prefix))) (undeclared ds k) ∙ h
+still_unbound scope ds h k = bound-inner scope ds xmlns_prefix ∙ ap (λ (z : Option (List ℕ)). some_text (option_or z (declared_uri (joined scope) xmlns_prefix))) (undeclared ds k) ∙ h
 
 module _ (here : List (List Decl)) (unbound : bound here xmlns_prefix ≡ None) where
   no_xmlns : (n : Name) → IsNamed here n → n.prefix ≡ xmlns_prefix → ⊥

@@ -6,7 +6,7 @@ use Rattle.std.specs.List.{list_all}
 use Rattle.std.specs.Str.{chars, is_utf8}
 use Rattle.std.proofs.lemmas.Str.{chars-encodes, is_utf8-from_IsUtf8}
 use lib.Utf8.{scalars}
-use Rattle.xml_grammar.specs.Reading.{Stop, Syntax, Faulty, Reader}
+use Rattle.xml_grammar.specs.TextReading.{Stop, Syntax, Faulty, Reader}
 use Rattle.xml_grammar.specs.readers.Functions.{read_whole}
 use Rattle.xml_grammar.specs.Answers.{Answers, IsSpelled}
 use Rattle.xml_names.specs.Characters.{is_char, is_space, is_name_start}
@@ -21,7 +21,7 @@ use Rattle.xml_tokens.specs.declared.fault_kind.FaultKind.{FaultKind}
 use Rattle.tree_text.specs.Faults.{body_result, in_quotes, spelling_of, TextAnswer, BodyAnswer, text_result as told}
 use Rattle.tree_text.specs.Grammar.{document, spelling}
 use Rattle.tree_text.specs.FaultKinds.{faults}
-use Rattle.tree_text.specs.Printing.{body_escape, body_print}
+use Rattle.tree_text.specs.AttributeBodyPrints.{body_escape, body_print}
 use Rattle.xml_tokens.specs.readers.Tokens.{read_mark_if, read_declaration_if, read_spaces, read_dropped}
 use Rattle.tree_text.specs.readers.Texts.{misc_follows, read_prolog_misc, read_prolog, read_epilog, read_element, read_text, read_spelling}
 use Rattle.tree_text.specs.readers.Whole.{text_read, body_read}

@@ -4,7 +4,7 @@ use Rattle.std.specs.Prelude.{IfOk, IsTrue}
 use Rattle.std.specs.Str.{chars}
 use Rattle.xml_names.specs.Characters.{is_char, all_chars}
 use Rattle.xml_grammar.specs.Rules.{AllPass, Each, run, sequence, atomic}
-use Rattle.xml_grammar.specs.Reading.{Stop, Syntax, Faulty}
+use Rattle.xml_grammar.specs.TextReading.{Stop, Syntax, Faulty}
 use Rattle.xml_grammar.specs.Answers.{Answers}
 use Rattle.xml_grammar.proofs.Fronts.{pass_append}
 use Rattle.xml_tokens.specs.declared.fault_kind.FaultKind.{FaultKind}
@@ -16,7 +16,7 @@ use Rattle.xml_tokens.specs.Tokens.{is_raw, reference}
 use Rattle.tree_text.specs.Grammar.{spelling}
 use Rattle.tree_text.specs.Faults.{spelling_of, body_result, BodyAnswer}
 use Rattle.xml_names.specs.Memory.{Answered}
-use Rattle.xml_tokens.proofs.Passing.{pass_all}
+use Rattle.xml_tokens.proofs.CharacterTests.{pass_all}
 use Rattle.tree_text.proofs.ProperTags.{weaker, raw_char, lines_chars, blanks_chars, reference_char}
 
 raw_chars : (cs : List ℕ) → AllPass is_raw cs → AllPass is_char (raw cs)

@@ -4,10 +4,10 @@ use Rattle.std.proofs.lemmas.List.{append-nil}
 use Rattle.xml_names.specs.Characters.{is_char}
 use Rattle.xml_names.specs.Comments.{is_comment}
 use Rattle.xml_grammar.specs.Rules.{up_to}
-use Rattle.xml_grammar.specs.Reading.{Stop, Syntax, Faulty}
+use Rattle.xml_grammar.specs.TextReading.{Stop, Syntax, Faulty}
 use Rattle.xml_grammar.specs.readers.Functions.{read_up_to}
 use Rattle.xml_grammar.proofs.Exact.{Outcome, Exact}
-use Rattle.xml_grammar.proofs.Closed.{anything}
+use Rattle.xml_grammar.proofs.ClosedRules.{anything}
 use Rattle.xml_grammar.proofs.UpTo.{exact_up_to}
 use Rattle.xml_tokens.specs.readers.Words.{dashes}
 use Rattle.xml_tokens.specs.declared.fault_kind.FaultKind.{FaultKind}

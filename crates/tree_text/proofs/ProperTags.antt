@@ -5,7 +5,7 @@ use Rattle.std.specs.List.{list_all, list_any, AllByRecursion, IsDistinct, cons_
 use Rattle.std.specs.Str.{bytes_eq}
 use Rattle.xml_names.specs.Characters.{is_char, is_name_start, is_name_char, is_name}
 use Rattle.xml_names.specs.Scopes.{bound, xmlns_prefix}
-use Rattle.xml_names.specs.Expanded.{attr_name, same_expanded}
+use Rattle.xml_names.specs.ExpandedNames.{attr_name, same_expanded}
 use Rattle.xml_tree.specs.Proper.{is_prefix, may_stand, is_declaration, IsNamed, IsAttribute, IsTag}
 use Rattle.xml_names.specs.declared.names.Name.{Name}
 use Rattle.xml_names.specs.declared.names.Decl.{Decl}
@@ -22,7 +22,7 @@ use Rattle.tree_text.specs.Names.{said_attr, decls_of, attrs_of, is_misnamed, sa
 use Rattle.xml_tokens.specs.Tokens.{last_char, name, qname, reference, char_ref, entity, is_raw, is_raw_in, value}
 use Rattle.tree_text.specs.Grammar.{raw_attribute, start_tag}
 use Rattle.tree_text.proofs.JudgeTags.{widths_parts, tag_sizes}
-use Rattle.xml_tokens.proofs.Passing.{join, pass_all}
+use Rattle.xml_tokens.proofs.CharacterTests.{join, pass_all}
 
 or_right : (a b : Bool) → b ≡ true → a || b ≡ true
 or_right true b h = refl

@@ -8,7 +8,7 @@ use Rattle.xml_grammar.proofs.Exact.{Exact}
 use Rattle.xml_grammar.proofs.Carry.{exact_valued}
 use Rattle.xml_grammar.proofs.Heads.{starts_atomic}
 use Rattle.xml_grammar.proofs.Laws.{Lawful, lawful_run, lawful_atomic, lawful_valued, lawful_between}
-use Rattle.xml_grammar.proofs.Closed.{exact_atomic}
+use Rattle.xml_grammar.proofs.ClosedRules.{exact_atomic}
 use Rattle.xml_grammar.proofs.Tests.{exact_between_run_head}
 use Rattle.xml_grammar.proofs.Whole.{ends, heads_ends, answers_whole}
 use Rattle.xml_tokens.specs.declared.fault_kind.FaultKind.{FaultKind}

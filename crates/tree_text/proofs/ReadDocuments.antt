@@ -8,7 +8,7 @@ use Rattle.xml_tree.specs.Tree.{Tree}
 use Rattle.xml_names.specs.declared.names.Decl.{Decl}
 use Rattle.std.specs.Char.{is_ascii_digit as is_digit}
 use Rattle.xml_grammar.specs.Rules.{Begin, Rule, word, either, judged, trap, optional, keeping_first, keeping_second}
-use Rattle.xml_grammar.specs.Reading.{Reader, Stop, Syntax, head_is, starts, read_word}
+use Rattle.xml_grammar.specs.TextReading.{Reader, Stop, Syntax, head_is, starts, read_word}
 use Rattle.xml_grammar.specs.readers.Functions.{read_whole, read_behind, read_before}
 use Rattle.xml_grammar.specs.Answers.{Faults, Answers}
 use Rattle.xml_grammar.proofs.Exact.{Rest, ahead, IsStopped, Outcome, Exact}
@@ -19,12 +19,12 @@ use Rattle.xml_grammar.proofs.Repeats.{heads_many}
 use Rattle.xml_grammar.proofs.Fronts.{starts_is}
 use Rattle.xml_grammar.proofs.Laws.{Lawful, lawful_one, lawful_word, lawful_only, lawful_run, lawful_either, lawful_valued, lawful_judged, lawful_trap, lawful_optional, lawful_between, lawful_some_of, lawful_name_of, lawful_before, lawful_behind, lawful_quoted, Quiet, quiet_word, quiet_run, quiet_valued, quiet_either, quiet_optional, quiet_some_of, quiet_name_of, quiet_before, quiet_behind, quiet_quoted, Inside, inside_ahead}
 use Rattle.xml_grammar.proofs.Beginnings.{Fronted, fronted_one, fronted_word, fronted_up_to, fronted_either, fronted_valued, fronted_only, fronted_behind, fronted_name_of}
-use Rattle.xml_grammar.proofs.Closed.{anything, inside_anything, exact_closed}
+use Rattle.xml_grammar.proofs.ClosedRules.{anything, inside_anything, exact_closed}
 use Rattle.xml_grammar.proofs.Marks.{Judges, exact_judged, exact_trap, trap_covers}
 use Rattle.xml_grammar.proofs.Shapes.{exact_before, exact_behind, exact_optional, exact_some_of, exact_name_of, exact_quoted, exact_between, starts_behind, starts_some_of, starts_quoted, heads_behind, past_member, inside_past_member}
-use Rattle.xml_grammar.proofs.Led.{Led, led_then, led_valued, led_before, led_either, led_judged, led_trap, led_weaker, led_shorter, starts_led, led_covers, led_covers_rest, next_is, next_true, next_false, stopped_covers}
+use Rattle.xml_grammar.proofs.LedRules.{Led, led_then, led_valued, led_before, led_either, led_judged, led_trap, led_weaker, led_shorter, starts_led, led_covers, led_covers_rest, next_is, next_true, next_false, stopped_covers}
 use Rattle.xml_grammar.proofs.Tests.{passed_covers, failed_covers, exact_either_head, exact_optional_head, exact_either_next}
-use Rattle.xml_grammar.proofs.Spaced.{blank_some_of, Leads, leads_weaker, leads_behind, Spaced, spaced_run, spaced_behind, spaced_optional, exact_spaced_optional}
+use Rattle.xml_grammar.proofs.SpacedRules.{blank_some_of, Leads, leads_weaker, leads_behind, Spaced, spaced_run, spaced_behind, spaced_optional, exact_spaced_optional}
 use Rattle.xml_grammar.proofs.Whole.{ends, heads_ends, inside_ends, answers_whole}
 use Rattle.xml_tokens.specs.readers.Words.{instruction_start, instruction_end, declaration_start, one_dot, encoding, standalone, yes, not_alone, bang, doctype, byte_order_mark}
 use Rattle.xml_tokens.specs.declared.fault_kind.FaultKind.{FaultKind}

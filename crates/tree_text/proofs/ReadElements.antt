@@ -8,7 +8,7 @@ use Rattle.xml_tree.specs.Tree.{last, Tree}
 use Rattle.xml_names.specs.declared.names.Name.{Name}
 use Rattle.xml_names.specs.declared.names.Decl.{Decl}
 use Rattle.xml_grammar.specs.Rules.{Begin, Rule, word, sequence, valued, judged}
-use Rattle.xml_grammar.specs.Reading.{Reader, Stop, Syntax, ◌>>=◌, head_is, starts, read_word}
+use Rattle.xml_grammar.specs.TextReading.{Reader, Stop, Syntax, ◌>>=◌, head_is, starts, read_word}
 use Rattle.xml_grammar.specs.readers.Functions.{read_behind, read_never}
 use Rattle.xml_grammar.specs.Answers.{Faults}
 use Rattle.xml_grammar.proofs.Exact.{Rest, ahead, Outcome, Exact, exact_sequence}
@@ -18,10 +18,10 @@ use Rattle.xml_grammar.proofs.Heads.{Not, Heads, heads_starts, Starts, uses, sta
 use Rattle.xml_grammar.proofs.Repeats.{heads_many}
 use Rattle.xml_grammar.proofs.Greedy.{exact_run_without}
 use Rattle.xml_grammar.proofs.Laws.{Lawful, lawful_never, lawful_empty, lawful_word, lawful_run, lawful_run_without, lawful_sequence, lawful_either, lawful_valued, lawful_marked, lawful_judged, lawful_between, lawful_before, lawful_behind, inside_ahead}
-use Rattle.xml_grammar.proofs.Closed.{anything, inside_anything, exact_closed}
+use Rattle.xml_grammar.proofs.ClosedRules.{anything, inside_anything, exact_closed}
 use Rattle.xml_grammar.proofs.Marks.{exact_judged, Marks, exact_marked, exact_unmarked}
 use Rattle.xml_grammar.proofs.Shapes.{exact_before, exact_behind, exact_between, past_member, inside_past_member}
-use Rattle.xml_grammar.proofs.Led.{Past, Led, led_word, led_sequence, led_valued, led_behind, led_judged, led_marked, starts_led, led_covers, led_covers_rest, led_stopped, next_true, next_false, next_is}
+use Rattle.xml_grammar.proofs.LedRules.{Past, Led, led_word, led_sequence, led_valued, led_behind, led_judged, led_marked, starts_led, led_covers, led_covers_rest, led_stopped, next_true, next_false, next_is}
 use Rattle.xml_grammar.proofs.Tests.{failed_covers}
 use Rattle.xml_tokens.specs.readers.Words.{less, greater, end_start, ampersand, section_end}
 use Rattle.xml_tokens.specs.declared.fault_kind.FaultKind.{FaultKind}

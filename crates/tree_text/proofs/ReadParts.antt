@@ -14,11 +14,11 @@ use Rattle.xml_grammar.proofs.Heads.{Heads, heads_starts, heads_run, heads_optio
 use Rattle.xml_grammar.proofs.Greedy.{exact_run, exact_number}
 use Rattle.xml_grammar.proofs.Laws.{Lawful, lawful_word, lawful_run, lawful_number, lawful_sequence, lawful_either, lawful_many, lawful_valued, lawful_sized, lawful_optional, lawful_between, lawful_name_of, lawful_some_of, lawful_before, lawful_behind, lawful_quoted, Quiet, quiet_word, quiet_run, quiet_number, quiet_sequence, quiet_either, quiet_many, quiet_valued, quiet_sized, quiet_optional, quiet_between, quiet_name_of, quiet_some_of, quiet_before, quiet_behind, quiet_quoted, Inside, inside_ahead}
 use Rattle.xml_grammar.proofs.Repeats.{heads_many}
-use Rattle.xml_grammar.proofs.Closed.{anything, inside_anything, exact_closed}
+use Rattle.xml_grammar.proofs.ClosedRules.{anything, inside_anything, exact_closed}
 use Rattle.xml_grammar.proofs.Shapes.{exact_before, exact_behind, exact_name_of, exact_some_of, exact_quoted, starts_behind, starts_some_of, starts_name_of, starts_quoted, heads_before, heads_behind, inside_past_member}
-use Rattle.xml_grammar.proofs.Led.{Led, led_word, led_then, led_valued, led_sized}
+use Rattle.xml_grammar.proofs.LedRules.{Led, led_word, led_then, led_valued, led_sized}
 use Rattle.xml_grammar.proofs.Tests.{exact_either_head, exact_optional_head, exact_between_run_head, exact_either_next}
-use Rattle.xml_grammar.proofs.Spaced.{blank_some_of, Leads, leads_sequence, leads_valued, spaced_run, exact_spaced_many}
+use Rattle.xml_grammar.proofs.SpacedRules.{blank_some_of, Leads, leads_sequence, leads_valued, spaced_run, exact_spaced_many}
 use Rattle.xml_tokens.specs.readers.Words.{less, greater, empty_end, colon, ampersand, semicolon, hash, small_x, amp, lt, gt, quot, apos, equals_sign}
 use Rattle.xml_tokens.specs.declared.fault_kind.FaultKind.{FaultKind}
 use Rattle.xml_tokens.specs.Values.{qname_of, value_spelled as value_of}

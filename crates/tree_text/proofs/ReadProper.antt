@@ -2,7 +2,7 @@
 use Rattle.std.proofs.Common.{◌≡◌, ℕ, suc, ◌+◌, ◌≤◌, List, Result, Ok, Err, inl, inr, sym, subst, arith}
 use Rattle.std.specs.Prelude.{IfOk}
 use Rattle.std.specs.Str.{chars}
-use Rattle.xml_grammar.specs.Reading.{Stop}
+use Rattle.xml_grammar.specs.TextReading.{Stop}
 use Rattle.xml_grammar.specs.Answers.{Answers}
 use Rattle.xml_tree.specs.Tree.{Tree, height}
 use Rattle.xml_tree.specs.Proper.{ProperIn}
@@ -16,7 +16,7 @@ use Rattle.tree_text.specs.Grammar.{document}
 use Rattle.tree_text.specs.Faults.{TextAnswer, BodyAnswer, text_result as told}
 use Rattle.xml_names.specs.Memory.{Answered}
 use Rattle.tree_text.specs.readers.Whole.{text_read, body_read}
-use Rattle.xml_tokens.proofs.Answering.{answered_so}
+use Rattle.xml_tokens.proofs.MemoryAnswers.{answered_so}
 use Rattle.tree_text.proofs.ReadAnswers.{text_answer, body_answer}
 use Rattle.tree_text.proofs.ProperTrees.{document_proper}
 

@@ -5,7 +5,7 @@ use Rattle.std.proofs.lemmas.Bool.Decides.{nat_tests}
 use Rattle.xml_names.specs.Characters.{is_char, is_space, is_name_start, is_name_char}
 use Rattle.xml_tree.specs.Tree.{Tree}
 use Rattle.xml_grammar.specs.Rules.{Rule, AllPass, either, valued}
-use Rattle.xml_grammar.specs.Reading.{Reader, starts, read_valued}
+use Rattle.xml_grammar.specs.TextReading.{Reader, starts, read_valued}
 use Rattle.xml_grammar.specs.readers.Functions.{read_either}
 use Rattle.xml_grammar.specs.Answers.{Faults}
 use Rattle.xml_grammar.proofs.Exact.{ahead, Exact}
@@ -14,9 +14,9 @@ use Rattle.xml_grammar.proofs.Carry.{Covers, exact_valued, exact_either, covers_
 use Rattle.xml_grammar.proofs.Heads.{heads_starts, Starts, starts_one, starts_word, starts_either, starts_valued}
 use Rattle.xml_grammar.proofs.UpTo.{exact_up_to}
 use Rattle.xml_grammar.proofs.Laws.{Lawful, lawful_one, lawful_word, lawful_up_to, lawful_either, lawful_valued, lawful_only, lawful_name_of, lawful_before, lawful_behind}
-use Rattle.xml_grammar.proofs.Closed.{anything, heads_unless, exact_only}
+use Rattle.xml_grammar.proofs.ClosedRules.{anything, heads_unless, exact_only}
 use Rattle.xml_grammar.proofs.Shapes.{exact_before, exact_behind, exact_name_of, covered_first, starts_behind}
-use Rattle.xml_grammar.proofs.Led.{Led, led_word, led_valued, led_behind, led_either, led_weaker, led_shorter, starts_led, led_covers, next_true, next_is}
+use Rattle.xml_grammar.proofs.LedRules.{Led, led_word, led_valued, led_behind, led_either, led_weaker, led_shorter, starts_led, led_covers, next_true, next_is}
 use Rattle.xml_grammar.proofs.Tests.{exact_either_head, exact_either_next, next_covers, other_covers}
 use Rattle.xml_tokens.specs.readers.Words.{greater, comment_start, dashes, section_start, section_end, instruction_start, instruction_end, bang_bracket}
 use Rattle.xml_tokens.specs.declared.fault_kind.FaultKind.{FaultKind}

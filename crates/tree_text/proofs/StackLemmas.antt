@@ -9,7 +9,7 @@ use Rattle.std.proofs.lemmas.List.{length-append, length-map, map-append, take-m
 use Rattle.std.proofs.lemmas.Map.Text.{is_eq-slice_cmp}
 use Rattle.std.proofs.Math.Seq.{take-append_seam}
 use Rattle.xml_names.specs.declared.names.Decl.{Decl}
-use Rattle.xml_names.specs.Scopes.{bound, declared, joined, some_text, xml_prefix}
+use Rattle.xml_names.specs.Scopes.{bound, declared_uri, joined, some_text, xml_prefix}
 use Rattle.xml_names.proofs.ScopeLemmas.{option_or-none}
 use Rattle.tree_text.specs.readers.Bindings.{AreOf, at_text, number, numbers_at, stack, uris}
 use Rattle.tree_text.specs.declared.namespaces.Namespaces.{Namespaces}
@@ -112,27 +112,27 @@ last_of-map {B = B} f (x ∷ xs) = ap (λ (o : Option B). option_or o (Some (f x
     by None = refl
     by (Some z) = refl
 
-declared_last : (ds : List Decl) (p : List ℕ) → declared ds p ≡ last_of (uris ds p)
+declared_last : (ds : List Decl) (p : List ℕ) → declared_uri ds p ≡ last_of (uris ds p)
 declared_last [] p = refl
 declared_last (d ∷ ds) p = by (bytes_eq d.prefix p) (declared_last ds p)
   where
-    by : (b : Bool) → declared ds p ≡ last_of (uris ds p) → option_or (declared ds p) (cond b (Some d.uri) None) ≡ last_of (cond b (d.uri ∷ uris ds p) (uris ds p))
+    by : (b : Bool) → declared_uri ds p ≡ last_of (uris ds p) → option_or (declared_uri ds p) (cond b (Some d.uri) None) ≡ last_of (cond b (d.uri ∷ uris ds p) (uris ds p))
     by true is = ap (λ o. option_or o (Some d.uri)) is
-    by false is = option_or-none (declared ds p) ∙ is
+    by false is = option_or-none (declared_uri ds p) ∙ is
 
 module _ (s : Namespaces) (here : List (List Decl)) (are : AreOf s (joined here)) (p : List ℕ) where
   pub bound_xml : bytes_eq p xml_prefix ≡ true → Some (Some s.xml) ≡ option_map (number s) (bound here p)
   bound_xml is = rw is (ap Some (sym are.xml))
 
   module _ (plain : bytes_eq p xml_prefix ≡ false) (o : Option (Vec ℕ)) (found : o ≡ at_text s.declared p) where
-    nearest_number : (k : Option ℕ) → k ≡ last_in (numbers_in o) → option_map (number s) (declared (joined here) p) ≡ option_map Some k
+    nearest_number : (k : Option ℕ) → k ≡ last_in (numbers_in o) → option_map (number s) (declared_uri (joined here) p) ≡ option_map Some k
     nearest_number k is =
         ap (option_map (number s)) (declared_last (joined here) p) ∙ sym (last_of-map (number s) (uris (joined here) p)) ∙ ap last_of (are.declared p)
         ∙ last_of-map Some (stack s p) ∙ ap (option_map Some) (last_of-get (stack s p) ∙ ap (λ a. last_in (numbers_in a)) (sym found) ∙ sym is)
 
     -- there is no number
     pub bound_nowhere : None ≡ last_in (numbers_in o) → None ≡ option_map (number s) (bound here p)
-    bound_nowhere is = rw plain (by (declared (joined here) p) (nearest_number None is))
+    bound_nowhere is = rw plain (by (declared_uri (joined here) p) (nearest_number None is))
       where
         by : (u : Option (List ℕ)) → option_map (number s) u ≡ None → None ≡ option_map (number s) (some_text u)
         by None e = refl
@@ -140,7 +140,7 @@ module _ (s : Namespaces) (here : List (List Decl)) (are : AreOf s (joined here)
 
     -- the number is the number of the empty text
     pub bound_empty : (k : ℕ) → Some k ≡ last_in (numbers_in o) → k ≡ s.none → None ≡ option_map (number s) (bound here p)
-    bound_empty k is none = rw plain (by (declared (joined here) p) (nearest_number (Some k) is))
+    bound_empty k is none = rw plain (by (declared_uri (joined here) p) (nearest_number (Some k) is))
       where
         by : (u : Option (List ℕ)) → option_map (number s) u ≡ Some (Some k) → None ≡ option_map (number s) (some_text u)
         by None e = refl
@@ -150,7 +150,7 @@ module _ (s : Namespaces) (here : List (List Decl)) (are : AreOf s (joined here)
 
     -- it is the number of another text
     pub bound_to : (k : ℕ) → Some k ≡ last_in (numbers_in o) → k ≢ s.none → Some (Some k) ≡ option_map (number s) (bound here p)
-    bound_to k is other = rw plain (by (declared (joined here) p) (nearest_number (Some k) is))
+    bound_to k is other = rw plain (by (declared_uri (joined here) p) (nearest_number (Some k) is))
       where
         by : (u : Option (List ℕ)) → option_map (number s) u ≡ Some (Some k) → Some (Some k) ≡ option_map (number s) (some_text u)
         by None e = cc

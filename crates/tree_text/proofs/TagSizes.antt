@@ -1,8 +1,8 @@
 -- What was read of an attribute or a tag comes before what is left, so its size is known.
 use Rattle.std.proofs.Common.{◌≡◌, ℕ, suc, ◌+◌, ◌≤◌, List, length, length-append, Result, Ok, ap, subst, arith}
-use Rattle.xml_grammar.specs.Reading.{Stop}
+use Rattle.xml_grammar.specs.TextReading.{Stop}
 use Rattle.xml_grammar.proofs.Exact.{IsRead, Outcome}
-use Rattle.xml_grammar.proofs.Closed.{anything}
+use Rattle.xml_grammar.proofs.ClosedRules.{anything}
 use Rattle.xml_names.specs.declared.names.Name.{Name}
 use Rattle.xml_tokens.specs.declared.fault_kind.FaultKind.{FaultKind}
 use Rattle.tree_text.specs.FaultKinds.{faults}

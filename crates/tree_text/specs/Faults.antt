@@ -2,7 +2,7 @@
 -- byte. Running out of memory is none of these faults.
 use Rattle.std.specs.Prelude.{◌≡◌, ◌⊎◌, ℕ, ◌+◌, ◌-◌, ◌<◌, ◌==◌, List, [], ◌∷◌, Option, None, Some}
 use Rattle.std.specs.Prelude.{unwrap_or, Result, Ok, Err, IsUtf8, if◌then◌else◌, chars}
-use Rattle.xml_grammar.specs.Reading.{Stop, Syntax, Faulty, front_of, after_front}
+use Rattle.xml_grammar.specs.TextReading.{Stop, Syntax, Faulty, front_of, after_front}
 use Rattle.xml_grammar.specs.Answers.{Answers}
 use Rattle.xml_tree.specs.Tree.{Tree}
 use Rattle.xml_names.specs.declared.names.Decl.{Decl}

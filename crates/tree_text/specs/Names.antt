@@ -6,7 +6,7 @@ use Rattle.std.specs.Str.{bytes_eq}
 use Rattle.std.specs.List.{list_any}
 use Rattle.xml_tree.specs.Tree.{Content, Tree, tree_of}
 use Rattle.xml_names.specs.Scopes.{bound, xmlns_prefix}
-use Rattle.xml_names.specs.Expanded.{attr_name, same_expanded}
+use Rattle.xml_names.specs.ExpandedNames.{attr_name, same_expanded}
 use Rattle.xml_tree.specs.Proper.{may_stand}
 use Rattle.xml_names.specs.declared.names.Name.{Name}
 use Rattle.xml_names.specs.declared.names.Decl.{Decl}

@@ -2,9 +2,9 @@
 -- What reading a text returns is what the grammar says of its bytes (`TextAnswer`, `BodyAnswer`);
 -- the only public clauses that refer to this folder are clauses of laws.
 pub mod Bindings
-pub mod Judging
 pub mod Meanings
 pub mod Members
+pub mod TagNameFaults
 pub mod TagValues
 pub mod Texts
 pub mod Views

@@ -61,7 +61,7 @@ fn read_body_value(alloc: Global, text: &str) -> Result<(Text, &str), ParseError
 }
 
 /// The value that all of a spelling spells.
-fn all_spelled(alloc: Global, text: &str) -> Result<Text, ParseError<'_>>
+fn whole_spelling(alloc: Global, text: &str) -> Result<Text, ParseError<'_>>
     ensures grammar_answer { GivesAll result (read_whole read_spelling (chars text.now)) }
 {
     let (value, rest) = read_body_value(alloc, text)?;
@@ -148,7 +148,7 @@ fn read_body(alloc: Global, bytes: &[u8]) -> Result<Text, ReadError<ValueFault>>
         return Err(ReadError::Fault(ValueFault::NotUtf8));
     };
     let (part, behind) = spelling_of(text);
-    match all_spelled(alloc, part) {
+    match whole_spelling(alloc, part) {
         Ok(value) => Ok(value),
         Err(stop) => Err(error(bytes, stop, behind)),
     }

@@ -1,6 +1,6 @@
 //! The meanings of the names in a start tag, no two of which may be equal.
 ghost use Rattle.std.specs.Prelude.{◌≡◌, option_map, Some};
-ghost use Rattle.xml_names.specs.Expanded.{attr_name};
+ghost use Rattle.xml_names.specs.ExpandedNames.{attr_name};
 ghost use Rattle.tree_text.specs.readers.Bindings.{AreOpenNamespaces, lists, number};
 ghost use Rattle.tree_text.specs.readers.Meanings.{Means};
 

@@ -1,7 +1,7 @@
 //! Elements: their start tags, their content, and the elements in it, within a depth limit.
 ghost use Rattle.std.specs.Prelude.{◌≡◌, ◌==◌, ◌||◌, ◌+◌, ◌≤◌, ◌<◌, ◌++◌, true, [], ◌∷◌, chars};
 ghost use Rattle.std.specs.Prelude.{IfOk, OnOk, Ok, Err};
-ghost use Rattle.xml_grammar.specs.Reading.{Reader, head_is};
+ghost use Rattle.xml_grammar.specs.TextReading.{Reader, head_is};
 ghost use Rattle.xml_grammar.specs.readers.Functions.{judgement};
 ghost use Rattle.xml_tree.specs.Edits.{with_text};
 ghost use Rattle.xml_tree.specs.Tree.{Tree, last, tree_of};
@@ -11,7 +11,7 @@ ghost use Rattle.xml_tokens.specs.readers.Results.{Gives, Fails};
 ghost use Rattle.tree_text.specs.readers.Members.{read_chars_onto, read_onto, read_child};
 ghost use Rattle.tree_text.specs.readers.Members.{read_filled, read_filled_behind};
 ghost use Rattle.tree_text.specs.Names.{attrs_of};
-ghost use Rattle.tree_text.specs.readers.Judging.{counted_back, first_of_tag};
+ghost use Rattle.tree_text.specs.readers.TagNameFaults.{counted_back, first_of_tag};
 ghost use Rattle.xml_tokens.specs.readers.Runs.{ends_run};
 ghost use Rattle.tree_text.specs.readers.Texts.{markup_follows, other_follows, read_tag};
 ghost use Rattle.tree_text.specs.readers.Texts.{read_element};

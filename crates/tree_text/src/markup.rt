@@ -1,6 +1,6 @@
 //! Markup between runs of characters: comments, CDATA sections and processing instructions.
 ghost use Rattle.std.specs.Prelude.{◌≡◌, true, chars, IfOk, Ok};
-ghost use Rattle.xml_grammar.specs.Reading.{starts};
+ghost use Rattle.xml_grammar.specs.TextReading.{starts};
 ghost use Rattle.xml_names.specs.Characters.{is_space};
 ghost use Rattle.xml_names.specs.Comments.{is_comment};
 ghost use Rattle.xml_tokens.specs.readers.Results.{Gives};

@@ -8,7 +8,7 @@ ghost use Rattle.xml_tree.specs.Proper.{may_stand};
 ghost use Rattle.tree_text.specs.Names.{decls_of, is_misnamed, is_repeated, widths};
 ghost use Rattle.tree_text.specs.Names.{raw_attribute_decl, is_declaring, is_unbound_in};
 ghost use Rattle.xml_tokens.specs.Values.{written};
-ghost use Rattle.tree_text.specs.readers.Judging.{wrong_said, first_wrong, first_named};
+ghost use Rattle.tree_text.specs.readers.TagNameFaults.{wrong_said, first_wrong, first_named};
 ghost use Rattle.tree_text.specs.readers.Bindings.{AreOpenNamespaces, lists};
 ghost use Rattle.tree_text.specs.readers.Meanings.{Holds};
 ghost use Rattle.xml_tokens.specs.readers.TokenViews.{name_in};

@@ -6,7 +6,7 @@ ghost use Rattle.xml_names.specs.Markup.{quoted_text};
 ghost use Rattle.xml_tree.specs.Print.{ending, is_empty, print, print_content, header};
 ghost use Rattle.xml_tree.specs.Print.{document_print};
 ghost use Rattle.xml_tree.specs.inner.Print.{print_node};
-ghost use Rattle.tree_text.specs.Printing.{body_escape, body_print};
+ghost use Rattle.tree_text.specs.AttributeBodyPrints.{body_escape, body_print};
 
 use crate::escapes::{Place, push_escaped};
 use crate::names::is_nothing;

@@ -2,7 +2,7 @@
 ghost use Rattle.std.specs.Prelude.{◌≡◌, ◌++◌, ◌∷◌, true, [], chars, length, is_some, IfOk, IfSome};
 ghost use Rattle.std.specs.Prelude.{Ok};
 ghost use Rattle.std.specs.List.{list_all};
-ghost use Rattle.xml_grammar.specs.Reading.{after_front, read_valued};
+ghost use Rattle.xml_grammar.specs.TextReading.{after_front, read_valued};
 ghost use Rattle.xml_grammar.specs.readers.Functions.{read_quoted, read_sized};
 ghost use Rattle.xml_names.specs.Characters.{is_space};
 ghost use Rattle.xml_tokens.specs.readers.Results.{Gives};

@@ -8,7 +8,7 @@ use Rattle.usage_docs.specs.declared.validation_result.ValidationResult.{Validat
 use Rattle.usage_docs.specs.Validation.{HasFirstFault}
 use Rattle.usage_docs.specs.Keys.{attrs_pass}
 use Rattle.usage_docs.specs.Validity.{IsValidDocument, ValidInRow}
-use Rattle.usage_docs.proofs.Walking.{held_kept, keeps_held}
+use Rattle.usage_docs.proofs.ChildWalks.{held_kept, keeps_held}
 use Rattle.std.proofs.Math.Seq.{drop-cons}
 use Rattle.std.proofs.lemmas.Bool.{cases_lt, false≢true}
 use Rattle.std.proofs.lemmas.Option.{same_Some}

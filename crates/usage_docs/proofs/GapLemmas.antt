@@ -14,7 +14,7 @@ use Rattle.usage_docs.specs.readers.Walks.{Walks}
 use Rattle.usage_docs.specs.Gaps.{GapThere}
 use Rattle.usage_docs.specs.readers.Gaps.{part_of_child, part_before, part_after, FollowsBelow}
 use Rattle.usage_docs.proofs.BlankTexts.{passes_none}
-use Rattle.usage_docs.proofs.Walking.{walk_kept, kept_walked}
+use Rattle.usage_docs.proofs.ChildWalks.{walk_kept, kept_walked}
 
 -- ---- in a content
 

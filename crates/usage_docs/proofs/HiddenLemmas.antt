@@ -12,7 +12,7 @@ use Rattle.std.specs.Ordering.{is_lt, ordering_index, ordering_reverse}
 use Rattle.xml_tree.specs.Tree.{Tree, tree_of}
 use Rattle.xml_names.specs.Markup.{byte_len}
 use Rattle.xml_tree.specs.Print.{print}
-use Rattle.xml_names.specs.Scopes.{AreInOrder, bindings_in, declared}
+use Rattle.xml_names.specs.Scopes.{AreInOrder, bindings_in, declared_uri}
 use Rattle.xml_names.specs.declared.names.Decl.{Decl}
 use Rattle.xml_names.proofs.BindingLaws.{Behind}
 use Rattle.xml_names.proofs.ByteOrder.{order, order_same, order_equal}
@@ -28,7 +28,7 @@ most = 18446744073709551615
 -- ---- the hidden and the kept bindings are all bindings
 pub shared : (own bs : List Decl) → decls_len bs ≡ decls_len (hidden own bs) + decls_len (kept own bs)
 shared own [] = refl
-shared own (b ∷ bs) = by (declared own b.prefix) (shared own bs)
+shared own (b ∷ bs) = by (declared_uri own b.prefix) (shared own bs)
   where
     by : (o : Option (List ℕ)) → decls_len bs ≡ decls_len (hidden own bs) + decls_len (kept own bs)
         → decls_len (b ∷ bs) ≡ decls_len (cond (is_some o) (b ∷ hidden own bs) (hidden own bs)) + decls_len (cond (is_none o) (b ∷ kept own bs) (kept own bs))
@@ -45,10 +45,10 @@ module _ (xs : List Decl) (d : Decl) where
   abbrev all : List Decl
   all = xs ++ d ∷ []
 
-  pub declares_more : (p : List ℕ) → is_some (declared all p) ≡ cond (bytes_eq d.prefix p) true (is_some (declared xs p))
+  pub declares_more : (p : List ℕ) → is_some (declared_uri all p) ≡ cond (bytes_eq d.prefix p) true (is_some (declared_uri xs p))
   declares_more p = ap is_some (declared-append xs (d ∷ []) p) ∙ by (bytes_eq d.prefix p)
     where
-      by : (b : Bool) → is_some (option_or (option_or None (cond b (Some d.uri) None)) (declared xs p)) ≡ cond b true (is_some (declared xs p))
+      by : (b : Bool) → is_some (option_or (option_or None (cond b (Some d.uri) None)) (declared_uri xs p)) ≡ cond b true (is_some (declared_uri xs p))
       by true = refl
       by false = refl
 
@@ -59,12 +59,12 @@ module _ (xs : List Decl) (d : Decl) where
       ≡ decls_len (cond s (b ∷ hidden xs bs) (hidden xs bs)) + decls_len (cond e (b ∷ binding_of d.prefix bs) (binding_of d.prefix bs))
 
   -- for a prefix that isn't declared before
-  pub hides_more : is_some (declared xs d.prefix) ≡ false → (bs : List Decl) → decls_len (hidden all bs) ≡ decls_len (hidden xs bs) + decls_len (binding_of d.prefix bs)
+  pub hides_more : is_some (declared_uri xs d.prefix) ≡ false → (bs : List Decl) → decls_len (hidden all bs) ≡ decls_len (hidden xs bs) + decls_len (binding_of d.prefix bs)
   hides_more new [] = refl
   hides_more new (b ∷ bs) =
-      subst (λ (t : Bool). Adds b bs t (is_some (declared xs b.prefix)) (bytes_eq d.prefix b.prefix)) (sym (declares_more b.prefix))
-      (by (bytes_eq d.prefix b.prefix) (is_some (declared xs b.prefix))
-      (λ same. ap (λ (q : List ℕ). is_some (declared xs q)) (sym ((bytes_decides d.prefix b.prefix).0 same)) ∙ new)
+      subst (λ (t : Bool). Adds b bs t (is_some (declared_uri xs b.prefix)) (bytes_eq d.prefix b.prefix)) (sym (declares_more b.prefix))
+      (by (bytes_eq d.prefix b.prefix) (is_some (declared_uri xs b.prefix))
+      (λ same. ap (λ (q : List ℕ). is_some (declared_uri xs q)) (sym ((bytes_decides d.prefix b.prefix).0 same)) ∙ new)
       (hides_more new bs))
     where
       by : (e s : Bool) → (e ≡ true → s ≡ false) → decls_len (hidden all bs) ≡ decls_len (hidden xs bs) + decls_len (binding_of d.prefix bs) → Adds b bs (cond e true s) s e
@@ -74,15 +74,15 @@ module _ (xs : List Decl) (d : Decl) where
       by false false apart rest = rest
 
   -- for a prefix that is
-  pub hides_same : is_some (declared xs d.prefix) ≡ true → (bs : List Decl) → hidden all bs ≡ hidden xs bs
+  pub hides_same : is_some (declared_uri xs d.prefix) ≡ true → (bs : List Decl) → hidden all bs ≡ hidden xs bs
   hides_same seen [] = refl
   hides_same seen (b ∷ bs) =
       let first = declares_more b.prefix ∙ by (bytes_eq d.prefix b.prefix) refl in
       let rest = hides_same seen bs in
       λ i. cond (first i) (b ∷ rest i) (rest i)
     where
-      by : (e : Bool) → bytes_eq d.prefix b.prefix ≡ e → cond e true (is_some (declared xs b.prefix)) ≡ is_some (declared xs b.prefix)
-      by true same = sym (ap (λ (q : List ℕ). is_some (declared xs q)) (sym ((bytes_decides d.prefix b.prefix).0 same)) ∙ seen)
+      by : (e : Bool) → bytes_eq d.prefix b.prefix ≡ e → cond e true (is_some (declared_uri xs b.prefix)) ≡ is_some (declared_uri xs b.prefix)
+      by true same = sym (ap (λ (q : List ℕ). is_some (declared_uri xs q)) (sym ((bytes_decides d.prefix b.prefix).0 same)) ∙ seen)
       by false same = refl
 
 -- ---- the prefixes seen so far
@@ -97,7 +97,7 @@ lent p = record { ref_ptr = (0, 0); now = p }
 
 -- a set holds exactly the prefixes of these declarations
 abbrev pub HasSeen : List Decl → BTreeSet (Bor (List ℕ)) → Type 0
-HasSeen ds seen = (k : Bor (List ℕ)) → contains by_prefix seen k ≡ is_some (declared ds k.now)
+HasSeen ds seen = (k : Bor (List ℕ)) → contains by_prefix seen k ≡ is_some (declared_uri ds k.now)
 
 pub none_seen : (seen : BTreeSet (Bor (List ℕ))) → IsEmpty seen → HasSeen [] seen
 none_seen seen empty k = ap (list_any (is_at (by_prefix k))) empty

@@ -16,7 +16,7 @@ use Rattle.usage_docs.specs.readers.Siblings.{IsFirst}
 use Rattle.usage_docs.specs.Texts.{text_of}
 use Rattle.usage_docs.specs.Validity.{AllKeep, KeepsRow, IsValidDocument, children_of, text_passes}
 use Rattle.usage_docs.proofs.KindTests.{same_kind, same_kind_exact}
-use Rattle.usage_docs.proofs.Matching.{Chain, matched}
+use Rattle.usage_docs.proofs.ContentMatches.{Chain, matched}
 use Rattle.usage_docs.specs.declared.keys.Clash.{Clash}
 use Rattle.usage_docs.specs.declared.schema_table.Key.{Key}
 use Rattle.usage_docs.specs.declared.schema_table.ElementKind.{ElementKind}

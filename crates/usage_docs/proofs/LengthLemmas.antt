@@ -9,8 +9,8 @@ use Rattle.std.specs.Ordering.{match_ordering}
 use Rattle.xml_tree.specs.Tree.{Content, Tree, tree_of}
 use Rattle.xml_names.specs.Markup.{print_decl, opening, byte_len}
 use Rattle.xml_tree.specs.Print.{print, print_content, ending, is_empty}
-use Rattle.xml_names.specs.inner.Gathering.{gathered, gathered_bindings, placed}
-use Rattle.xml_names.specs.Scopes.{AreInOrder, binds, bindings_in, declared}
+use Rattle.xml_names.specs.inner.DeclarationMaps.{gathered, gathered_bindings, placed}
+use Rattle.xml_names.specs.Scopes.{AreInOrder, binds, bindings_in, declared_uri}
 use Rattle.xml_names.specs.declared.names.Attr.{Attr}
 use Rattle.xml_names.specs.declared.names.Decl.{Decl}
 use Rattle.xml_names.specs.declared.names.Name.{Name}
@@ -23,7 +23,7 @@ use Rattle.xml_names.proofs.PrintLengths.{byte_len-append, byte_len-opening}
 use Rattle.xml_names.proofs.ScopeLemmas.{drop_item, option_or-none}
 use Rattle.usage_docs.specs.SchemaTable.{Scope}
 use Rattle.usage_docs.specs.Services.{listed_as}
-use Rattle.usage_docs.specs.readers.Listing.{elems_len, listed_nodes}
+use Rattle.usage_docs.specs.readers.ServiceNodes.{elems_len, listed_nodes}
 use Rattle.usage_docs.specs.readers.Lengths.{decls_len}
 use Rattle.usage_docs.proofs.ListingLemmas.{listed_step}
 
@@ -69,7 +69,7 @@ with_decls n ds ats k =
 
 -- ---- the bindings whose prefixes declarations don't redeclare
 abbrev pub kept : List Decl → List Decl → List Decl
-kept own bs = filter (λ b. is_none (declared own b.prefix)) bs
+kept own bs = filter (λ b. is_none (declared_uri own b.prefix)) bs
 
 -- no declarations hide nothing
 all_kept : (bs : List Decl) → kept [] bs ≡ bs
@@ -84,7 +84,7 @@ left own g = decls_len (kept own (filter binds g))
 two : (own a b : List Decl) → left own (a ++ b) ≡ left own a + left own b
 two own a b =
     ap (λ (ds : List Decl). decls_len (kept own ds)) (filter-append binds a b)
-    ∙ ap decls_len (filter-append (λ (x : Decl). is_none (declared own x.prefix)) (filter binds a) (filter binds b)) ∙ decls_two (kept own (filter binds a)) (kept own (filter binds b))
+    ∙ ap decls_len (filter-append (λ (x : Decl). is_none (declared_uri own x.prefix)) (filter binds a) (filter binds b)) ∙ decls_two (kept own (filter binds a)) (kept own (filter binds b))
 
 -- one declaration, by whether others redeclare it
 module _ (x : Decl) where
@@ -104,8 +104,8 @@ module _ (x : Decl) where
 
 -- one more declaration of another prefix, and of the same prefix
 module _ (d : Decl) (ds : List Decl) where
-  tested : (x : Decl) (b : Bool) → bytes_eq d.prefix x.prefix ≡ b → is_none (declared (d ∷ ds) x.prefix) ≡ is_none (option_or (declared ds x.prefix) (cond b (Some d.uri) None))
-  tested x b e = ap (λ (t : Bool). is_none (option_or (declared ds x.prefix) (cond t (Some d.uri) None))) e
+  tested : (x : Decl) (b : Bool) → bytes_eq d.prefix x.prefix ≡ b → is_none (declared_uri (d ∷ ds) x.prefix) ≡ is_none (option_or (declared_uri ds x.prefix) (cond b (Some d.uri) None))
+  tested x b e = ap (λ (t : Bool). is_none (option_or (declared_uri ds x.prefix) (cond t (Some d.uri) None))) e
 
   hidden : (o : Option (List ℕ)) → is_none (option_or o (Some d.uri)) ≡ false
   hidden None = refl
@@ -113,10 +113,10 @@ module _ (d : Decl) (ds : List Decl) where
 
   other_left : (x : Decl) → bytes_eq d.prefix x.prefix ≡ false → left (d ∷ ds) (x ∷ []) ≡ left ds (x ∷ [])
   other_left x e =
-      same_test x (λ (y : Decl). is_none (declared (d ∷ ds) y.prefix)) (λ (y : Decl). is_none (declared ds y.prefix)) (tested x false e ∙ ap is_none (option_or-none (declared ds x.prefix)))
+      same_test x (λ (y : Decl). is_none (declared_uri (d ∷ ds) y.prefix)) (λ (y : Decl). is_none (declared_uri ds y.prefix)) (tested x false e ∙ ap is_none (option_or-none (declared_uri ds x.prefix)))
 
   none_left : (x : Decl) → bytes_eq d.prefix x.prefix ≡ true → left (d ∷ ds) (x ∷ []) ≡ 0
-  none_left x e = failed_test x (λ (y : Decl). is_none (declared (d ∷ ds) y.prefix)) (tested x true e ∙ hidden (declared ds x.prefix))
+  none_left x e = failed_test x (λ (y : Decl). is_none (declared_uri (d ∷ ds) y.prefix)) (tested x true e ∙ hidden (declared_uri ds x.prefix))
 
 pub unlike : (p q : List ℕ) → (order p q ≡ Equal → ⊥) → bytes_eq p q ≡ false
 unlike p q apart = by (bytes_eq p q) refl

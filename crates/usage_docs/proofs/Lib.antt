@@ -1,7 +1,9 @@
 pub mod Addresses
 pub mod BlankTexts
 pub mod CapabilitiesText
+pub mod ChildWalks
 pub mod ClashLemmas
+pub mod ContentMatches
 pub mod EarlierMarks
 pub mod FindingLemmas
 pub mod GapLemmas
@@ -11,7 +13,6 @@ pub mod KindOrder
 pub mod KindTests
 pub mod LengthLemmas
 pub mod ListingLemmas
-pub mod Matching
 pub mod Neighbours
 pub mod NodesFormed
 pub mod NodesValid
@@ -20,5 +21,4 @@ pub mod ScanLemmas
 pub mod Segments
 pub mod TextsRead
 pub mod UriLemmas
-pub mod Walking
 pub mod Words

@@ -13,7 +13,7 @@ use Rattle.usage_docs.specs.declared.service_index.IndexFault.TheVariants.{TooLa
 use Rattle.std.proofs.lemmas.Str.{length-le-encodes}
 use Rattle.std.proofs.lemmas.Bool.Decides.{nat_tests}
 use Rattle.usage_docs.specs.Services.{index_limit, RefusesServices, is_service, listed_as, index_name, index_decls, index_of, index_text, index_len}
-use Rattle.usage_docs.specs.readers.Listing.{listed_nodes, elems_len}
+use Rattle.usage_docs.specs.readers.ServiceNodes.{listed_nodes, elems_len}
 use Rattle.usage_docs.specs.inner.Indexes.{len_with}
 use Rattle.usage_docs.specs.readers.Siblings.{node_children}
 use Rattle.usage_docs.proofs.ClashLemmas.{kids_are}

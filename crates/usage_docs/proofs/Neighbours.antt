@@ -13,8 +13,8 @@ use Rattle.usage_docs.specs.Gaps.{last_of, child_before, child_behind, FitsGap, 
 use Rattle.usage_docs.specs.readers.Gaps.{part_before, part_after, FollowsGap, FollowsBelow}
 use Rattle.usage_docs.specs.readers.Parts.{part_in, part_of, follows, end}
 use Rattle.usage_docs.specs.readers.Walks.{Walks}
-use Rattle.usage_docs.proofs.Matching.{Chain, matched}
-use Rattle.usage_docs.proofs.Walking.{followed, walk_kept}
+use Rattle.usage_docs.proofs.ContentMatches.{Chain, matched}
+use Rattle.usage_docs.proofs.ChildWalks.{followed, walk_kept}
 use Rattle.usage_docs.proofs.GapLemmas.{insertion_by_parts, kid_valid, put_from}
 
 abbrev part_or : ElementKind → ℕ → Option Child → ℕ

@@ -11,7 +11,7 @@ use Rattle.usage_docs.specs.readers.Parts.{follows, end}
 use Rattle.usage_docs.specs.readers.Walks.{Walks, HoldsRow, IsNodeValid, part_behind}
 use Rattle.usage_docs.specs.Validity.{text_passes}
 use Rattle.usage_docs.proofs.BlankTexts.{passes_append, passes_none}
-use Rattle.usage_docs.proofs.Walking.{holds_walked}
+use Rattle.usage_docs.proofs.ChildWalks.{holds_walked}
 
 -- the nodes after a child of the part `before`
 abbrev pub ValidNodes : ElementKind → Scope → ℕ → List Node → Type 0

@@ -1,7 +1,7 @@
 -- The capabilities document. RFC 4825, section 12 (the usage xcap-caps).
 use Rattle.std.specs.Prelude.{ℕ, List, [], ◌∷◌, ◌++◌, codes, map}
 use Rattle.xml_tree.specs.Tree.{Content, last, Tree, tree_of, of_children}
-use Rattle.xml_names.specs.Expanded.{name_of}
+use Rattle.xml_names.specs.ExpandedNames.{name_of}
 use Rattle.xml_names.specs.Scopes.{decl_of}
 
 -- an element of this name and content, and nothing else

@@ -156,15 +156,15 @@ children_in (opt ys) = ys
 children_in (any ys) = ys
 
 -- the child kind that has this local name
-unfoldable pub child_named : ElementKind → List ℕ → Option ElementKind
-child_named row local =
+unfoldable pub child_kind : ElementKind → List ℕ → Option ElementKind
+child_kind row local =
     find (λ kind. bytes_eq local (local_name_of kind))
     (filter_map kind_in (flat_map children_in (items_in (content_model_of row))))
 
 -- the child kind by namespace and local name
 abbrev pub kind_by : ElementKind → List ℕ → List ℕ → Option ElementKind
 kind_by row space local =
-    if bytes_eq space (namespace_of_children row) then child_named row local else None
+    if bytes_eq space (namespace_of_children row) then child_kind row local else None
 
 -- the namespace is foreign: another one, and not none
 abbrev pub is_foreign : ElementKind → List ℕ → Bool

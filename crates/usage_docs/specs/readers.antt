@@ -5,9 +5,9 @@ pub mod AddressStates
 pub mod FirstFaults
 pub mod Gaps
 pub mod Lengths
-pub mod Listing
 pub mod Parts
 pub mod Repeats
+pub mod ServiceNodes
 pub mod Siblings
 pub mod Uris
 pub mod Walks

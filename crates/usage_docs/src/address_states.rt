@@ -45,10 +45,10 @@ fn is_white(trims: bool, letter: char) -> bool
 }
 
 // The next state, if the letter is the expected one.
-fn wanted(letter: char, wanted: char, next: AddressState) -> AddressState
-    ensures exact { result ≡ (if letter == wanted then next else Other) }
+fn advance(letter: char, expected: char, next: AddressState) -> AddressState
+    ensures exact { result ≡ (if letter == expected then next else Other) }
 {
-    if letter == wanted {
+    if letter == expected {
         next
     } else {
         AddressState::Other
@@ -61,15 +61,15 @@ fn address_after(trims: bool, address: AddressState, letter: char) -> AddressSta
 {
     match address {
         AddressState::Start if is_white(trims, letter) => AddressState::Start,
-        AddressState::Start => wanted(letter, 'h', AddressState::H),
-        AddressState::H => wanted(letter, 't', AddressState::Ht),
-        AddressState::Ht => wanted(letter, 't', AddressState::Htt),
-        AddressState::Htt => wanted(letter, 'p', AddressState::Http),
+        AddressState::Start => advance(letter, 'h', AddressState::H),
+        AddressState::H => advance(letter, 't', AddressState::Ht),
+        AddressState::Ht => advance(letter, 't', AddressState::Htt),
+        AddressState::Htt => advance(letter, 'p', AddressState::Http),
         AddressState::Http if letter == ':' => AddressState::Colon,
-        AddressState::Http => wanted(letter, 's', AddressState::Https),
-        AddressState::Https => wanted(letter, ':', AddressState::Colon),
-        AddressState::Colon => wanted(letter, '/', AddressState::Slash),
-        AddressState::Slash => wanted(letter, '/', AddressState::Whole),
+        AddressState::Http => advance(letter, 's', AddressState::Https),
+        AddressState::Https => advance(letter, ':', AddressState::Colon),
+        AddressState::Colon => advance(letter, '/', AddressState::Slash),
+        AddressState::Slash => advance(letter, '/', AddressState::Whole),
         AddressState::Whole if is_white(trims, letter) => AddressState::Whole,
         AddressState::Whole => AddressState::GoesOn,
         AddressState::GoesOn => AddressState::GoesOn,

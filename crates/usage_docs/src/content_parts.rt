@@ -1,7 +1,7 @@
 //! Children by numbers, checked from left to right (RFC 4826, sections 3.2 and 4.2).
 ghost use Rattle.std.specs.Prelude.{◌≡◌, chars, if◌then◌else◌};
 ghost use Rattle.usage_docs.specs.SchemaTable.{foreign, stray, is_foreign, kind_of};
-ghost use Rattle.usage_docs.specs.readers.Parts.{part_named, foreign_part, single_parts};
+ghost use Rattle.usage_docs.specs.readers.Parts.{part_of_kind, foreign_part, single_parts};
 ghost use Rattle.usage_docs.specs.readers.Parts.{needs_first, follows, part_in, part_of};
 
 use crate::schema_table::{ElementKind, element_namespace, is_foreign, kind_by};
@@ -9,9 +9,9 @@ use xml_names::Name;
 use xml_tree::LinkedScope;
 
 // The part of a child of some kind.
-#[tactic(auto, unfolding(crate::specs::readers::Parts::part_named))]
-fn part_named(row: ElementKind, kind: ElementKind) -> u8
-    ensures exact { result ≡ part_named row kind }
+#[tactic(auto, unfolding(crate::specs::readers::Parts::part_of_kind))]
+fn part_of_kind(row: ElementKind, kind: ElementKind) -> u8
+    ensures exact { result ≡ part_of_kind row kind }
 {
     match (row, kind) {
         (ElementKind::ResourceLists, ElementKind::EntryList) => 1,
@@ -102,7 +102,7 @@ pub(crate) fn place_of(row: ElementKind, scope: &LinkedScope<'_>, name: &Name) -
     let space = element_namespace(scope, name);
     match kind_by(row, space, &name.local) {
         Some(kind) => Placed {
-            part: part_named(row, kind),
+            part: part_of_kind(row, kind),
             kind: Some(kind),
         },
         None => Placed {

@@ -1,7 +1,7 @@
 //! Names, declarations and elements made of ASCII words.
 ghost use Rattle.std.specs.Prelude.{◌≡◌, ◌≤◌, IfOk, IsTrue};
 ghost use Rattle.xml_names.specs.Scopes.{decl_of};
-ghost use Rattle.xml_names.specs.Expanded.{name_of};
+ghost use Rattle.xml_names.specs.ExpandedNames.{name_of};
 ghost use Rattle.usage_docs.specs.Words.{is_ascii};
 
 use std::alloc::Global;

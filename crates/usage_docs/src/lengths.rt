@@ -5,7 +5,7 @@ ghost use Rattle.xml_tree.specs.Print.{print};
 ghost use Rattle.xml_names.specs.Scopes.{AreInOrder, bindings_in};
 ghost use Rattle.xml_tree.specs.declared.tree.Node.TheVariants.{Elem};
 ghost use Rattle.usage_docs.specs.Services.{service_elements, listed_as};
-ghost use Rattle.usage_docs.specs.readers.Listing.{elems_len, listed_nodes};
+ghost use Rattle.usage_docs.specs.readers.ServiceNodes.{elems_len, listed_nodes};
 ghost use Rattle.usage_docs.specs.readers.Lengths.{CountsFrom, binding_of, decls_len, hidden};
 
 use crate::service_index::{is_service, listed_as};

@@ -4,7 +4,7 @@ ghost use Rattle.usage_docs.specs.Words.{is_ascii};
 ghost use Rattle.std.specs.Str.{bytes_eq};
 ghost use Rattle.usage_docs.specs.declared.schema_table.ElementKind.TheVariants as ElementKind;
 ghost use Rattle.usage_docs.specs.SchemaTable.{lists_namespace, services_namespace, root_kind};
-ghost use Rattle.usage_docs.specs.SchemaTable.{local_name_of, namespace_of_children, child_named};
+ghost use Rattle.usage_docs.specs.SchemaTable.{local_name_of, namespace_of_children, child_kind};
 ghost use Rattle.usage_docs.specs.SchemaTable.{element_namespace, kind_by, is_foreign, kind_of};
 ghost use Rattle.usage_docs.specs.SchemaTable.{is_root};
 
@@ -117,9 +117,9 @@ fn own_namespace(row: ElementKind) -> &'static str
 }
 
 // The kind of a child in its parent's own namespace, by its local name.
-#[tactic(auto, unfolding(crate::specs::SchemaTable::child_named, crate::specs::SchemaTable::content_model_of, crate::specs::SchemaTable::local_name_of))]
-fn child_named(row: ElementKind, local: &LocalName) -> Option<ElementKind>
-    ensures exact { result ≡ child_named row local.now }
+#[tactic(auto, unfolding(crate::specs::SchemaTable::child_kind, crate::specs::SchemaTable::content_model_of, crate::specs::SchemaTable::local_name_of))]
+fn child_kind(row: ElementKind, local: &LocalName) -> Option<ElementKind>
+    ensures exact { result ≡ child_kind row local.now }
 {
     match row {
         ElementKind::ResourceLists => only(local, "list", ElementKind::EntryList),
@@ -147,9 +147,9 @@ fn only(local: &LocalName, word: &str, kind: ElementKind) -> Option<ElementKind>
 }
 
 // A child of a list.
-#[tactic(auto, unfolding(crate::specs::SchemaTable::child_named, crate::specs::SchemaTable::content_model_of, crate::specs::SchemaTable::local_name_of))]
+#[tactic(auto, unfolding(crate::specs::SchemaTable::child_kind, crate::specs::SchemaTable::content_model_of, crate::specs::SchemaTable::local_name_of))]
 fn child_of_list(local: &LocalName) -> Option<ElementKind>
-    ensures exact { result ≡ child_named ElementKind.EntryList local.now }
+    ensures exact { result ≡ child_kind ElementKind.EntryList local.now }
 {
     if is_word(local.as_str(), "display-name") {
         return Some(ElementKind::DisplayName);
@@ -167,9 +167,9 @@ fn child_of_list(local: &LocalName) -> Option<ElementKind>
 }
 
 // A child of a service.
-#[tactic(auto, unfolding(crate::specs::SchemaTable::child_named, crate::specs::SchemaTable::content_model_of, crate::specs::SchemaTable::local_name_of))]
+#[tactic(auto, unfolding(crate::specs::SchemaTable::child_kind, crate::specs::SchemaTable::content_model_of, crate::specs::SchemaTable::local_name_of))]
 fn child_of_service(local: &LocalName) -> Option<ElementKind>
-    ensures exact { result ≡ child_named ElementKind.Service local.now }
+    ensures exact { result ≡ child_kind ElementKind.Service local.now }
 {
     if is_word(local.as_str(), "resource-list") {
         return Some(ElementKind::ResourceList);
@@ -203,7 +203,7 @@ pub(crate) fn kind_by(row: ElementKind, space: &str, local: &LocalName) -> Optio
     ensures exact { result ≡ kind_by row (chars space.now) local.now }
 {
     if is_word(space, own_namespace(row)) {
-        child_named(row, local)
+        child_kind(row, local)
     } else {
         None
     }

@@ -2,7 +2,7 @@
 ghost use Rattle.std.specs.Prelude.{◌≡◌, ◌≤◌, ◌∷◌, [], ◌++◌, map, IfOk, IfErr, OnOk, OnErr};
 ghost use Rattle.xml_tree.specs.declared.tree.Node.TheVariants.{Elem};
 ghost use Rattle.usage_docs.specs.Services.{is_service, listed_as, service_elements, index_of};
-ghost use Rattle.usage_docs.specs.readers.Listing.{listed_nodes};
+ghost use Rattle.usage_docs.specs.readers.ServiceNodes.{listed_nodes};
 ghost use Rattle.usage_docs.specs.inner.Indexes.{len_with};
 
 use crate::element_maker::{declaration, name};

@@ -1,4 +1,4 @@
-pub mod Found
+pub mod AttributeLemmas
 pub mod Holdings
-pub mod Spelling
+pub mod LineBytes
 pub mod Turns

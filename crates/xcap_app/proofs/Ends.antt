@@ -1,6 +1,6 @@
 -- How a command ends, by what it did.
 use Rattle.std.proofs.Common.{◌≡◌, ℕ, List, [], Option, None, Some, Result, Ok, Err, ◌⊎◌, inl, inr, refl, sym, subst, arith, ⊎_elim}
-use Rattle.xcap_io.proofs.Passing.{gave_none}
+use Rattle.xcap_io.proofs.TrafficSums.{gave_none}
 use Rattle.tree_text.specs.Faults.{TextAnswer}
 use Rattle.xml_names.specs.Memory.{Answered}
 use Rattle.xml_names.specs.declared.read_error.ReadError.{ReadError}

@@ -1,11 +1,11 @@
 pub mod Documents
 pub mod Ends
-pub mod Keeping
+pub mod KeepEndings
 pub mod KnownConnections
 pub mod Pairs
 pub mod Real
 pub mod SampleRuns
 pub mod SampleSteps
-pub mod Serving
+pub mod ServeEndings
 pub mod StatusSteps
 pub mod Streams

@@ -7,7 +7,7 @@ use Rattle.xcap_machine.specs.SubscriberVersions.{FollowedStep}
 use Rattle.edit_ops.specs.declared.edit.Edit.{Edit}
 use Rattle.xcap_io.specs.Causes.{Aside, StreamState}
 use Rattle.xcap_io.specs.Pairs.{pair_state}
-use Rattle.xcap_io.proofs.Pairing.{Through, through}
+use Rattle.xcap_io.proofs.PairLemmas.{Through, through}
 use Rattle.http_serve.specs.Connections.{ServesStream}
 use Rattle.http_serve.specs.ReplyBytes.{InBytes}
 use Rattle.http_wire.specs.declared.close_reason.CloseReason.{CloseReason}

@@ -19,7 +19,7 @@ use Rattle.xcap_app.specs.StatusRecorders.{Noted, NotedStep, none_noted}
 use Rattle.xcap_app.specs.SampleRequests.{all_connections, connections_from, root_text}
 use Rattle.xcap_app.specs.Samples.{Samples, summary_of}
 use Rattle.xcap_app.specs.declared.sample_summary.Summary.{Summary}
-use Rattle.xcap_app.specs.inner.Counting.{AnswersNoting, NotingState, ServesThem, RepresentsRecorded, is_new}
+use Rattle.xcap_app.specs.inner.RecorderSteps.{AnswersNoting, NotingState, ServesThem, RepresentsRecorded, is_new}
 use Rattle.xcap_app.proofs.StatusSteps.{new_stands, noted_step}
 use Rattle.xcap_app.proofs.KnownConnections.{all_served}
 

@@ -7,7 +7,7 @@ use Rattle.store_core.proofs.KeptAfter.{kept-first}
 use Rattle.xcap_machine.specs.SubscriberVersions.{FollowedStep}
 use Rattle.xcap_app.specs.StatusRecorders.{Noted, NotedStep, none_noted}
 use Rattle.xcap_app.specs.SampleRequests.{root_text}
-use Rattle.xcap_app.specs.inner.Counting.{AnswersNoting, NotingState, RepresentsRecorded, is_new}
+use Rattle.xcap_app.specs.inner.RecorderSteps.{AnswersNoting, NotingState, RepresentsRecorded, is_new}
 
 -- one step
 pub noted_step : (root : List ℕ) (s s' : NotingState) (m : Noted) (request : Request) (bytes : List ℕ) (edit : Option Edit) → RepresentsRecorded root s m → InBytes AnswersNoting s request bytes s' edit

@@ -7,9 +7,9 @@ use Rattle.xcap_machine.specs.SubscriberVersions.{FollowedStep}
 use Rattle.edit_ops.specs.declared.edit.Edit.{Edit}
 use Rattle.xcap_io.specs.Histories.{Traffic}
 use Rattle.xcap_io.specs.StreamTraffic.{Gave, Took}
-use Rattle.http_wire.specs.Serving.{Serves}
+use Rattle.http_wire.specs.ServedConnections.{Serves}
 use Rattle.http_serve.specs.Endings.{FaultsBy}
-use Rattle.http_serve.specs.Fixed.{fixed}
+use Rattle.http_serve.specs.FixedReplies.{fixed_reply}
 use Rattle.http_serve.specs.ReplyBytes.{InBytes}
 use Rattle.http_wire.specs.declared.close_reason.CloseReason.{CloseReason}
 use Rattle.http_wire.specs.declared.close_reason.CloseReason.TheVariants.{Closed, ReadFailed}
@@ -36,7 +36,7 @@ module _ {W : Type 0} (Keeps : List Edit → W → W → Type 0) where
     pub gave : Gave old.input.inward new.input.inward passed.given
     pub found_end : passed.ended ≡ new.input.inward.ended
     pub took : Took old.output.taken new.output.taken passed.taken
-    pub serves : Serves (InBytes (FollowedStep root)) fixed ended before passed state edits
+    pub serves : Serves (InBytes (FollowedStep root)) fixed_reply ended before passed state edits
     pub told : Keeps edits old.watchers new.watchers
     pub faults : FaultsBy ended old.input.read_faults new.input.read_faults
         old.output.write_faults new.output.write_faults

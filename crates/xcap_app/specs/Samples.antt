@@ -3,8 +3,8 @@
 use Rattle.std.specs.Prelude.{◌≡◌, ℕ, ◌-◌, ◌==◌, true, List, ◌++◌, codes, decimal, length, map}
 use Rattle.std.specs.Prelude.{count_by, sum_by}
 use Rattle.xcap_io.specs.Histories.{Traffic}
-use Rattle.http_wire.specs.Serving.{ServesAll}
-use Rattle.http_serve.specs.Fixed.{fixed}
+use Rattle.http_wire.specs.ServedConnections.{ServesAll}
+use Rattle.http_serve.specs.FixedReplies.{fixed_reply}
 use Rattle.http_serve.specs.ReplyBytes.{InBytes}
 use Rattle.edit_ops.specs.declared.edit.Edit.{Edit}
 use Rattle.store_core.specs.Contents.{StoreContents, stock_of}
@@ -46,8 +46,8 @@ pub record Samples (requests : ℕ) (summary : Summary) : Type 0 where
   pub next : Noted
   pub edits : List Edit
   pub kept : IsValidState next.state
-  pub serves : ServesAll (InBytes (NotedStep root_text)) fixed none_noted connections next edits 0 0
-      0 0
+  pub serves : ServesAll (InBytes (NotedStep root_text)) fixed_reply none_noted connections
+      next edits 0 0 0 0
   pub sums : summary ≡ summary_of requests next.statuses (stock_of next.state)
 
 -- the lines about the replies, four

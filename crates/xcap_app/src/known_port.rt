@@ -41,14 +41,14 @@ impl Source for KnownPort {
         let count = buf.len().min(present.len() - self.given);
         buf[..count].copy_from_slice(&present[self.given..self.given + count]);
         self.given += count;
-        self.log.gave(&buf[..count]);
+        self.log.record_read(&buf[..count]);
         Ok(count)
     }
 }
 
 impl Sink for KnownPort {
     fn write(&mut self, piece: &[u8]) -> Result<usize, Failed> {
-        self.log.took(piece);
+        self.log.record_write(piece);
         Ok(piece.len())
     }
 }

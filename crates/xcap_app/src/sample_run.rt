@@ -4,7 +4,7 @@ ghost use Rattle.http_wire.specs.Limits.{max_requests};
 ghost use Rattle.xcap_app.specs.StatusRecorders.{Noted};
 ghost use Rattle.xcap_app.specs.SampleRequests.{all_connections};
 ghost use Rattle.xcap_app.specs.Samples.{Samples};
-ghost use Rattle.xcap_app.specs.inner.Counting.{HasRoomFor, ServesThem, RepresentsRecorded};
+ghost use Rattle.xcap_app.specs.inner.RecorderSteps.{HasRoomFor, ServesThem, RepresentsRecorded};
 
 use crate::known_port::KnownPort;
 use crate::sample_connections::connections;

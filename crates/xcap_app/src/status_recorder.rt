@@ -2,7 +2,7 @@
 ghost use Rattle.std.specs.Prelude.{◌≡◌, ◌≤◌, ◌<◌, [], ◌∷◌, ◌++◌, length, count_by, ◌==◌, IfOk};
 ghost use Rattle.xcap_app.specs.SampleRequests.{root_text};
 ghost use Rattle.xcap_app.specs.Samples.{summary_of};
-ghost use Rattle.xcap_app.specs.inner.Counting.{is_new};
+ghost use Rattle.xcap_app.specs.inner.RecorderSteps.{is_new};
 
 use crate::sample_summary::Summary;
 use edit_ops::Edit;
@@ -23,7 +23,7 @@ pub(crate) struct StatusRecorder {
 
 impl Model for StatusRecorder {
     ghost use Rattle.std.specs.Prelude.{◌≤◌, length, take};
-    ghost use Rattle.xcap_app.specs.inner.Counting.{NotingState};
+    ghost use Rattle.xcap_app.specs.inner.RecorderSteps.{NotingState};
     ghost use Rattle.std.specs.Coded.{codes};
     ghost use Rattle.xml_tree.specs.inner.Codes.{tree_code};
     ghost use Rattle.doc_names.specs.contracts.doc_id.DocId as d;
@@ -105,7 +105,7 @@ impl StatusRecorder {
 }
 
 impl Machine for StatusRecorder {
-    ghost use Rattle.xcap_app.specs.inner.Counting.{AnswersNoting, HasRoomFor, has_fewer};
+    ghost use Rattle.xcap_app.specs.inner.RecorderSteps.{AnswersNoting, HasRoomFor, has_fewer};
 
     type Edit = Edit;
 

@@ -4,7 +4,7 @@ use Rattle.std.proofs.lemmas.Bool.{lt-ltb, le-ltb}
 use Rattle.std.proofs.lemmas.List.{take-append-le}
 use Rattle.xcap_io.specs.Causes.{InputState}
 use Rattle.xcap_io.specs.StreamTraffic.{IsEnded}
-use Rattle.xcap_io.proofs.Passing.{gave_none}
+use Rattle.xcap_io.proofs.TrafficSums.{gave_none}
 use Rattle.http_wire.specs.inner.ReadBuffer.{Gains}
 use Rattle.xcap_client.specs.declared.response_fault.ResponseFault.{ResponseFault}
 use Rattle.xcap_client.specs.declared.response_fault.ResponseFault.TheVariants.{TooLong, Short}

@@ -11,7 +11,7 @@ use Rattle.xcap_client.specs.declared.fault.ClientFault.TheVariants.{BadResponse
 use Rattle.xcap_client.specs.Exchanges.{Exchanges, answer_to, not_begun, not_connected, not_sent, answered}
 use Rattle.xcap_client.specs.Calls.{Calls, Judges, JudgesAll, succeeds, refuses, lacks_memory}
 use Rattle.xcap_client.specs.Connections.{PeerFailed}
-use Rattle.xcap_client.proofs.Passed.{fault_stays}
+use Rattle.xcap_client.proofs.CallTraffic.{fault_stays}
 
 -- the result is the fault of the response, which is another one
 abbrev answered_as : ClientFault → Result Response ClientFault

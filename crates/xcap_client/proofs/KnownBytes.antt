@@ -7,7 +7,7 @@ use Rattle.xcap_client.specs.declared.response_fault.ResponseFault.{ResponseFaul
 use Rattle.xcap_client.specs.declared.response.Response.{Response}
 use Rattle.xcap_client.specs.Stops.{ByCause}
 use Rattle.xcap_client.specs.Responses.{AnswersRead, IsDecided, DecidesNothing, SaysResponse}
-use Rattle.xcap_client.proofs.Answering.{by_cause}
+use Rattle.xcap_client.proofs.CallResults.{by_cause}
 
 -- the bytes left after those that were read
 left_behind : (left : Option (List ℕ)) (bytes read : List ℕ) → Consumes (Some bytes) left read → (more : List ℕ) × (left ≡ Some more) × (bytes ≡ read ++ more)

@@ -12,7 +12,7 @@ use Rattle.xcap_client.specs.Heads.{BeginsWithHead}
 use Rattle.xcap_client.specs.Tags.{GivesTag, IsTagWith, TagIs}
 use Rattle.xcap_client.specs.BodyLengths.{body_to}
 use Rattle.xcap_client.specs.Responses.{extent_of, response_of, SaysResponse, no_head, refused, responds}
-use Rattle.xcap_client.proofs.Quoting.{one_value}
+use Rattle.xcap_client.proofs.QuoteLemmas.{one_value}
 
 abbrev first_of_text : List ℕ → ℕ
 first_of_text [] = 0

@@ -4,7 +4,7 @@ use Rattle.std.specs.Prelude.{◌≡◌, ℕ, Bool, List, [], ◌∷◌, Option,
 use Rattle.std.specs.Prelude.{codes, option_map, slice_get, if◌then◌else◌}
 use Rattle.xml_names.specs.Limits.{max_levels}
 use Rattle.xml_tree.specs.Tree.{Tree, child_elements_of}
-use Rattle.xml_names.specs.Expanded.{element_name, same_expanded}
+use Rattle.xml_names.specs.ExpandedNames.{element_name, same_expanded}
 use Rattle.tree_text.specs.declared.fault.TextFault.{TextFault}
 use Rattle.tree_text.specs.Faults.{TextAnswer}
 

@@ -1,7 +1,7 @@
-pub mod Gathering
+pub mod FlatDocuments
+pub mod FlatReplies
 pub mod Heights
 pub mod HeldOnes
-pub mod Leading
+pub mod IndexResources
+pub mod IndexSteps
 pub mod Lengths
-pub mod Sending
-pub mod Showing

@@ -42,7 +42,7 @@ fn document_reply(
 }
 
 // The reply to a GET or HEAD of any document, which is printed here.
-fn get_printed(
+fn get_and_print(
     alloc: Global,
     store: &Store,
     doc: &DocId,
@@ -143,6 +143,6 @@ pub fn get_document(
 {
     match stored_tag(store, doc) {
         Some(tag) => stored_reply(alloc, store, doc, tag, method, request),
-        None => get_printed(alloc, store, doc, method, request),
+        None => get_and_print(alloc, store, doc, method, request),
     }
 }

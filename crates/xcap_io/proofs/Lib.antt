@@ -1,6 +1,6 @@
-pub mod Adding
-pub mod Beginning
+pub mod BufferPieces
+pub mod ConnectionStarts
 pub mod Lines
-pub mod Pairing
-pub mod Passing
+pub mod PairLemmas
 pub mod Steps
+pub mod TrafficSums

@@ -3,7 +3,7 @@ use Rattle.std.proofs.Common.{◌≡◌, ℕ, ◌+◌, ◌-◌, ◌<◌, ◌≤�
 use Rattle.std.proofs.lemmas.Bool.Decides.{nat_tests}
 use Rattle.std.proofs.lemmas.List.{length-take-le, take_at, take-append-le, drop-drop, drop_all}
 use Rattle.xcap_io.specs.StreamTraffic.{Took}
-use Rattle.xcap_io.proofs.Passing.{took_on}
+use Rattle.xcap_io.proofs.TrafficSums.{took_on}
 use Rattle.std.proofs.Math.Seq.{take-add}
 use Rattle.xcap_io.specs.Streams.{TookProperPrefix}
 

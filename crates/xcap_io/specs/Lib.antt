@@ -1,7 +1,6 @@
 pub mod Adds
 pub mod Causes
 pub mod Connections
-pub mod Echoes
 pub mod Histories
 pub mod Memory
 pub mod Pairs

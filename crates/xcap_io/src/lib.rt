@@ -9,7 +9,6 @@
 
 mod address_history;
 mod bytes;
-mod echo;
 mod io_pair;
 mod mem_peer;
 mod mem_port;
@@ -25,7 +24,6 @@ mod writing;
 
 pub use address_history::AddressHistory;
 pub use bytes::Bytes;
-pub use echo::echo_once;
 pub use io_pair::IoPair;
 pub use mem_peer::MemPeer;
 pub use mem_port::MemPort;

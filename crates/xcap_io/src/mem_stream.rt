@@ -135,7 +135,7 @@ impl Source for MemStream {
         let count = most.min(self.input.len() - self.given);
         buf[..count].copy_from_slice(&self.input[self.given..self.given + count]);
         self.given += count;
-        self.log.gave(&buf[..count]);
+        self.log.record_read(&buf[..count]);
         Ok(count)
     }
 }

@@ -72,7 +72,7 @@ impl<R: Read> Source for StdSource<R> {
     {
         match self.reader.read(buf) {
             Ok(count) => {
-                self.log.gave(&buf[..count]);
+                self.log.record_read(&buf[..count]);
                 Ok(count)
             }
             Err(_) => Err(fault(&mut self.faults)),
@@ -137,7 +137,7 @@ impl<W: Write> Sink for StdSink<W> {
     {
         match self.writer.write(piece) {
             Ok(count) if count > 0 => {
-                self.log.took(&piece[..count]);
+                self.log.record_write(&piece[..count]);
                 Ok(count)
             }
             _ => Err(fault(&mut self.faults)),

@@ -109,7 +109,7 @@ pub(crate) fn read_from<S: Read>(
     match stream {
         Some(stream) => match stream.read(buf) {
             Ok(count) => {
-                log.gave(&buf[..count]);
+                log.record_read(&buf[..count]);
                 Ok(count)
             }
             Err(_) => Err(fault(faults)),
@@ -137,7 +137,7 @@ pub(crate) fn write_to<S: Write>(
     match stream {
         Some(stream) => match stream.write(piece) {
             Ok(count) if count > 0 => {
-                log.took(&piece[..count]);
+                log.record_write(&piece[..count]);
                 Ok(count)
             }
             _ => Err(fault(faults)),

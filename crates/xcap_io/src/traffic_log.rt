@@ -26,13 +26,13 @@ impl TrafficLog {
         TrafficLog {}
     }
 
-    /// A read gave these bytes; no bytes mean the end of the input.
-    pub fn gave(&mut self, _bytes: &[u8])
+    /// Records a read that gave these bytes; no bytes mean the end of the input.
+    pub fn record_read(&mut self, _bytes: &[u8])
         ensures given_is_logged { self.new.history ≡ with_given self.old.history _bytes.now }
     {}
 
-    /// A write handed over these bytes.
-    pub fn took(&mut self, _bytes: &[u8])
+    /// Records a write of these bytes.
+    pub fn record_write(&mut self, _bytes: &[u8])
         ensures taken_is_logged { self.new.history ≡ with_taken self.old.history _bytes.now }
     {}
 

@@ -68,7 +68,7 @@ impl WriteBuffer {
 
 /// Writes the buffered bytes to the sink. After `Ok` the buffer is empty; after `Failed` a proper
 /// prefix of them was taken.
-#[tactic(auto, using(crate::proofs::Adding::adding))]
+#[tactic(auto, using(crate::proofs::BufferPieces::adding))]
 pub fn flush<S: Sink>(sink: &mut S, write_buffer: &mut WriteBuffer) -> Result<(), Failed>
     ensures flushes_in_order { Adds (S.state sink.old) write_buffer.old
         (S.state sink.new) write_buffer.new result [] }
@@ -81,7 +81,7 @@ pub fn flush<S: Sink>(sink: &mut S, write_buffer: &mut WriteBuffer) -> Result<()
 
 /// Buffers the piece, after writing out the buffered bytes where both do not fit. After `Failed` a
 /// proper prefix of the buffered bytes and the piece was taken.
-#[tactic(auto, using(crate::proofs::Adding::adding))]
+#[tactic(auto, using(crate::proofs::BufferPieces::adding))]
 pub fn put<S: Sink>(
     sink: &mut S,
     write_buffer: &mut WriteBuffer,

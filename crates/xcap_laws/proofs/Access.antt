@@ -14,7 +14,7 @@ use Rattle.xcap_machine.specs.Laws.{ChangesNothing}
 use Rattle.xcap_machine.specs.Machine.{Step, after_answer, answer_as, told_as}
 use Rattle.xcap_machine.specs.Requests.{ByMethod, IsAnswer, auid_of, home_of, is_read_only, takes}
 use Rattle.xcap_machine.specs.inner.Records.{server_of}
-use Rattle.xcap_machine.proofs.Accepted.{by_target}
+use Rattle.xcap_machine.proofs.AcceptedRequests.{by_target}
 use Rattle.xcap_laws.specs.Access.{IsForbidden, forbidden_reply}
 
 refused_by : (taken allowed : Bool) (P : Type 0) (a : Answer) (forbidden untaken : SentReply) → allowed ≡ false

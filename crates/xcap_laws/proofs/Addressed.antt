@@ -17,7 +17,7 @@ use Rattle.xcap_machine.specs.Laws.{tells_change}
 use Rattle.xcap_machine.specs.Machine.{Does, answer_as, told_as}
 use Rattle.xcap_machine.specs.NodeWrites.{cut_reply, is_there}
 use Rattle.xcap_machine.specs.Resources.{version_of}
-use Rattle.xcap_machine.proofs.Accepted.{Accepts, NodePut, accepted, by_target, delete_enters, document_deleted, document_put, node_deleted, node_put, of_element, of_value, put_enters, stopped_never, store_made}
+use Rattle.xcap_machine.proofs.AcceptedRequests.{Accepts, NodePut, accepted, by_target, delete_enters, document_deleted, document_put, node_deleted, node_put, of_element, of_value, put_enters, stopped_never, store_made}
 use Rattle.xcap_machine.proofs.Ways.{Way, changes, stays, way_of}
 use Rattle.xcap_laws.specs.AddressedDocuments.{IsTargetIn}
 

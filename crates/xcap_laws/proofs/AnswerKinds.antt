@@ -50,7 +50,7 @@ use Rattle.usage_docs.specs.declared.validation.Fault.{Fault}
 use Rattle.xcap_laws.proofs.FreshTags.{answered_note, note_number}
 use Rattle.xcap_laws.specs.Unmodified.{document_of, not_modified}
 use Rattle.xcap_machine.proofs.Cases.{either}
-use Rattle.xcap_machine.proofs.Changed.{as_the_store, told_by_store}
+use Rattle.xcap_machine.proofs.ChangeAnswers.{as_the_store, told_by_store}
 use Rattle.xcap_machine.specs.Answers.{Answer, BehindConditions, Made, conflict, found, not_allowed, unchanged}
 use Rattle.xcap_machine.specs.DocumentWrites.{IfStored, PutsBody, PutsDocument, PutsSpelled, change_answer, clash_field, deleted_reply, fault_conflict, put_answer, put_change, put_reply, refusal_reply, text_conflict}
 use Rattle.xcap_machine.specs.ElementFeeds.{TellsElement}

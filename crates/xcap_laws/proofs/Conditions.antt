@@ -41,8 +41,8 @@ use Rattle.store_core.specs.Queries.{Asks}
 use Rattle.store_core.specs.declared.refusal.StoreRefusal.{StoreRefusal}
 use Rattle.store_core.specs.declared.refusal.StoreRefusal.TheVariants.{NoNumber}
 use Rattle.xcap_laws.specs.Tags.{IfMatchSays, IfNoneMatchSays}
-use Rattle.xcap_machine.proofs.Accepted.{NodePut, accepted, by_target, delete_enters, document_deleted, document_put, node_deleted, node_put, of_element, of_value, put_enters, stopped_never, store_made}
-use Rattle.xcap_machine.proofs.Changed.{as_the_store, told_by_store}
+use Rattle.xcap_machine.proofs.AcceptedRequests.{NodePut, accepted, by_target, delete_enters, document_deleted, document_put, node_deleted, node_put, of_element, of_value, put_enters, stopped_never, store_made}
+use Rattle.xcap_machine.proofs.ChangeAnswers.{as_the_store, told_by_store}
 use Rattle.xcap_machine.proofs.Steps.{made_change}
 use Rattle.xcap_machine.proofs.Ways.{Way, changes, stays, way_of}
 use Rattle.xcap_machine.specs.Answers.{Answer, BehindConditions, Made, unchanged}

@@ -22,7 +22,7 @@ use Rattle.request_checks.specs.Methods.{is_reading, method_of}
 use Rattle.request_checks.specs.Rights.{is_allowed, is_fixed_usage, is_user}
 use Rattle.request_checks.specs.declared.method.Method.{Method}
 use Rattle.request_checks.specs.declared.method.Method.TheVariants.{Get, Head, Put, Delete, Other}
-use Rattle.list_resolve.specs.Flat.{IsFlatList, flat_of, service_of}
+use Rattle.list_resolve.specs.FlatLists.{IsFlatList, flat_of, service_of}
 use Rattle.list_resolve.specs.Resolution.{AreLeads, ResolutionContext, ResolvedReference, is_own, lead_at, lead_of, tree_held}
 use Rattle.list_resolve.specs.ScopedElements.{ScopedElement}
 use Rattle.list_resolve.specs.Walks.{walk}
@@ -44,7 +44,7 @@ use Rattle.xcap_machine.specs.Requests.{ByMethod, ByTarget, ByUser, IsAnswer, Re
 use Rattle.xcap_machine.specs.Resources.{LeadsFrom, LeadsUnderGlobal, Resource, absent, beyond_limit, there}
 use Rattle.xcap_machine.specs.inner.Cases.{IsAnswered}
 use Rattle.xcap_machine.specs.inner.Records.{element_query, feed_query, read_by, server_of}
-use Rattle.xcap_machine.proofs.Accepted.{by_target}
+use Rattle.xcap_machine.proofs.AcceptedRequests.{by_target}
 use Rattle.xcap_machine.proofs.OneAnswer.{one_answer}
 use Rattle.xcap_laws.specs.Access.{AreAlikeUnder, ComesFromNoOther, GlobalAlike, documents_under}
 use Rattle.xcap_laws.proofs.Access.{forbidden_alike}

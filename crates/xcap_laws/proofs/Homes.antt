@@ -37,7 +37,7 @@ use Rattle.xcap_machine.specs.Requests.{Deletes, IsAnswer, Puts, auid_of, home_o
 use Rattle.xcap_machine.specs.Resources.{version_of}
 use Rattle.xcap_machine.specs.inner.Cases.{IsAnswered}
 use Rattle.xcap_machine.specs.inner.Records.{server_of}
-use Rattle.xcap_machine.proofs.Accepted.{NodePut, by_target, delete_enters, document_deleted, document_put, node_deleted, node_put, of_element, of_value, put_enters, stopped_never, store_made}
+use Rattle.xcap_machine.proofs.AcceptedRequests.{NodePut, by_target, delete_enters, document_deleted, document_put, node_deleted, node_put, of_element, of_value, put_enters, stopped_never, store_made}
 use Rattle.xcap_machine.proofs.Ways.{Way, changes, stays, way_of}
 use Rattle.xcap_laws.specs.Access.{ChangesOwnHome, documents_elsewhere}
 

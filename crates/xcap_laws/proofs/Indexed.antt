@@ -24,7 +24,7 @@ use Rattle.store_core.specs.Contents.{StoredDocument, stock_of, stored_of}
 use Rattle.store_core.specs.Indexes.{index, indexed, indexed_by}
 use Rattle.store_core.specs.State.{Document, State}
 use Rattle.store_core.specs.ValidStates.{AreDistinct, IsValidState, addresses, addresses_in}
-use Rattle.store_core.proofs.Apart.{apart-cut, apart-middle, each-append, each-left, each-right, each-weaker}
+use Rattle.store_core.proofs.DistinctItems.{apart-cut, apart-middle, each-append, each-left, each-right, each-weaker}
 use Rattle.store_core.proofs.ByUser.{index_trees, one-index-trees, some-index-trees}
 use Rattle.store_core.proofs.InOrder.{Pair, cmp, each-in-order, in_order, placed, put}
 use Rattle.store_core.proofs.Services.{apart-mix}

@@ -11,7 +11,7 @@ use Rattle.doc_names.specs.Equality.{same_id}
 use Rattle.doc_names.specs.declared.doc_id.DocId.{DocId}
 use Rattle.edit_ops.specs.Notes.{Note}
 use Rattle.edit_ops.specs.Operations.{weight}
-use Rattle.element_watch.specs.Finding.{notes_behind}
+use Rattle.element_watch.specs.SelectionHistory.{notes_behind}
 use Rattle.store_core.specs.Contents.{Represents, StoreContents, stored_of}
 use Rattle.store_core.specs.DocumentChanges.{document_in, document_name, stored_name}
 use Rattle.store_core.specs.Since.{ReportedChanges, Unknown, notes_from, since}

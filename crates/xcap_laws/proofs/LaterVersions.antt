@@ -9,7 +9,7 @@ use Rattle.edit_ops.specs.declared.change.Change.{Change}
 use Rattle.edit_ops.specs.declared.edit.Edit.{Edit}
 use Rattle.edit_ops.specs.Notes.{Note, note_of}
 use Rattle.edit_ops.specs.Operations.{weight}
-use Rattle.element_watch.specs.Finding.{notes_behind}
+use Rattle.element_watch.specs.SelectionHistory.{notes_behind}
 use Rattle.store_core.specs.Contents.{stock_of}
 use Rattle.store_core.specs.DocumentChanges.{Act, Edits, Makes, Removes, act_of, after_act, document_in, document_name}
 use Rattle.store_core.specs.Since.{ReportedChanges, Unknown, since}

@@ -26,7 +26,7 @@ use Rattle.store_core.specs.State.{Document, State, Version, first_state, is_sma
 use Rattle.store_core.specs.ValidStates.{IsKept, IsSoundFor, IsValidState}
 use Rattle.store_core.specs.declared.refusal.StoreRefusal.{StoreRefusal}
 use Rattle.store_core.specs.declared.refusal.StoreRefusal.TheVariants.{NoNumber}
-use Rattle.store_core.proofs.Accepted.{sum-first}
+use Rattle.store_core.proofs.AcceptedChanges.{sum-first}
 use Rattle.store_core.proofs.KeptAfter.{kept-first}
 use Rattle.store_core.proofs.PutLengths.{print_len}
 use Rattle.store_core.proofs.SoundHeld.{all_sound}

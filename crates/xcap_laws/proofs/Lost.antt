@@ -19,7 +19,7 @@ use Rattle.xcap_laws.proofs.Conditions.{change_made, low_number, matched, none_o
 use Rattle.xcap_laws.proofs.FreshTags.{NoteMade, low_tag, never_less, note_made, valid_start}
 use Rattle.xcap_laws.proofs.Tagged.{IsPast, first_past, run_past}
 use Rattle.xcap_laws.specs.Tags.{ChangesNamed, IfMatchSays, IsPresent, Names}
-use Rattle.xcap_machine.proofs.Following.{one_of_a_tag}
+use Rattle.xcap_machine.proofs.SubscriberLemmas.{one_of_a_tag}
 use Rattle.xcap_machine.proofs.OneVersion.{found_all, held_there}
 use Rattle.xcap_machine.specs.Laws.{ChangesNothing}
 use Rattle.xcap_machine.specs.Machine.{Does, ValidStep, content_after_answer, told_as}

@@ -17,7 +17,7 @@ use Rattle.usage_docs.specs.declared.schema_table.ElementKind.TheVariants as kin
 use Rattle.usage_docs.specs.declared.schema_table.Key.TheVariants.{Uri}
 use Rattle.store_core.specs.Contents.{StoreContents}
 use Rattle.store_core.specs.ValidStates.{AreDistinct}
-use Rattle.list_resolve.specs.Flat.{IsFlatList, flat_of, is_mark, item_address, service_of, with_address}
+use Rattle.list_resolve.specs.FlatLists.{IsFlatList, flat_of, is_mark, item_address, service_of, with_address}
 use Rattle.list_resolve.specs.Places.{is_on}
 use Rattle.list_resolve.specs.References.{reference_of}
 use Rattle.list_resolve.specs.Resolution.{ResolvedReference, tree_held}

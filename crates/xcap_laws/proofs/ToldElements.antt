@@ -10,7 +10,7 @@ use Rattle.edit_ops.specs.Notes.{Note}
 use Rattle.edit_ops.specs.Operations.{weight}
 use Rattle.edit_rules.specs.KeyAddresses.{IsKeyAddressOf}
 use Rattle.element_watch.specs.Elements.{element_notice}
-use Rattle.element_watch.specs.Finding.{FindSince, Finds, notes_behind}
+use Rattle.element_watch.specs.SelectionHistory.{FindSince, Finds, notes_behind}
 use Rattle.element_watch.specs.WatchedElements.{IsElementNotice, IsQuiet, IsStateOf, IsUntouched, SelectsSome, silent_notice}
 use Rattle.element_watch.specs.declared.element_states.ElementState.{ElementState}
 use Rattle.element_watch.specs.declared.element_states.ElementState.TheVariants.{Unchanged, Exists, Missing}

@@ -7,7 +7,7 @@ use Rattle.usage_docs.specs.Keys.{value_of}
 use Rattle.usage_docs.specs.declared.schema_table.ElementKind.TheVariants.{Entry, EntryRef}
 use Rattle.usage_docs.specs.declared.schema_table.Key.TheVariants.{Uri}
 use Rattle.store_core.specs.Contents.{StoreContents}
-use Rattle.list_resolve.specs.Flat.{service_of}
+use Rattle.list_resolve.specs.FlatLists.{service_of}
 use Rattle.list_resolve.specs.References.{reference_of}
 use Rattle.list_resolve.specs.Resolution.{AreLeads, ResolvedReference, tree_held}
 use Rattle.list_resolve.specs.ScopedElements.{ScopedElement, child_spot}

@@ -2,7 +2,7 @@
 -- document has the changes between two entity tags.
 use Rattle.std.specs.Prelude.{ℕ, Bool, true, List, [], ◌∷◌, if◌then◌else◌}
 use Rattle.edit_ops.specs.Operations.{weight}
-use Rattle.element_watch.specs.Finding.{notes_behind}
+use Rattle.element_watch.specs.SelectionHistory.{notes_behind}
 use Rattle.store_core.specs.Since.{ChangesSince, Unknown, ReportedChanges}
 use Rattle.store_core.specs.State.{Document, is_small, versions}
 

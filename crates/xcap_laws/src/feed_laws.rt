@@ -12,7 +12,7 @@ ghost use Rattle.node_select.specs.Selection.{SelectsPath};
 ghost use Rattle.element_watch.specs.WatchedElements.{SelectsSome};
 ghost use Rattle.element_watch.specs.declared.element_states.ElementState.TheVariants.{Exists};
 ghost use Rattle.element_watch.specs.declared.element_states.ElementState.TheVariants.{Missing};
-ghost use Rattle.element_watch.specs.Finding.{notes_behind};
+ghost use Rattle.element_watch.specs.SelectionHistory.{notes_behind};
 ghost use Rattle.request_checks.specs.Methods.{method_of};
 ghost use Rattle.request_checks.specs.declared.method.Method.TheVariants.{Get};
 ghost use Rattle.store_core.specs.Contents.{Represents, StoreContents, stock_of};

@@ -3,7 +3,7 @@ ghost use Rattle.std.specs.Prelude.{ℕ, List, Ok};
 ghost use Rattle.doc_names.specs.declared.doc_id.DocId.{DocId};
 ghost use Rattle.store_core.specs.Contents.{StoreContents};
 ghost use Rattle.store_core.specs.ValidStates.{AreDistinct};
-ghost use Rattle.list_resolve.specs.Flat.{IsFlatList};
+ghost use Rattle.list_resolve.specs.FlatLists.{IsFlatList};
 ghost use Rattle.xcap_laws.specs.MetAddresses.{IsIn, LeadsToAddress};
 
 /// A law: no address is twice in the flat list of a service, and each one stands in an entry that

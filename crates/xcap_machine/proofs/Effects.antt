@@ -40,10 +40,10 @@ use Rattle.xcap_machine.specs.Resources.{version_of}
 use Rattle.xcap_machine.specs.DocumentWrites.{change_answer, deleted_reply, put_change, put_reply}
 use Rattle.xcap_machine.specs.inner.Cases.{PutsNodeIn, PutsNodeOf}
 use Rattle.xcap_machine.specs.inner.Records.{put_of, server_of, write_of}
-use Rattle.xcap_machine.proofs.Accepted.{Accepts, DocumentPut, Enters, HeldPut, NodePut, StoreMade, accepted, by_target, delete_enters, document_deleted, document_put, no_bindings, node_deleted, node_put, of_element, of_value, put_again_enters, put_enters, stopped_never, store_made}
+use Rattle.xcap_machine.proofs.AcceptedRequests.{Accepts, DocumentPut, Enters, HeldPut, NodePut, StoreMade, accepted, by_target, delete_enters, document_deleted, document_put, no_bindings, node_deleted, node_put, of_element, of_value, put_again_enters, put_enters, stopped_never, store_made}
 use Rattle.store_core.proofs.HeldAfter.{edited_there, made_there, new_held, removed_there, same_others, same_others_more}
 use Rattle.xcap_machine.proofs.After.{edit_let_in, let_in_again, make_let_in, names_apart, seen_at, unseen_at}
-use Rattle.xcap_machine.proofs.Asked.{held_at}
+use Rattle.xcap_machine.proofs.PutPremises.{held_at}
 use Rattle.xcap_machine.proofs.Steps.{step_of}
 use Rattle.xcap_machine.proofs.Twice.{document_again, element_again, leaves_trees, same_place, value_again}
 use Rattle.edit_rules.specs.Plans.{IsJudged}

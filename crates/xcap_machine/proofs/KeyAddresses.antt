@@ -19,7 +19,7 @@ use Rattle.store_core.specs.Contents.{StoredDocument, Represents, StoreContents 
 use Rattle.xcap_machine.specs.KeyAddresses.{KeepsAddressesOf}
 use Rattle.store_core.specs.ValidStates.{IsSound, IsSoundFor, IsValidState}
 use Rattle.store_core.specs.State.{State}
-use Rattle.store_core.proofs.Asked.{found-name}
+use Rattle.store_core.proofs.ChangePremises.{found-name}
 use Rattle.store_core.proofs.HeldAfter.{by_act, edited_there, removed_there}
 use Rattle.store_core.proofs.Keeps.{told-next}
 use Rattle.store_core.proofs.SoundHeld.{AllSound, all_sound, sound_held}

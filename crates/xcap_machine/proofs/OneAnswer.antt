@@ -65,7 +65,7 @@ use Rattle.xcap_machine.specs.NodeWrites.{CutsNode, PutsAt, PutsElement, PutsFra
 use Rattle.xcap_machine.specs.DocumentWrites.{IfStored, PutsBody, PutsDocument, PutsSpelled, change_answer, deleted_reply, missing_parent_answer, put_answer, text_conflict}
 use Rattle.xcap_machine.specs.inner.Cases.{DeletesDocumentIn, DeletesNodeIn, PutsElementText, PutsNodeIn, PutsNodeOf, PutsValueText, IsAnswered, PutsText, by_judgement, version_tag as tag_of, Behind}
 use Rattle.xcap_machine.specs.inner.Records.{element_query, feed_query, read_by, representation, server_of, write_of}
-use Rattle.xcap_machine.proofs.Leading.{leads, only_leads, resource}
+use Rattle.xcap_machine.proofs.ResourceLemmas.{leads, only_leads, resource}
 
 -- there is an answer of this kind, and there is no other
 record IsOne (Is : Answer → Type 0) : Type 0 where

@@ -9,17 +9,17 @@ use Rattle.doc_names.specs.Equality.{same_id}
 use Rattle.doc_names.specs.Usages.{usage_of}
 use Rattle.doc_names.specs.declared.doc_id.DocId.{DocId}
 use Rattle.doc_names.specs.declared.usages.Usage.{Usage}
-use Rattle.xcap_uri.specs.Naming.{is_encodable, is_name_of}
-use Rattle.xcap_uri.proofs.Printed.{names}
+use Rattle.xcap_uri.specs.PrintedNames.{is_encodable, is_name_of}
+use Rattle.xcap_uri.proofs.NamePrints.{names}
 use Rattle.xcap_uri.specs.Roots.{IsRoot, authority_of, path_of}
 use Rattle.edit_ops.specs.Changes.{edited}
 use Rattle.edit_ops.specs.Notes.{Note, tag_after, tree_after}
 use Rattle.patch_rules.specs.Replay.{CopyAnswer, CopyFault, Fetch, ReplicaContents, Patched, Removed, Replays, Same}
 use Rattle.patch_rules.specs.Notices.{aggregate_notice, gone_notice, patching_notice, tags_notice}
 use Rattle.patch_rules.specs.Premises.{AreFew, AreTold, IsTold}
-use Rattle.patch_rules.specs.Replayed.{answer_for}
+use Rattle.patch_rules.specs.ReplayLaws.{answer_for}
 use Rattle.patch_rules.proofs.OtherNotices.{gone_read, gone_replayed, same_replayed, tags_read, tags_replayed}
-use Rattle.patch_rules.proofs.Stated.{aggregate_read, aggregate_replayed, patching_read, patching_replayed}
+use Rattle.patch_rules.proofs.LawStatements.{aggregate_read, aggregate_replayed, patching_read, patching_replayed}
 use Rattle.store_core.specs.DocumentChanges.{document_in, document_name}
 use Rattle.store_core.specs.Contents.{Represents, StoreContents as Content}
 use Rattle.store_core.specs.History.{AreSound, IsSince, Leads}

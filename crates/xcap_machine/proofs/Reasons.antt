@@ -60,7 +60,7 @@ use Rattle.xcap_machine.specs.DocumentWrites.{IfStored, PutsBody, PutsDocument, 
 use Rattle.xcap_machine.specs.inner.Cases.{DeletesDocumentIn, DeletesNodeIn, PutsElementText, PutsNodeIn, PutsValueText, IsAnswered, PutsText, by_judgement, version_tag as tag_of, Behind}
 use Rattle.xcap_machine.specs.inner.Records.{element_query, feed_query, read_by, representation, server_of, write_of}
 use Rattle.xcap_machine.proofs.Cases.{either}
-use Rattle.xcap_machine.proofs.Changed.{as_the_store, told_by_store}
+use Rattle.xcap_machine.proofs.ChangeAnswers.{as_the_store, told_by_store}
 
 -- ---- answers
 

@@ -1,7 +1,7 @@
 -- A PUT that was accepted, made again: its place is what was put, its plan replaces that by
 -- itself, and every tree is unchanged.
 use Rattle.std.specs.Prelude.{nat_le}
-use Rattle.tree_text.specs.Printing.{body_print}
+use Rattle.tree_text.specs.AttributeBodyPrints.{body_print}
 use Rattle.std.specs.Bool.{MatchBool}
 use Rattle.std.proofs.Common.{◌≡◌, ℕ, suc, ◌+◌, ◌-◌, Bool, true, false, List, [], ◌∷◌, ◌++◌, length, find, map, is_some, Option, None, Some, IsSome, option_map, option_and_then, Result, Ok, Err, refl, sym, ap, subst, ◌∙◌}
 use Rattle.std.specs.Option.{option_or as or_else}
@@ -29,7 +29,7 @@ use Rattle.node_select.specs.declared.selector.End.{End}
 use Rattle.node_select.specs.declared.selector.End.TheVariants as ends
 use Rattle.node_select.specs.declared.selector.Selector.{Selector}
 use Rattle.node_select.proofs.Along.{one_path, path_there}
-use Rattle.node_select.proofs.Reaching.{path_is}
+use Rattle.node_select.proofs.ReachLemmas.{path_is}
 use Rattle.reply_bodies.specs.Nodes.{found_text, node_media, node_text, text_at}
 use Rattle.edit_ops.specs.Changes.{edited}
 use Rattle.edit_ops.specs.declared.change.Change.{Change}
@@ -66,10 +66,10 @@ use Rattle.xcap_machine.specs.Resources.{version_of}
 use Rattle.xcap_machine.specs.DocumentWrites.{PutsDocument, PutsSpelled, change_answer, put_answer, put_change, put_reply}
 use Rattle.xcap_machine.specs.inner.Cases.{PutsElementText, PutsNodeOf, PutsValueText, PutsText, by_judgement, version_tag as tag_of}
 use Rattle.xcap_machine.specs.inner.Records.{server_of, write_of}
-use Rattle.xcap_machine.proofs.Accepted.{match_true, unstopped_by}
+use Rattle.xcap_machine.proofs.AcceptedRequests.{match_true, unstopped_by}
 use Rattle.xcap_machine.proofs.After.{same_trees}
 use Rattle.xcap_machine.proofs.Steps.{made_change}
-use Rattle.xcap_machine.proofs.Changed.{as_the_store, told_by_store}
+use Rattle.xcap_machine.proofs.ChangeAnswers.{as_the_store, told_by_store}
 use Rattle.edit_rules.specs.Plans.{IsJudged}
 
 -- ---- no condition stops it

@@ -81,10 +81,10 @@ use Rattle.xcap_machine.specs.inner.Cases.{DeletesDocumentIn, DeletesNodeIn, Put
 use Rattle.xcap_machine.specs.inner.Records.{element_query, feed_query, read_by, representation, server_of, write_of}
 use Rattle.store_core.proofs.SoundHeld.{AllSound}
 use Rattle.store_core.specs.Contents.{StoreContents as Content}
-use Rattle.xcap_machine.proofs.Asked.{asks_to_delete, asks_to_edit, asks_to_put, sound_at, users_write}
-use Rattle.xcap_machine.proofs.Named.{writable_target}
+use Rattle.xcap_machine.proofs.PutPremises.{asks_to_delete, asks_to_edit, asks_to_put, sound_at, users_write}
+use Rattle.xcap_machine.proofs.AttributeAddresses.{writable_target}
 use Rattle.xcap_machine.proofs.Cases.{either}
-use Rattle.xcap_machine.proofs.Changed.{as_the_store, told_by_store}
+use Rattle.xcap_machine.proofs.ChangeAnswers.{as_the_store, told_by_store}
 
 pub data Way (method : Method) (closes : Bool) (c : Content) (a : Answer) : Type 0 where
   stays : (reply : SentReply) → tells_change method reply.status ≡ false → reply.closes ≡ closes → a ≡ unchanged reply → Way method closes c a

@@ -10,7 +10,7 @@ use Rattle.reply_text.specs.declared.media_types.MediaType.TheVariants as medias
 use Rattle.request_checks.specs.Methods.{for_method}
 use Rattle.store_core.specs.Contents.{StoreContents}
 use Rattle.list_resolve.specs.Documents.{flat_document}
-use Rattle.list_resolve.specs.Flat.{IsFlatList}
+use Rattle.list_resolve.specs.FlatLists.{IsFlatList}
 use Rattle.list_resolve.specs.declared.fault.FlatFault.{FlatFault}
 use Rattle.list_resolve.specs.declared.fault.FlatFault.TheVariants.{NoService}
 use Rattle.xcap_machine.specs.Answers.{Answer, found, unchanged}

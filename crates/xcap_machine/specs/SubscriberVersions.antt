@@ -6,7 +6,7 @@ use Rattle.xml_tree.specs.Proper.{ProperIn}
 use Rattle.xml_tree.specs.Tree.{Tree}
 use Rattle.tree_text.specs.Faults.{TextAnswer}
 use Rattle.doc_names.specs.declared.doc_id.DocId.{DocId}
-use Rattle.xcap_uri.specs.Naming.{is_name_of}
+use Rattle.xcap_uri.specs.PrintedNames.{is_name_of}
 use Rattle.xcap_uri.specs.Targets.{TargetResult}
 use Rattle.xcap_uri.specs.declared.target.Mode.{Mode}
 use Rattle.xcap_uri.specs.declared.target.Mode.TheVariants.{NoPatching}

@@ -3,10 +3,10 @@
 use Rattle.std.specs.Prelude.{◌≡◌, ℕ, ◌==◌, List, Some, Ok, decimal, slice_get, if◌then◌else◌}
 use Rattle.xml_tree.specs.Tree.{Tree}
 use Rattle.doc_names.specs.declared.doc_id.DocId.{DocId}
-use Rattle.xcap_uri.specs.Naming.{is_name_of}
+use Rattle.xcap_uri.specs.PrintedNames.{is_name_of}
 use Rattle.edit_ops.specs.Notes.{Note}
 use Rattle.patch_rules.specs.Replay.{CopyAnswer, Fetch, ReplicaContents, Patched, Replays, Same}
-use Rattle.patch_rules.specs.Replayed.{IsReadBack}
+use Rattle.patch_rules.specs.ReplayLaws.{IsReadBack}
 use Rattle.store_core.specs.DocumentChanges.{document_in, document_name}
 use Rattle.store_core.specs.Contents.{Represents, StoreContents}
 use Rattle.store_core.specs.ValidStates.{IsValidState}

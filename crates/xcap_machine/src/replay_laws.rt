@@ -3,7 +3,7 @@ ghost use Rattle.std.specs.Prelude.{◌≡◌, ℕ, true, decimal, List, Some, N
 ghost use Rattle.xml_tree.specs.Tree.{Tree};
 ghost use Rattle.doc_names.specs.Ids.{id_text};
 ghost use Rattle.doc_names.specs.declared.doc_id.DocId.{DocId};
-ghost use Rattle.xcap_uri.specs.Naming.{is_encodable};
+ghost use Rattle.xcap_uri.specs.PrintedNames.{is_encodable};
 ghost use Rattle.xcap_uri.specs.Roots.{is_root_text};
 ghost use Rattle.edit_ops.specs.Notes.{Note};
 ghost use Rattle.patch_rules.specs.Notices.{aggregate_notice, gone_notice, patching_notice};

@@ -1,7 +1,7 @@
 -- The decision on a request, before anything is changed. RFC 4825, section 8.
 use Rattle.std.specs.Prelude.{Some}
 use Rattle.store_core.specs.PreparedChanges.{IsReady}
-use Rattle.store_core.specs.Stored.{Stored}
+use Rattle.store_core.specs.StoreViews.{Stored}
 use Rattle.xcap_machine.specs.Answers.{Answer, unchanged}
 use Rattle.xcap_put.specs.declared.decision.Decision.{Decision}
 use Rattle.xcap_put.specs.declared.decision.Decision.TheVariants.{Stays, Changes}

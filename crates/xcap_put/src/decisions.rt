@@ -4,7 +4,7 @@ ghost use Rattle.store_core.specs.Queries.{Asks};
 ghost use Rattle.xcap_machine.specs.Answers.{tagged};
 ghost use Rattle.xcap_machine.specs.DocumentWrites.{change_answer, put_reply};
 ghost use Rattle.xcap_put.specs.Decisions.{Decides};
-ghost use Rattle.xcap_put.specs.inner.Planning.{AsksBy, answer_by};
+ghost use Rattle.xcap_put.specs.inner.RequestPlans.{AsksBy, answer_by};
 
 use crate::plan::Plan;
 use crate::refusal_replies::refusal_reply;

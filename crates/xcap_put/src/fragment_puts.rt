@@ -18,7 +18,7 @@ ghost use Rattle.xcap_put.specs.declared.plan.Plan.TheVariants.{Stops};
 ghost use Rattle.xcap_machine.specs.NodeWrites.{MayBeWritten, PutsAt, PutsElement, PutsFragment};
 ghost use Rattle.xcap_machine.specs.NodeWrites.{PutsValue, is_there, levels_for, scope_for};
 ghost use Rattle.xcap_machine.specs.NodeWrites.{value_conflict};
-ghost use Rattle.xcap_put.specs.inner.Planning.{IsPlanFor, LeadsSomewhere};
+ghost use Rattle.xcap_put.specs.inner.RequestPlans.{IsPlanFor, LeadsSomewhere};
 
 use crate::NoMemory;
 use crate::conflicts::conflict;

@@ -14,7 +14,7 @@ ghost use Rattle.xcap_machine.specs.Resources.{version_of};
 ghost use Rattle.xcap_machine.specs.DocumentWrites.{missing_parent_answer};
 ghost use Rattle.xcap_machine.specs.inner.Cases.{DeletesNodeOf, PutsNodeOf};
 ghost use Rattle.xcap_put.specs.Decisions.{Decides};
-ghost use Rattle.xcap_put.specs.inner.Planning.{IsRemovalPlan, IsPlanFor, IsPlanOf};
+ghost use Rattle.xcap_put.specs.inner.RequestPlans.{IsRemovalPlan, IsPlanFor, IsPlanOf};
 
 use crate::conflicts::no_parent;
 use crate::decisions::decide_plan;

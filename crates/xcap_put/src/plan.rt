@@ -1,6 +1,6 @@
 //! The plan of a request on a node, before the store is asked (RFC 4825, sections 8.2 and 8.4).
 ghost use Rattle.std.specs.Prelude.{IfOk};
-ghost use Rattle.xcap_put.specs.inner.Planning.{IsPlanOf};
+ghost use Rattle.xcap_put.specs.inner.RequestPlans.{IsPlanOf};
 
 use crate::NoMemory;
 use crate::refusal_replies::unplanned;

@@ -15,7 +15,7 @@ use Rattle.request_checks.specs.Methods.{method_of, is_reading}
 use Rattle.request_checks.specs.Rights.{is_allowed}
 use Rattle.request_checks.specs.declared.method.Method.{Method}
 use Rattle.request_checks.specs.declared.method.Method.TheVariants.{Get, Head, Put, Delete, Other}
-use Rattle.store_core.specs.Stored.{Stored}
+use Rattle.store_core.specs.StoreViews.{Stored}
 use Rattle.store_core.specs.Contents.{StoreContents as Content}
 use Rattle.xcap_machine.specs.Answers.{Answer, not_allowed, unchanged}
 use Rattle.xcap_machine.specs.Requests.{ByMethod, ByTarget, Deletes, IsAnswer, Puts, auid_of, fault_status, home_of, is_read_only, takes, ReadsTarget as Reads}
@@ -25,7 +25,7 @@ use Rattle.xcap_machine.proofs.Cases.{at_false, at_true, not_stored, stored}
 use Rattle.xcap_put.specs.Decisions.{Decides}
 use Rattle.xcap_put.specs.declared.decision.Decision.{Decision}
 use Rattle.xcap_put.specs.declared.decision.Decision.TheVariants.{Stays}
-use Rattle.xcap_put.proofs.Doing.{all_so, stays}
+use Rattle.xcap_put.proofs.DecisionAnswers.{all_so, stays}
 
 module _ (root : List ℕ) (c : Content) (target : Target) (request : Request) (s : Stored) where
   -- a decision that is a reply

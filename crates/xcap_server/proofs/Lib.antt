@@ -1,10 +1,10 @@
-pub mod Answering
-pub mod Counting
+pub mod CloseLemmas
+pub mod DecisionAnswers
 pub mod Dispatch
-pub mod Logged
-pub mod Reclosed
-pub mod Recorded
+pub mod KnownBytes
+pub mod LoggedServers
+pub mod RecordedChanges
 pub mod Redone
-pub mod Returned
-pub mod Standing
+pub mod ServerRestarts
+pub mod ServerStates
 pub mod Ways

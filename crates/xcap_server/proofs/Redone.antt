@@ -14,7 +14,7 @@ use Rattle.xcap_machine.specs.Requests.{IsAnswer}
 use Rattle.xcap_machine.proofs.OneAnswer.{one_answer}
 use Rattle.xcap_server.specs.ReplayedRequests.{Redoing, Refuses, ResultsFrom}
 use Rattle.xcap_machine.specs.Servers.{ServerState}
-use Rattle.xcap_server.proofs.Logged.{redoing_more, same_server}
+use Rattle.xcap_server.proofs.LoggedServers.{redoing_more, same_server}
 
 -- a server stands for the requests that an equal server stands for
 pub means_the_same : (old new : ServerState) → new ≡ old → MeansTheSame ResultsFrom Refuses old new

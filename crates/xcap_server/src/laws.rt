@@ -3,9 +3,10 @@ ghost use Rattle.std.specs.Prelude.{◌≡◌, ◌++◌, ℕ, List, Some};
 ghost use Rattle.store_core.specs.State.{State};
 ghost use Rattle.xcap_io.specs.Causes.{StreamState};
 ghost use Rattle.xcap_io.specs.StreamTraffic.{IsTruthful};
-ghost use Rattle.http_wire.specs.Serving.{HaveBytes, Serves, ServesEach, counted, counted_each};
+ghost use Rattle.http_wire.specs.ServedConnections.{HaveBytes, Serves, ServesEach, counted};
+ghost use Rattle.http_wire.specs.ServedConnections.{counted_each};
 ghost use Rattle.http_serve.specs.Connections.{ServesStream};
-ghost use Rattle.http_serve.specs.Fixed.{fixed};
+ghost use Rattle.http_serve.specs.FixedReplies.{fixed_reply};
 ghost use Rattle.http_serve.specs.Ports.{ServesPort};
 ghost use Rattle.http_wire.specs.declared.close_reason.CloseReason.{CloseReason};
 ghost use Rattle.http_serve.specs.declared.accept_loop.ServeSummary.{ServeSummary};
@@ -24,7 +25,7 @@ pub fn all_bytes_count<W: Watchers<Edit>>()
         (old new : StreamState) (a b : W) (bytes : List ℕ)
         → old.inward.left ≡ Some bytes → IsTruthful old.inward
         → (served : ServesStream (InBytes (FollowedStep root)) W.keeps ended m n old new a b)
-        → Serves (InBytes (FollowedStep root)) fixed ended m
+        → Serves (InBytes (FollowedStep root)) fixed_reply ended m
         (counted ended bytes served.passed) n served.edits }
     ensures each_connection_bytes { (root : List ℕ) (most : ℕ) (by : ServeSummary) (m n : State)
         (old new : StreamState) (a b : W) (all : List (List ℕ))
@@ -32,7 +33,7 @@ pub fn all_bytes_count<W: Watchers<Edit>>()
         → (served : ServesPort (InBytes (FollowedStep root)) W.keeps most by m n old new a b)
         → (came : List (List ℕ)) × (rest : List (List ℕ)) × (all ≡ came ++ rest)
         × (new.port.to_come ≡ Some rest)
-        × HaveBytes came served.connections × ServesEach (InBytes (FollowedStep root)) fixed m
+        × HaveBytes came served.connections × ServesEach (InBytes (FollowedStep root)) fixed_reply m
         (counted_each served.connections came served.serves.endings) served.serves.endings n
         served.edits }
 {}

@@ -2,7 +2,7 @@
 // changes.
 ghost use Rattle.std.specs.Prelude.{◌≡◌, None, Err, is_some};
 ghost use Rattle.reply_text.specs.ReplyHeads.{plain};
-ghost use Rattle.store_core.specs.Stored.{Stored};
+ghost use Rattle.store_core.specs.StoreViews.{Stored};
 ghost use Rattle.xcap_put.specs.declared.decision.Decision.{Decision as TheDecision};
 ghost use Rattle.xcap_put.specs.Decisions.{IsReadyFor, answer_of};
 ghost use Rattle.xcap_server.specs.inner.Servers.{CarriesOut};
@@ -29,7 +29,7 @@ fn changes(decision: &Decision) -> bool
 }
 
 // The answer to a request whose record couldn't be added.
-fn not_entered(request: &Request) -> MachineReply<Edit>
+fn append_failure_reply(request: &Request) -> MachineReply<Edit>
     ensures status_500 { result.reply ≡ plain 500 request.now.closes }
     ensures no_change { result.edit ≡ None }
 {
@@ -45,7 +45,7 @@ fn unmade(fault: AppendFault, request: &Request) -> Result<MachineReply<Edit>, A
         → CarriesOut s d request.now (Err fault) result s }
 {
     match fault {
-        AppendFault::Failed => Ok(not_entered(request)),
+        AppendFault::Failed => Ok(append_failure_reply(request)),
         AppendFault::NoMemory => Err(AllocError),
     }
 }

@@ -1,6 +1,6 @@
 -- Queries read item by item, and URIs character by character.
 use Rattle.std.proofs.Common.{◌≡◌, ℕ, zero, suc, ◌+◌, ◌-◌, ◌<◌, List, [], ◌∷◌, ◌++◌, length, Result, Ok, Err, refl, ap, ◌∙◌, sym, append_assoc, ◌⊎◌, inl, inr, arith}
-use Rattle.xml_grammar.specs.Reading.{after_front}
+use Rattle.xml_grammar.specs.TextReading.{after_front}
 use Rattle.xml_names.specs.declared.names.Decl.{Decl}
 use Rattle.xml_names.specs.declared.read_error.ReadError.TheVariants.{NoMemory}
 use Rattle.xcap_uri.specs.readers.Steps.{UriError, ◌>>=◌}

@@ -1,24 +1,24 @@
-pub mod Addressed
+pub mod AddressedDocuments
 mod Ascii
 mod Bindings
 mod DigitByDigit
-mod Escaped
+mod EscapeLemmas
+mod FaultOrder
 mod HomeIds
 mod Lasts
 mod Letters
+pub mod NamePrints
 pub mod Nameable
 pub mod Octets
-mod Ordering
 pub mod Parts
 mod Pieces
-pub mod Printed
 mod QueryAnswers
 mod QueryItems
 mod QueryUris
 mod ReadsBack
 mod RootAnswers
 mod SegmentAnswers
-mod Separated
+mod SegmentLemmas
 mod ShapeAnswers
 pub mod TargetAnswers
 mod UriChars

@@ -151,7 +151,7 @@ known_ok : (auid : Option Auid) (ts : List (List ℕ)) (selector : Option (List 
 known_ok None ts selector names = tt
 known_ok (Some auid) ts selector names = usage_ok auid ts selector names
 
-named_ok : (ts : List (List ℕ)) (selector : Option (List ℕ)) → AreNameable ts → IfOk (Shapes.named ts selector) ReadableShape
+named_ok : (ts : List (List ℕ)) (selector : Option (List ℕ)) → AreNameable ts → IfOk (Shapes.shape_of_segments ts selector) ReadableShape
 unfolding AreNameable
 named_ok [] selector names = tt
 named_ok (first ∷ rest) selector names =
@@ -159,7 +159,7 @@ named_ok (first ∷ rest) selector names =
     if_ok (bytes_eq first feed) (Shapes.feed_shape rest selector) others ReadableShape (feed_ok rest selector names.1)
     (if_ok (bytes_eq first flat) (Shapes.flat_shape rest selector) (Shapes.of_usage (Shapes.auid_of first) rest selector) ReadableShape (flat_ok rest selector names.1) (known_ok (Shapes.auid_of first) rest selector names.1))
 
-unless_empty : (ts : List (List ℕ)) (selector : Option (List ℕ)) (b : Bool) → list_any Shapes.is_empty ts ≡ b → AreFree ts → IfOk (if b then Err (Fault BadShape) else Shapes.named ts selector) ReadableShape
+unless_empty : (ts : List (List ℕ)) (selector : Option (List ℕ)) (b : Bool) → list_any Shapes.is_empty ts ≡ b → AreFree ts → IfOk (if b then Err (Fault BadShape) else Shapes.shape_of_segments ts selector) ReadableShape
 unless_empty ts selector true e free = tt
 unless_empty ts selector false e free = named_ok ts selector (nameable ts free e)
 

@@ -7,10 +7,10 @@ use Rattle.std.specs.Fmt.{digit_glyph}
 use Rattle.std.specs.Str.{all_scalars}
 use Rattle.percent_encoding.specs.Percent.{percent_decode, percent_encode_byte}
 use Rattle.doc_names.specs.Escapes.{escaped, escaped_octet, escaped_part, is_plain}
-use Rattle.doc_names.proofs.Escaped.{parts_decoded}
+use Rattle.doc_names.proofs.OctetPrints.{parts_decoded}
 use Rattle.xcap_uri.specs.Delimiters.{front_before, rest_after}
 use Rattle.xcap_uri.specs.Escapes.{has_whole_escapes}
-use Rattle.xcap_uri.specs.Naming.{are_parts, is_part}
+use Rattle.xcap_uri.specs.PrintedNames.{are_parts, is_part}
 use Rattle.xcap_uri.proofs.Octets.{octets}
 
 -- ---- cuts at slashes

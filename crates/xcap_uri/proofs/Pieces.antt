@@ -3,7 +3,7 @@ use Rattle.std.proofs.Common.{◌≡◌, ℕ, Bool, true, false, not, ◌==◌, 
 use Rattle.std.proofs.lemmas.Bool.{eqb-true, eq-eqb}
 use Rattle.std.specs.List.{list_all, onto_first as with_first}
 use Rattle.xml_tokens.specs.Tokens.{is_other}
-use Rattle.xml_grammar.specs.Reading.{after_front}
+use Rattle.xml_grammar.specs.TextReading.{after_front}
 use Rattle.xml_grammar.specs.Rules.{AllPass}
 use Rattle.xcap_uri.specs.Delimiters.{rest_after_front, front_before, rest_after, behind_first, pieces}
 use Rattle.xcap_uri.specs.Roots.{is_some_of}

@@ -1,6 +1,6 @@
 -- Reading a query finds bindings, or reports `BadQuery`.
 use Rattle.std.proofs.Common.{◌≡◌, ℕ, zero, suc, ◌+◌, ◌-◌, Bool, true, false, cond, List, [], ◌∷◌, ◌&&◌, ◌==◌, codes, length, Option, None, Some, Result, Ok, Err, refl, subst, ◌↔◌}
-use Rattle.xml_grammar.specs.Reading.{head_is, after_front}
+use Rattle.xml_grammar.specs.TextReading.{head_is, after_front}
 use Rattle.xml_names.specs.Characters.{is_name_start, is_space}
 use Rattle.xml_names.specs.declared.names.Decl.{Decl}
 use Rattle.xml_names.specs.declared.read_error.ReadError.TheVariants.{Fault}
@@ -9,7 +9,7 @@ use Rattle.xcap_uri.specs.readers.Steps.{UriError, ◌>>=◌}
 use Rattle.xcap_uri.specs.Queries.{is_bracket_or_caret, is_blank, IsQuery}
 use Rattle.xcap_uri.specs.readers.Queries
 use Rattle.xcap_uri.specs.declared.fault.UriFault.TheVariants.{BadQuery}
-use Rattle.xcap_uri.proofs.Ordering.{Decides, same_ok}
+use Rattle.xcap_uri.proofs.FaultOrder.{Decides, same_ok}
 use Rattle.xcap_uri.proofs.QueryItems.{query_found, query_read}
 
 -- if the result is a fault, it is this one

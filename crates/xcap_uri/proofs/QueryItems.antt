@@ -6,7 +6,7 @@ use Rattle.std.proofs.lemmas.List.{append-nil, length-append}
 use Rattle.std.specs.Cmp.Lexicographic.{bytes_decides}
 use Rattle.std.specs.List.{list_all}
 use Rattle.std.specs.Str.{bytes_eq}
-use Rattle.xml_grammar.specs.Reading.{head_is, front_of, after_front}
+use Rattle.xml_grammar.specs.TextReading.{head_is, front_of, after_front}
 use Rattle.xml_grammar.specs.Rules.{AllPass}
 use Rattle.xml_names.specs.Characters.{is_name, is_name_start, is_name_char, is_space}
 use Rattle.xml_names.specs.declared.names.Decl.{Decl}

@@ -26,16 +26,16 @@ use Rattle.doc_names.specs.Ids.{IsNameable, IsAddressable, IsReadableHome, home_
 use Rattle.doc_names.specs.Usages.{auid_text}
 use Rattle.xcap_uri.specs.Roots.{slash, path_in, path_of, is_root_text as is_root}
 use Rattle.xcap_uri.specs.readers.Shapes.{is_empty, shape_of}
-use Rattle.xcap_uri.specs.inner.Spelled.{IsOctet, IsSpelled, IsSpelledHome}
+use Rattle.xcap_uri.specs.inner.OctetTexts.{IsOctet, IsSpelled, IsSpelledHome}
 use Rattle.xcap_uri.specs.Targets.{rest_under, under_root, question}
 use Rattle.xcap_uri.specs.readers.Targets.{target_read, rest_read, segments_read, path_read}
 use Rattle.doc_names.specs.Ids.{separator}
-use Rattle.xcap_uri.proofs.Escaped.{read_as_text}
+use Rattle.xcap_uri.proofs.EscapeLemmas.{read_as_text}
 use Rattle.xcap_uri.proofs.Pieces.{before_all, behind_all, pieces_one, pieces_more, after_append}
 use Rattle.xcap_uri.proofs.RootAnswers.{root_begins}
-use Rattle.doc_names.proofs.Escaped.{parts_decoded}
+use Rattle.doc_names.proofs.OctetPrints.{parts_decoded}
 use Rattle.doc_names.proofs.Words.{word_letters}
-use Rattle.doc_names.proofs.Printed.{auid_letters}
+use Rattle.doc_names.proofs.AsciiPrints.{auid_letters}
 
 -- ---- parts
 

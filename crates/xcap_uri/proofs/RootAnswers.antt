@@ -7,13 +7,13 @@ use Rattle.std.specs.List.{list_all, join_with_byte as joined}
 use Rattle.std.specs.Option.{option_or}
 use Rattle.std.specs.Str.{bytes_eq}
 use Rattle.xml_tokens.specs.Tokens.{is_other}
-use Rattle.xml_grammar.specs.Reading.{after_front}
+use Rattle.xml_grammar.specs.TextReading.{after_front}
 use Rattle.xml_grammar.specs.Rules.{AllPass}
 use Rattle.xcap_uri.specs.Delimiters.{rest_after_front, front_before, rest_after, pieces}
 use Rattle.xcap_uri.specs.Roots.{slash, is_authority_char, is_segment_char, is_some_of, path_in, IsRoot, is_scheme, are_root_parts, third, authority_of, path_of, is_root_text as is_root}
 use Rattle.xcap_uri.specs.readers.Roots.{behind_scheme, are_authority_and_segments, is_root_after_scheme, reads_as_root}
 use Rattle.xcap_uri.proofs.Pieces.{on_test, pieces_behind, pieces_cut, pieces_one, pieces_more, after_append, front_there}
-use Rattle.xcap_uri.proofs.Separated.{joined_pieces}
+use Rattle.xcap_uri.proofs.SegmentLemmas.{joined_pieces}
 
 -- ---- the parts of a root
 

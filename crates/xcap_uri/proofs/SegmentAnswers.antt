@@ -14,7 +14,7 @@ use Rattle.xcap_uri.specs.Targets.{AreSegments, IsPath}
 use Rattle.xcap_uri.specs.readers.Escapes.{text_read, optional_text_read, stands_for_text}
 use Rattle.xcap_uri.specs.readers.Targets.{segments_read, path_read}
 use Rattle.xcap_uri.specs.declared.fault.UriFault.TheVariants.{BadEscape}
-use Rattle.xcap_uri.proofs.Ordering.{Decides}
+use Rattle.xcap_uri.proofs.FaultOrder.{Decides}
 
 -- ---- a text
 

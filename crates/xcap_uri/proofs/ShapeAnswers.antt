@@ -23,7 +23,7 @@ use Rattle.xcap_uri.specs.declared.shape.Shape.{Shape}
 use Rattle.xcap_uri.specs.declared.shape.Shape.TheVariants.{Document, Node, Deep, Feed, ElementFeed, Flat}
 use Rattle.xcap_uri.specs.declared.target.Mode.{Mode}
 use Rattle.xcap_uri.specs.declared.target.Mode.TheVariants.{NoPatching, XcapPatching, Aggregate}
-use Rattle.xcap_uri.proofs.Ordering.{Decides}
+use Rattle.xcap_uri.proofs.FaultOrder.{Decides}
 
 -- ---- words
 
@@ -149,12 +149,12 @@ module _ (segments : List (List ℕ)) (selector : Option (List ℕ)) where
       inl (inr (inr (XcapCaps, is_word first xcap_caps m)), usage_good XcapCaps rest selector refl (h ∙ ap (λ (w : List ℕ). w ∷ rest) (is_word first xcap_caps m)))
   first_judged first rest h false i false j false k false l false m = inr (no_usage first rest i j k l m, refl)
 
-  all_judged : (all : List (List ℕ)) → segments ≡ all → Judged all (reader.named all selector)
+  all_judged : (all : List (List ℕ)) → segments ≡ all → Judged all (reader.shape_of_segments all selector)
   all_judged [] h = inr (λ b. b, refl)
   all_judged (first ∷ rest) h =
       first_judged first rest h (bytes_eq first feed) refl (bytes_eq first flat) refl (bytes_eq first resource_lists) refl (bytes_eq first rls_services) refl (bytes_eq first xcap_caps) refl
 
-pub judged : (segments : List (List ℕ)) (selector : Option (List ℕ)) → (BeginRightly segments × Good segments selector (reader.named segments selector)) ⊎ ((BeginRightly segments → ⊥) × (reader.named segments selector ≡ Err (Fault UnknownAuid)))
+pub judged : (segments : List (List ℕ)) (selector : Option (List ℕ)) → (BeginRightly segments × Good segments selector (reader.shape_of_segments segments selector)) ⊎ ((BeginRightly segments → ⊥) × (reader.shape_of_segments segments selector ≡ Err (Fault UnknownAuid)))
 judged segments selector = all_judged segments selector segments refl
 
 -- ---- what is named is read
@@ -162,7 +162,7 @@ judged segments selector = all_judged segments selector segments refl
 abbrev Read : Type 0
 Read = Result Shape UriError
 
-document_is : (auid : Auid) (home : Home) (name : List ℕ) → reader.named (in_home auid home (name ∷ [])) None ≡ Ok (Document (doc_of auid home name))
+document_is : (auid : Auid) (home : Home) (name : List ℕ) → reader.shape_of_segments (in_home auid home (name ∷ [])) None ≡ Ok (Document (doc_of auid home name))
 unfolding chars
 document_is ResourceLists Global name = refl
 document_is ResourceLists (User xui) name = refl
@@ -171,7 +171,7 @@ document_is RlsServices (User xui) name = refl
 document_is XcapCaps Global name = refl
 document_is XcapCaps (User xui) name = refl
 
-node_is : (auid : Auid) (home : Home) (name : List ℕ) (c : ℕ) (cs : List ℕ) → reader.named (in_home auid home (name ∷ [])) (Some (c ∷ cs)) ≡ Ok (Node (doc_of auid home name) (c ∷ cs))
+node_is : (auid : Auid) (home : Home) (name : List ℕ) (c : ℕ) (cs : List ℕ) → reader.shape_of_segments (in_home auid home (name ∷ [])) (Some (c ∷ cs)) ≡ Ok (Node (doc_of auid home name) (c ∷ cs))
 unfolding chars
 node_is ResourceLists Global name c cs = refl
 node_is ResourceLists (User xui) name c cs = refl
@@ -180,7 +180,7 @@ node_is RlsServices (User xui) name c cs = refl
 node_is XcapCaps Global name c cs = refl
 node_is XcapCaps (User xui) name c cs = refl
 
-deep_is : (auid : Auid) (home : Home) (name next : List ℕ) (more : List (List ℕ)) (selector : Option (List ℕ)) → reader.named (in_home auid home (name ∷ next ∷ more)) selector ≡ Ok (Deep auid home)
+deep_is : (auid : Auid) (home : Home) (name next : List ℕ) (more : List (List ℕ)) (selector : Option (List ℕ)) → reader.shape_of_segments (in_home auid home (name ∷ next ∷ more)) selector ≡ Ok (Deep auid home)
 unfolding chars
 deep_is ResourceLists Global name next more selector = refl
 deep_is ResourceLists (User xui) name next more selector = refl
@@ -190,7 +190,7 @@ deep_is XcapCaps Global name next more selector = refl
 deep_is XcapCaps (User xui) name next more selector = refl
 
 feed_is : (mode digits : List ℕ) (auid : Auid) (usage : Usage) (xui name : List ℕ) (selector : Option (List ℕ)) → usage_of auid ≡ Some usage
-    → reader.named (in_feed mode digits auid xui name) selector ≡ reader.either_feed mode (tag_of digits) (Some (doc_of auid (User xui) name)) selector
+    → reader.shape_of_segments (in_feed mode digits auid xui name) selector ≡ reader.either_feed mode (tag_of digits) (Some (doc_of auid (User xui) name)) selector
 unfolding chars
 feed_is mode digits ResourceLists usage xui name selector e = refl
 feed_is mode digits RlsServices usage xui name selector e = refl
@@ -206,15 +206,15 @@ element_is : (tag : ℕ) (doc : DocId) (c : ℕ) (cs : List ℕ) → reader.eith
 unfolding chars
 element_is tag doc c cs = refl
 
-flat_is : (xui name service : List ℕ) → reader.named (flat ∷ xui ∷ name ∷ service ∷ []) None ≡ Ok (Flat (doc_of RlsServices (User xui) name) service)
+flat_is : (xui name service : List ℕ) → reader.shape_of_segments (flat ∷ xui ∷ name ∷ service ∷ []) None ≡ Ok (Flat (doc_of RlsServices (User xui) name) service)
 unfolding chars
 flat_is xui name service = refl
 
 -- of equal segments and selectors
-moved : (segments all : List (List ℕ)) (selector s : Option (List ℕ)) (r : Read) → segments ≡ all → selector ≡ s → reader.named all s ≡ r → reader.named segments selector ≡ r
-moved segments all selector s r e f h = ap (λ (z : List (List ℕ)). reader.named z selector) e ∙ ap (reader.named all) f ∙ h
+moved : (segments all : List (List ℕ)) (selector s : Option (List ℕ)) (r : Read) → segments ≡ all → selector ≡ s → reader.shape_of_segments all s ≡ r → reader.shape_of_segments segments selector ≡ r
+moved segments all selector s r e f h = ap (λ (z : List (List ℕ)). reader.shape_of_segments z selector) e ∙ ap (reader.shape_of_segments all) f ∙ h
 
-node_read : (auid : Auid) (home : Home) (name text : List ℕ) → text ≢ [] → reader.named (in_home auid home (name ∷ [])) (Some text) ≡ Ok (Node (doc_of auid home name) text)
+node_read : (auid : Auid) (home : Home) (name text : List ℕ) → text ≢ [] → reader.shape_of_segments (in_home auid home (name ∷ [])) (Some text) ≡ Ok (Node (doc_of auid home name) text)
 node_read auid home name [] some = absurd (some refl)
 node_read auid home name (c ∷ cs) some = node_is auid home name c cs
 
@@ -223,11 +223,11 @@ element_read tag doc [] some = absurd (some refl)
 element_read tag doc (c ∷ cs) some = element_is tag doc c cs
 
 feed_read : (mode digits : List ℕ) (auid : Auid) (usage : Usage) (xui name : List ℕ) (selector : Option (List ℕ)) (tag : ℕ) (r : Read) → usage_of auid ≡ Some usage → tag_of digits ≡ Some tag
-    → reader.either_feed mode (Some tag) (Some (doc_of auid (User xui) name)) selector ≡ r → reader.named (in_feed mode digits auid xui name) selector ≡ r
+    → reader.either_feed mode (Some tag) (Some (doc_of auid (User xui) name)) selector ≡ r → reader.shape_of_segments (in_feed mode digits auid xui name) selector ≡ r
 feed_read mode digits auid usage xui name selector tag r stored is_tag h =
     feed_is mode digits auid usage xui name selector stored ∙ ap (λ (z : Option ℕ). reader.either_feed mode z (Some (doc_of auid (User xui) name)) selector) is_tag ∙ h
 
-complete : (segments : List (List ℕ)) (selector : Option (List ℕ)) (shape : Shape) → Names segments selector shape → reader.named segments selector ≡ Ok shape
+complete : (segments : List (List ℕ)) (selector : Option (List ℕ)) (shape : Shape) → Names segments selector shape → reader.shape_of_segments segments selector ≡ Ok shape
 complete segments selector _ (names_document auid home name e f) = moved segments (in_home auid home (name ∷ [])) selector None (Ok (Document (doc_of auid home name))) e f (document_is auid home name)
 complete segments selector _ (names_node auid home name text e f some) =
     moved segments (in_home auid home (name ∷ [])) selector (Some text) (Ok (Node (doc_of auid home name) text)) e f (node_read auid home name text some)
@@ -252,11 +252,11 @@ refused_of : (segments : List (List ℕ)) (selector : Option (List ℕ)) (r : Re
 refused_of segments selector (Ok x) g e h = absurd cc
 refused_of segments selector (Err x) g e h = let i : x ≡ e = cc in sym i ∙ g
 
-pub good_decided : (segments : List (List ℕ)) (selector : Option (List ℕ)) → Good segments selector (reader.named segments selector) → Decides (Names segments selector) BadShape (reader.named segments selector)
+pub good_decided : (segments : List (List ℕ)) (selector : Option (List ℕ)) → Good segments selector (reader.shape_of_segments segments selector) → Decides (Names segments selector) BadShape (reader.shape_of_segments segments selector)
 good_decided segments selector g = record {
-  sound = sound_of segments selector (reader.named segments selector) g;
+  sound = sound_of segments selector (reader.shape_of_segments segments selector) g;
   complete = complete segments selector;
-  refused = refused_of segments selector (reader.named segments selector) g;
+  refused = refused_of segments selector (reader.shape_of_segments segments selector) g;
 }
 
 -- ---- names that are empty

@@ -34,7 +34,7 @@ use Rattle.xcap_uri.specs.declared.shape.Shape.TheVariants as shapes
 use Rattle.xcap_uri.specs.declared.target.Target.{Target}
 use Rattle.xcap_uri.specs.declared.target.Target.TheVariants.{Node, ElementFeed}
 use Rattle.xcap_uri.proofs.Nameable.{target_readable}
-use Rattle.xcap_uri.proofs.Ordering.{Meets, inside, met, some_met, step, one_step, given_next, given_fault, one_given}
+use Rattle.xcap_uri.proofs.FaultOrder.{Meets, inside, met, some_met, step, one_step, given_next, given_fault, one_given}
 use Rattle.xcap_uri.proofs.QueryAnswers.{query_decided}
 use Rattle.xcap_uri.proofs.SegmentAnswers.{optional_decided, path_decided}
 use Rattle.xcap_uri.proofs.ShapeAnswers.{Good, judged, good_decided, all_named, one_empty}
@@ -137,15 +137,15 @@ module _ (segments : List (List ℕ)) (selector query : Option (List ℕ)) (raw 
   shaped_meets : (shape : Shape) → Meets (Shaped shape) (shaped shape)
   shaped_meets shape = step (IsQuery query) BadQuery (Bound shape) (optional_bindings_read query) (bound shape) (query_decided query) (λ bindings is. means_meets bindings raw shape)
 
-  by_begin : (BeginRightly segments × Good segments selector (reader.named segments selector)) ⊎ ((BeginRightly segments → ⊥) × (reader.named segments selector ≡ Err (Fault UnknownAuid))) → Meets Filled (reader.named segments selector >>= shaped)
+  by_begin : (BeginRightly segments × Good segments selector (reader.shape_of_segments segments selector)) ⊎ ((BeginRightly segments → ⊥) × (reader.shape_of_segments segments selector ≡ Err (Fault UnknownAuid))) → Meets Filled (reader.shape_of_segments segments selector >>= shaped)
   by_begin (inl j) =
-      given_next (BeginRightly segments) UnknownAuid Begun j.0 (reader.named segments selector >>= shaped)
-      (step (Names segments selector) BadShape Shaped (reader.named segments selector) shaped (good_decided segments selector j.1) (λ shape is. shaped_meets shape))
+      given_next (BeginRightly segments) UnknownAuid Begun j.0 (reader.shape_of_segments segments selector >>= shaped)
+      (step (Names segments selector) BadShape Shaped (reader.shape_of_segments segments selector) shaped (good_decided segments selector j.1) (λ shape is. shaped_meets shape))
   by_begin (inr j) = subst (λ (r : Result Shape UriError). Meets Filled (r >>= shaped)) (sym j.1) (given_fault (BeginRightly segments) UnknownAuid Begun j.0)
 
-  by_empty : (b : Bool) → list_any reader.is_empty segments ≡ b → Meets (Given (AreNamed segments) BadShape Filled) (cond b (Err (Fault BadShape)) (reader.named segments selector) >>= shaped)
+  by_empty : (b : Bool) → list_any reader.is_empty segments ≡ b → Meets (Given (AreNamed segments) BadShape Filled) (cond b (Err (Fault BadShape)) (reader.shape_of_segments segments selector) >>= shaped)
   by_empty true e = given_fault (AreNamed segments) BadShape Filled (one_empty segments e)
-  by_empty false e = given_next (AreNamed segments) BadShape Filled (all_named segments e) (reader.named segments selector >>= shaped) (by_begin (judged segments selector))
+  by_empty false e = given_next (AreNamed segments) BadShape Filled (all_named segments e) (reader.shape_of_segments segments selector >>= shaped) (by_begin (judged segments selector))
 
   named_meets : Meets (NamedAnswer segments selector query raw) (reader.shape_of segments selector >>= shaped)
   named_meets = by_empty (list_any reader.is_empty segments) refl
@@ -156,8 +156,8 @@ module _ (segments : List (List ℕ)) (selector query : Option (List ℕ)) (raw 
   one_begun : (x y : Answer) → BeginRightly segments → Begun x → Begun y → x ≡ y
   one_begun x y begin p q = by (judged segments selector)
     where
-      by : (BeginRightly segments × Good segments selector (reader.named segments selector)) ⊎ ((BeginRightly segments → ⊥) × (reader.named segments selector ≡ Err (Fault UnknownAuid))) → x ≡ y
-      by (inl j) = one_step (Names segments selector) BadShape Shaped (reader.named segments selector) (good_decided segments selector j.1) one_shaped x y p q
+      by : (BeginRightly segments × Good segments selector (reader.shape_of_segments segments selector)) ⊎ ((BeginRightly segments → ⊥) × (reader.shape_of_segments segments selector ≡ Err (Fault UnknownAuid))) → x ≡ y
+      by (inl j) = one_step (Names segments selector) BadShape Shaped (reader.shape_of_segments segments selector) (good_decided segments selector j.1) one_shaped x y p q
       by (inr j) = absurd (j.0 begin)
 
   one_filled : (x y : Answer) → Filled x → Filled y → x ≡ y

@@ -2,7 +2,7 @@
 use Rattle.std.specs.Prelude.{ℕ, ◌==◌, nat_eq, List, [], ◌∷◌, Option, None, Some, if◌then◌else◌}
 use Rattle.std.specs.List.{onto_first}
 use Rattle.xml_tokens.specs.Tokens.{is_other}
-use Rattle.xml_grammar.specs.Reading.{front_of, after_front}
+use Rattle.xml_grammar.specs.TextReading.{front_of, after_front}
 
 abbrev pub behind_first : List ℕ → Option (List ℕ)
 behind_first [] = None

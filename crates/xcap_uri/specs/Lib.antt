@@ -1,9 +1,9 @@
 pub mod Ancestors
 pub mod Delimiters
 pub mod Escapes
-pub mod Naming
 pub mod Numerals
 pub mod Order
+pub mod PrintedNames
 pub mod Queries
 pub mod Roots
 pub mod Shapes

@@ -1,4 +1,4 @@
 -- Definitions for private functions and proofs. No clause of a public call needs them.
 pub mod Numerals
+pub mod OctetTexts
 pub mod Results
-pub mod Spelled

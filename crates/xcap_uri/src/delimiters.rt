@@ -3,7 +3,7 @@ ghost use Rattle.std.specs.Prelude.{◌≡◌, option_map};
 ghost use Rattle.xml_tokens.specs.Tokens.{is_other};
 ghost use Rattle.xcap_uri.specs.Delimiters.{rest_after_front, front_before, rest_after};
 ghost use Rattle.xml_tokens.specs.readers.Runs.{run_len};
-ghost use Rattle.xml_grammar.specs.Reading.{after_front};
+ghost use Rattle.xml_grammar.specs.TextReading.{after_front};
 
 // The number of octets before the first `stop`.
 #[tactic(auto, using(xml_tokens::proofs::RunLemmas::run_more, xml_tokens::proofs::RunLemmas::run_done))]

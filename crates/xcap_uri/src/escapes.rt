@@ -34,7 +34,7 @@ pub fn has_whole_escapes(part: &[u8]) -> bool
 /// # Errors
 /// `BadEscape` exactly where a `%` isn't followed by two hexadecimal digits, or the octets aren't
 /// UTF-8; `NoMemory` when out of memory.
-#[tactic(auto, using(crate::proofs::Escaped::read_as_text, crate::proofs::Escaped::read_as_no_text, crate::proofs::Escaped::read_as_no_escapes))]
+#[tactic(auto, using(crate::proofs::EscapeLemmas::read_as_text, crate::proofs::EscapeLemmas::read_as_no_text, crate::proofs::EscapeLemmas::read_as_no_escapes))]
 pub fn read_part(alloc: Global, part: &[u8]) -> Result<Text, ReadError<UriFault>>
     ensures exact { StatedOr ReadError.NoMemory (text_read part.now) result }
 {

@@ -5,7 +5,7 @@ ghost use Rattle.xml_names.specs.Memory.{Answered};
 ghost use Rattle.doc_names.specs.Ids.{IsAddressable, id_text};
 ghost use Rattle.xcap_uri.specs.Queries.{IsQuery};
 ghost use Rattle.xcap_uri.specs.Roots.{IsRoot, authority_of, path_of, slash, is_root_text};
-ghost use Rattle.xcap_uri.specs.inner.Spelled.{IsOctet, IsSpelled, IsSpelledHome};
+ghost use Rattle.xcap_uri.specs.inner.OctetTexts.{IsOctet, IsSpelled, IsSpelledHome};
 ghost use Rattle.xcap_uri.specs.Targets.{IsReadableTarget, TargetResult};
 ghost use Rattle.xcap_uri.specs.declared.fault.UriFault.{UriFault};
 ghost use Rattle.xcap_uri.specs.declared.target.Target.{Target};

@@ -2,7 +2,7 @@
 ghost use Rattle.std.specs.Prelude.{◌≡◌, ℕ, true, List, Ok};
 ghost use Rattle.doc_names.specs.Ids.{id_text};
 ghost use Rattle.doc_names.specs.declared.doc_id.DocId.{DocId};
-ghost use Rattle.xcap_uri.specs.Naming.{is_encodable, is_name_of};
+ghost use Rattle.xcap_uri.specs.PrintedNames.{is_encodable, is_name_of};
 ghost use Rattle.xcap_uri.specs.Targets.{TargetResult};
 ghost use Rattle.xcap_uri.specs.declared.target.Mode.{Mode};
 ghost use Rattle.xcap_uri.specs.declared.target.Target.TheVariants.{Feed};

@@ -2,7 +2,7 @@
 //! prefixes.
 ghost use Rattle.std.specs.Prelude.{◌≡◌, ◌<◌, ◌+◌, ◌^◌, ◌∷◌, length, option_map};
 ghost use Rattle.std.specs.Str.{bytes_eq};
-ghost use Rattle.xml_grammar.specs.Reading.{after_front, head_is};
+ghost use Rattle.xml_grammar.specs.TextReading.{after_front, head_is};
 ghost use Rattle.xml_names.specs.Characters.{is_name_char, is_name_start, is_space};
 ghost use Rattle.xml_tokens.specs.readers.Runs.{run_len};
 ghost use Rattle.xcap_uri.specs.Delimiters.{rest_after_front};

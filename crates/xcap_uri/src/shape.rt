@@ -5,7 +5,8 @@ ghost use Rattle.std.specs.List.{list_any};
 ghost use Rattle.xcap_uri.specs.Shapes.{doc_of, tag_spelled};
 ghost use Rattle.xcap_uri.specs.readers.Shapes.{auid_of, document, document_feed, either_feed};
 ghost use Rattle.xcap_uri.specs.readers.Shapes.{element_feed, feed_shape, flat_shape, in_home};
-ghost use Rattle.xcap_uri.specs.readers.Shapes.{in_usage, is_empty, mode_of, named, of_usage};
+ghost use Rattle.xcap_uri.specs.readers.Shapes.{in_usage, is_empty, mode_of, shape_of_segments};
+ghost use Rattle.xcap_uri.specs.readers.Shapes.{of_usage};
 ghost use Rattle.xcap_uri.specs.readers.Shapes.{of_user, shape_of, stored_auid_of, stored_doc};
 
 use crate::fault::UriFault;
@@ -325,12 +326,12 @@ fn of_usage(
 }
 
 // What segments that aren't empty name.
-fn named(
+fn shape_of_segments(
     alloc: Global,
     segments: &mut [Text],
     selector: Option<Text>,
 ) -> Result<Shape, ReadError<UriFault>>
-    ensures exact { result ≡ named segments.old selector }
+    ensures exact { result ≡ shape_of_segments segments.old selector }
 {
     match segments.split_first_mut() {
         None => Err(ReadError::Fault(UriFault::UnknownAuid)),
@@ -376,5 +377,5 @@ pub fn shape_of(
     if has_empty(segments) {
         return Err(ReadError::Fault(UriFault::BadShape));
     }
-    named(alloc, segments, selector)
+    shape_of_segments(alloc, segments, selector)
 }

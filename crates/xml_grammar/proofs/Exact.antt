@@ -2,7 +2,7 @@
 use Rattle.std.proofs.Common.{◌≡◌, ℕ, ◌+◌, ◌<◌, ◌≤◌, true, false, List, ◌++◌, length, Result, Ok, Err, ◌⊎◌, inl, inr, ⊎_elim, refl, sym, ap, subst, ◌∙◌, append_assoc, arith}
 use Rattle.std.proofs.lemmas.List.{append_cancel_left, length-append}
 use Rattle.xml_grammar.specs.Rules.{Event, Begin, Mark, Rule, Split, sequence}
-use Rattle.xml_grammar.specs.Reading.{Stop, Syntax, Faulty, Reader, ◌>>=◌, read_sequence}
+use Rattle.xml_grammar.specs.TextReading.{Stop, Syntax, Faulty, Reader, ◌>>=◌, read_sequence}
 use Rattle.xml_grammar.specs.Answers.{Faults}
 
 -- What may follow a rule: its events, and whether the text may end that way.

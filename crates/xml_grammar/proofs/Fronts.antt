@@ -3,7 +3,7 @@ use Rattle.std.proofs.Common.{◌≡◌, ℕ, ◌+◌, ◌<◌, Bool, true, fals
 use Rattle.std.proofs.lemmas.Bool.{eqb-true, eq-eqb}
 use Rattle.std.proofs.lemmas.List.{length-append, nil_from_length}
 use Rattle.xml_grammar.specs.Rules.{AllPass, Lacks, OnlyLast}
-use Rattle.xml_grammar.specs.Reading.{starts}
+use Rattle.xml_grammar.specs.TextReading.{starts}
 use Rattle.xml_grammar.specs.readers.Functions.{all_but_last}
 
 -- of two prefixes of one text, the longer continues the other

@@ -6,7 +6,7 @@ use Rattle.std.proofs.lemmas.Bool.Decides.{nat_tests}
 use Rattle.std.proofs.lemmas.List.{append_cancel_left, length-append, append-nil}
 use Rattle.xml_grammar.specs.Digits.{Digits}
 use Rattle.xml_grammar.specs.Rules.{Event, Begin, Mark, AllPass, run, Lacks, run_without, IsNumberSoFar, number_from, number}
-use Rattle.xml_grammar.specs.Reading.{Stop, Syntax, Faulty, starts, front_of, after_front, read_run}
+use Rattle.xml_grammar.specs.TextReading.{Stop, Syntax, Faulty, starts, front_of, after_front, read_run}
 use Rattle.xml_grammar.specs.readers.Functions.{all_but_last, front_without, after_without, read_run_without, number_end, read_digits, read_number}
 use Rattle.xml_grammar.specs.Answers.{Faults}
 use Rattle.xml_grammar.proofs.Exact.{Rest, ahead, regroup, Passed, Later, IsRead, IsStopped, Outcome, Exact}

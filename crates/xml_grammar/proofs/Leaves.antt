@@ -4,7 +4,7 @@ use Rattle.std.proofs.Common.{◌≡◌, ℕ, ◌≤◌, Bool, true, false, cond
 use Rattle.std.proofs.lemmas.Bool.{eqb-true, eq-eqb}
 use Rattle.std.proofs.lemmas.List.{length-append}
 use Rattle.xml_grammar.specs.Rules.{Event, Begin, Mark, Rule, breaks, empty, one, word}
-use Rattle.xml_grammar.specs.Reading.{Stop, Syntax, Faulty, read_one, read_word}
+use Rattle.xml_grammar.specs.TextReading.{Stop, Syntax, Faulty, read_one, read_word}
 use Rattle.xml_grammar.specs.readers.Functions.{read_empty}
 use Rattle.xml_grammar.specs.Answers.{Faults}
 use Rattle.xml_grammar.proofs.Exact.{Rest, ahead, regroup, Passed, Later, IsRead, IsStopped, Outcome, Exact}

@@ -4,7 +4,7 @@ use Rattle.std.proofs.Common.{◌≡◌, ℕ, ◌+◌, ◌-◌, ◌<◌, ◌≤�
 use Rattle.std.specs.Prelude.{Option, Some, None}
 use Rattle.std.proofs.lemmas.List.{length-append, append-nil, take-append-drop, length-drop}
 use Rattle.xml_grammar.specs.Rules.{Event, Begin, Mark, Rule, word, marked, judged, trap}
-use Rattle.xml_grammar.specs.Reading.{Stop, Syntax, Faulty, Reader, ◌>>=◌, starts, read_word}
+use Rattle.xml_grammar.specs.TextReading.{Stop, Syntax, Faulty, Reader, ◌>>=◌, starts, read_word}
 use Rattle.xml_grammar.specs.readers.Functions.{read_marked, judgement, read_judged, read_trap}
 use Rattle.xml_grammar.specs.Answers.{Faults}
 use Rattle.xml_grammar.proofs.Exact.{Rest, ahead, Passed, Behind, Later, IsRead, IsAtFault, Outcome, Exact}
@@ -12,7 +12,7 @@ use Rattle.xml_grammar.proofs.Carry.{Idle, Covers, Carries, same, carried_same}
 use Rattle.xml_grammar.proofs.Leaves.{exact_word}
 use Rattle.xml_grammar.proofs.Fronts.{starts_is, no_start}
 use Rattle.xml_grammar.proofs.Laws.{Lawful, Quiet}
-use Rattle.xml_grammar.proofs.Closed.{anything}
+use Rattle.xml_grammar.proofs.ClosedRules.{anything}
 
 -- # Judged texts
 

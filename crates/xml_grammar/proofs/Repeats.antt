@@ -3,7 +3,7 @@ use Rattle.std.proofs.Common.{◌≡◌, ℕ, zero, suc, ◌<◌, ◌≤◌, Boo
 use Rattle.std.proofs.lemmas.Str.{length-le-encodes}
 use Rattle.std.proofs.lemmas.List.{length-append, nil_from_length}
 use Rattle.xml_grammar.specs.Rules.{Event, Mark, Rule, sequence, valued, Each, many}
-use Rattle.xml_grammar.specs.Reading.{Stop, Reader, ◌>>=◌}
+use Rattle.xml_grammar.specs.TextReading.{Stop, Reader, ◌>>=◌}
 use Rattle.xml_grammar.specs.readers.Functions.{read_at_most, read_many}
 use Rattle.xml_grammar.specs.Answers.{Faults}
 use Rattle.xml_grammar.proofs.Exact.{Rest, ahead, regroup, sequence_outcome, IsRead, Outcome, Exact}

@@ -2,7 +2,7 @@
 use Rattle.std.proofs.Common.{◌≡◌, ℕ, Bool, true, false, List, [], ◌∷◌, ◌++◌, ◌⊎◌, inl, inr, ⊎_elim, refl, sym, ap, subst, ◌∙◌, append_assoc}
 use Rattle.std.specs.Prelude.{Some, None}
 use Rattle.xml_grammar.specs.Rules.{Event, Begin, Mark, Rule, empty, word, run, sequence, either, many, valued, optional, between, some_of, keeping_first, keeping_second, quoted, name_rule as name_of}
-use Rattle.xml_grammar.specs.Reading.{Reader, read_run, read_some_of}
+use Rattle.xml_grammar.specs.TextReading.{Reader, read_run, read_some_of}
 use Rattle.xml_grammar.specs.readers.Functions.{read_optional, read_between, read_name_of, read_before, read_behind, read_quoted}
 use Rattle.xml_grammar.specs.Answers.{Faults}
 use Rattle.xml_grammar.proofs.Exact.{Rest, ahead, Exact, exact_sequence, exact_sequence_if}

@@ -2,14 +2,14 @@
 -- it.
 use Rattle.std.proofs.Common.{◌≡◌, ℕ, Bool, true, false, List, [], ◌∷◌, ◌++◌, ◌⊎◌, inr, refl, sym, ap, subst, ◌∙◌}
 use Rattle.xml_grammar.specs.Rules.{Event, Begin, Mark, Rule, run, either, optional, between}
-use Rattle.xml_grammar.specs.Reading.{Reader, head_is, starts, read_run}
+use Rattle.xml_grammar.specs.TextReading.{Reader, head_is, starts, read_run}
 use Rattle.xml_grammar.specs.readers.Functions.{read_either, read_optional, read_between}
 use Rattle.xml_grammar.specs.Answers.{Faults}
 use Rattle.xml_grammar.proofs.Exact.{Rest, ahead, Exact}
 use Rattle.xml_grammar.proofs.Carry.{Idle, Covers, exact_either}
 use Rattle.xml_grammar.proofs.Heads.{Heads, Starts, starts_weaker, starts_covers, heads_weaker}
 use Rattle.xml_grammar.proofs.Shapes.{exact_optional, exact_between_run, past_member}
-use Rattle.xml_grammar.proofs.Led.{Led, led_covers, next_true, next_false, next_is}
+use Rattle.xml_grammar.proofs.LedRules.{Led, led_covers, next_true, next_false, next_is}
 
 -- the first character of a text, which passes
 pub record First (p : ℕ → Bool) (text : List ℕ) : Type 0 where

@@ -2,7 +2,7 @@
 use Rattle.std.proofs.Common.{◌≡◌, ℕ, ◌<◌, Bool, true, false, cond, List, [], ◌∷◌, ◌++◌, length, drop, Result, Ok, Err, ⊎_elim, refl, sym, ap, subst, ◌∙◌, append_assoc, arith}
 use Rattle.std.proofs.lemmas.List.{append_cancel_right, length-append, append-nil}
 use Rattle.xml_grammar.specs.Rules.{AllPass, Lacks, OnlyLast, up_to}
-use Rattle.xml_grammar.specs.Reading.{Stop, Syntax, Faulty, ◌>>=◌, starts}
+use Rattle.xml_grammar.specs.TextReading.{Stop, Syntax, Faulty, ◌>>=◌, starts}
 use Rattle.xml_grammar.specs.readers.Functions.{read_up_to}
 use Rattle.xml_grammar.specs.Answers.{Faults}
 use Rattle.xml_grammar.proofs.Exact.{Rest, Outcome, Exact}

@@ -3,7 +3,7 @@
 use Rattle.std.proofs.Common.{◌≡◌, ℕ, ◌+◌, ◌<◌, ◌≤◌, true, false, List, [], ◌∷◌, ◌++◌, length, Result, Ok, Err, ◌⊎◌, inl, inr, ⊎_elim, refl, sym, ap, subst, ◌∙◌, append_assoc, arith}
 use Rattle.std.proofs.lemmas.List.{length-append, append-nil}
 use Rattle.xml_grammar.specs.Rules.{Event, Begin, Mark, Rule, breaks}
-use Rattle.xml_grammar.specs.Reading.{Stop, Syntax, Faulty, Reader, ◌>>=◌}
+use Rattle.xml_grammar.specs.TextReading.{Stop, Syntax, Faulty, Reader, ◌>>=◌}
 use Rattle.xml_grammar.specs.readers.Functions.{all_of, read_whole}
 use Rattle.xml_grammar.specs.Answers.{Faults, IsSaid, IsCalm, IsSpelled, BreaksOff, IsFirstFault, Answers}
 use Rattle.xml_grammar.proofs.Exact.{Rest, IsRead, IsStopped, IsAtFault, Outcome, Exact}

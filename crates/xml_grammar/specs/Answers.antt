@@ -3,7 +3,7 @@
 use Rattle.std.specs.Prelude.{◌≡◌, ℕ, ◌<◌, ◌≤◌, Bool, true, List, ◌++◌, ◌⊎◌, length, Result, Ok}
 use Rattle.std.specs.Prelude.{Err}
 use Rattle.xml_grammar.specs.Rules.{Begin, Mark, Rule}
-use Rattle.xml_grammar.specs.Reading.{Stop, Syntax, Faulty}
+use Rattle.xml_grammar.specs.TextReading.{Stop, Syntax, Faulty}
 
 -- Which kinds are faults, and their ranks: of two faults at one place the one with the lesser
 -- rank counts.

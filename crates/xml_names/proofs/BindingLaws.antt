@@ -5,8 +5,8 @@ use Rattle.std.specs.List.{AllByRecursion}
 use Rattle.std.specs.Option.{option_or}
 use Rattle.std.specs.Ordering.{ordering_reverse}
 use Rattle.xml_names.specs.declared.names.Decl.{Decl}
-use Rattle.xml_names.specs.Scopes.{AreInOrder, binds, bound, declared, joined, some_text, xml_prefix}
-use Rattle.xml_names.specs.inner.Gathering.{gathered, gathered_bindings, placed}
+use Rattle.xml_names.specs.Scopes.{AreInOrder, binds, bound, declared_uri, joined, some_text, xml_prefix}
+use Rattle.xml_names.specs.inner.DeclarationMaps.{gathered, gathered_bindings, placed}
 use Rattle.xml_names.proofs.ByteOrder.{order, order_same, order_equal}
 use Rattle.xml_names.proofs.ScopeLemmas.{option_or-assoc, option_or-none}
 
@@ -82,22 +82,22 @@ apart x p less = by (bytes_eq x.prefix p) refl
     by false is = refl
     by true is = let same : x.prefix ≡ p = (bytes_decides x.prefix p).0 is in let both : Equal ≡ Less = sym (order_same p) ∙ ap (order p) (sym same) ∙ less in cc
 
-none_behind : (p : List ℕ) (ds : List Decl) → Behind p ds → declared ds p ≡ None
+none_behind : (p : List ℕ) (ds : List Decl) → Behind p ds → declared_uri ds p ≡ None
 none_behind p [] h = refl
 none_behind p (x ∷ ds) h = rw (none_behind p ds h.1, apart x p h.0) refl
 
 -- the first of an ordered list is the only one of its prefix
-pub sole : (d : Decl) (p : List ℕ) (ds : List Decl) → Behind d.prefix ds → bytes_eq d.prefix p ≡ true → declared ds p ≡ None
+pub sole : (d : Decl) (p : List ℕ) (ds : List Decl) → Behind d.prefix ds → bytes_eq d.prefix p ≡ true → declared_uri ds p ≡ None
 sole d p ds h is = none_behind p ds (subst (λ q. Behind q ds) ((bytes_decides d.prefix p).0 is) h)
 
-declared-placed : (d : Decl) (ds : List Decl) (p : List ℕ) → AreInOrder ds → declared (placed d ds) p ≡ option_or (of_one d p) (declared ds p)
+declared-placed : (d : Decl) (ds : List Decl) (p : List ℕ) → AreInOrder ds → declared_uri (placed d ds) p ≡ option_or (of_one d p) (declared_uri ds p)
 declared-placed d [] p h = sym (option_or-none (of_one d p))
 declared-placed d (x ∷ ds) p h = by (order d.prefix x.prefix) refl (bytes_eq d.prefix p) refl (declared-placed d ds p h.1)
   where
-    by : (o : Ordering) → order d.prefix x.prefix ≡ o → (b : Bool) → bytes_eq d.prefix p ≡ b → declared (placed d ds) p ≡ option_or (of_one d p) (declared ds p)
-        → declared (placed d (x ∷ ds)) p ≡ option_or (of_one d p) (declared (x ∷ ds) p)
+    by : (o : Ordering) → order d.prefix x.prefix ≡ o → (b : Bool) → bytes_eq d.prefix p ≡ b → declared_uri (placed d ds) p ≡ option_or (of_one d p) (declared_uri ds p)
+        → declared_uri (placed d (x ∷ ds)) p ≡ option_or (of_one d p) (declared_uri (x ∷ ds) p)
     by Less is true e rest = rw (is, e, sole d p (x ∷ ds) (is, further d.prefix x.prefix ds is h.0) e) refl
-    by Less is false e rest = rw (is, e) (option_or-none (declared (x ∷ ds) p))
+    by Less is false e rest = rw (is, e) (option_or-none (declared_uri (x ∷ ds) p))
     by Equal is true e rest =
         let same : d.prefix ≡ x.prefix = order_equal d.prefix x.prefix is in
         rw (is, e, sole d p ds (subst (λ q. Behind q ds) (sym same) h.0) e) refl
@@ -105,13 +105,13 @@ declared-placed d (x ∷ ds) p h = by (order d.prefix x.prefix) refl (bytes_eq d
         let same : d.prefix ≡ x.prefix = order_equal d.prefix x.prefix is in
         let other : bytes_eq x.prefix p ≡ false = ap (λ q. bytes_eq q p) (sym same) ∙ e in
         rw (is, e, other) refl
-    by Greater is b e rest = rw is (ap (λ o. option_or o (of_one x p)) rest ∙ sym (option_or-assoc (of_one d p) (declared ds p) (of_one x p)))
+    by Greater is b e rest = rw is (ap (λ o. option_or o (of_one x p)) rest ∙ sym (option_or-assoc (of_one d p) (declared_uri ds p) (of_one x p)))
 
-pub declared-gathered : (acc ds : List Decl) (p : List ℕ) → AreInOrder acc → declared (gathered acc ds) p ≡ option_or (declared ds p) (declared acc p)
+pub declared-gathered : (acc ds : List Decl) (p : List ℕ) → AreInOrder acc → declared_uri (gathered acc ds) p ≡ option_or (declared_uri ds p) (declared_uri acc p)
 declared-gathered acc [] p h = refl
 declared-gathered acc (d ∷ ds) p h =
-    declared-gathered (placed d acc) ds p (AreInOrder-placed d acc h) ∙ ap (option_or (declared ds p)) (declared-placed d acc p h)
-    ∙ option_or-assoc (declared ds p) (of_one d p) (declared acc p)
+    declared-gathered (placed d acc) ds p (AreInOrder-placed d acc h) ∙ ap (option_or (declared_uri ds p)) (declared-placed d acc p h)
+    ∙ option_or-assoc (declared_uri ds p) (of_one d p) (declared_uri acc p)
 
 -- a declaration of another prefix than `xml` that doesn't bind has an empty URI
 unbinding : (x : Decl) (p : List ℕ) → bytes_eq p xml_prefix ≡ false → bytes_eq x.prefix p ≡ true → binds x ≡ false → x.uri ≡ []
@@ -124,17 +124,17 @@ unbinding x p other e is = by (bytes_eq x.uri []) refl
     by true f = (bytes_decides x.uri []).0 f
     by false f = let both : true ≡ false = rw (f, named) at is in cc
 
-declared-binds : (ds : List Decl) (p : List ℕ) → bytes_eq p xml_prefix ≡ false → AreInOrder ds → some_text (declared (filter binds ds) p) ≡ some_text (declared ds p)
+declared-binds : (ds : List Decl) (p : List ℕ) → bytes_eq p xml_prefix ≡ false → AreInOrder ds → some_text (declared_uri (filter binds ds) p) ≡ some_text (declared_uri ds p)
 declared-binds [] p other h = refl
 declared-binds (x ∷ ds) p other h = by (binds x) refl (bytes_eq x.prefix p) refl (declared-binds ds p other h.1)
   where
-    by : (b : Bool) → binds x ≡ b → (e : Bool) → bytes_eq x.prefix p ≡ e → some_text (declared (filter binds ds) p) ≡ some_text (declared ds p)
-        → some_text (declared (filter binds (x ∷ ds)) p) ≡ some_text (declared (x ∷ ds) p)
+    by : (b : Bool) → binds x ≡ b → (e : Bool) → bytes_eq x.prefix p ≡ e → some_text (declared_uri (filter binds ds) p) ≡ some_text (declared_uri ds p)
+        → some_text (declared_uri (filter binds (x ∷ ds)) p) ≡ some_text (declared_uri (x ∷ ds) p)
     by true is true e rest = rw (is, e, sole x p ds h.0 e, sole x p (filter binds ds) (Behind-filter x.prefix binds ds h.0) e) refl
-    by true is false e rest = rw (is, e, option_or-none (declared ds p), option_or-none (declared (filter binds ds) p)) rest
+    by true is false e rest = rw (is, e, option_or-none (declared_uri ds p), option_or-none (declared_uri (filter binds ds) p)) rest
     by false is true e rest =
         rw (is, e, sole x p ds h.0 e, sole x p (filter binds ds) (Behind-filter x.prefix binds ds h.0) e) (ap (λ u. some_text (Some u)) (sym (unbinding x p other e is)))
-    by false is false e rest = rw (is, e, option_or-none (declared ds p)) rest
+    by false is false e rest = rw (is, e, option_or-none (declared_uri ds p)) rest
 
 pub bound-gathered_bindings : (c : List (List Decl)) (p : List ℕ) → bound (gathered_bindings c ∷ []) p ≡ bound c p
 bound-gathered_bindings c p = by (bytes_eq p xml_prefix) refl
@@ -144,7 +144,7 @@ bound-gathered_bindings c p = by (bytes_eq p xml_prefix) refl
     by false is =
         rw (is, append-nil (gathered_bindings c))
         (declared-binds (gathered [] (joined c)) p is (AreInOrder-gathered [] (joined c) tt)
-        ∙ ap some_text (declared-gathered [] (joined c) p tt ∙ option_or-none (declared (joined c) p)))
+        ∙ ap some_text (declared-gathered [] (joined c) p tt ∙ option_or-none (declared_uri (joined c) p)))
 
 -- ---- no other list
 from_binds : (d : Decl) → IsTrue (binds d) → (bytes_eq d.uri [] ≡ false) × (bytes_eq d.prefix xml_prefix ≡ false)
@@ -160,11 +160,11 @@ some_of [] h = cc
 some_of (c ∷ cs) h = refl
 
 -- what the first of an ordered list declares
-of_first : (d : Decl) (ds : List Decl) → Behind d.prefix ds → IsTrue (binds d) → some_text (declared (d ∷ ds) d.prefix) ≡ Some d.uri
+of_first : (d : Decl) (ds : List Decl) → Behind d.prefix ds → IsTrue (binds d) → some_text (declared_uri (d ∷ ds) d.prefix) ≡ Some d.uri
 of_first d ds h b = rw (none_behind d.prefix ds h, (bytes_decides d.prefix d.prefix).1 refl) (some_of d.uri (from_binds d b).0)
 
 abbrev Alike : List Decl → List Decl → Type 0
-Alike ds es = (p : List ℕ) → bytes_eq p xml_prefix ≡ false → some_text (declared ds p) ≡ some_text (declared es p)
+Alike ds es = (p : List ℕ) → bytes_eq p xml_prefix ≡ false → some_text (declared_uri ds p) ≡ some_text (declared_uri es p)
 
 -- the first of one list is declared in the other
 not_behind : (d : Decl) (ds es : List Decl) → Behind d.prefix ds → IsTrue (binds d) → Behind d.prefix es → Alike (d ∷ ds) es → ⊥
@@ -174,12 +174,12 @@ not_behind d ds es h b g alike =
 tails : (d e : Decl) (ds es : List Decl) → d.prefix ≡ e.prefix → Behind d.prefix ds → Behind e.prefix es → Alike (d ∷ ds) (e ∷ es) → Alike ds es
 tails d e ds es same h g alike p other = by (bytes_eq d.prefix p) refl
   where
-    by : (b : Bool) → bytes_eq d.prefix p ≡ b → some_text (declared ds p) ≡ some_text (declared es p)
+    by : (b : Bool) → bytes_eq d.prefix p ≡ b → some_text (declared_uri ds p) ≡ some_text (declared_uri es p)
     by true is =
         ap some_text (sole d p ds h is ∙ sym (sole e p es g (ap (λ q. bytes_eq q p) (sym same) ∙ is)))
     by false is =
-        let first = ap some_text (ap (λ b. option_or (declared ds p) (cond b (Some d.uri) None)) is ∙ option_or-none (declared ds p)) in
-        let second = ap some_text (ap (λ b. option_or (declared es p) (cond b (Some e.uri) None)) (ap (λ q. bytes_eq q p) (sym same) ∙ is) ∙ option_or-none (declared es p)) in
+        let first = ap some_text (ap (λ b. option_or (declared_uri ds p) (cond b (Some d.uri) None)) is ∙ option_or-none (declared_uri ds p)) in
+        let second = ap some_text (ap (λ b. option_or (declared_uri es p) (cond b (Some e.uri) None)) (ap (λ q. bytes_eq q p) (sym same) ∙ is) ∙ option_or-none (declared_uri es p)) in
         sym first ∙ alike p other ∙ second
 
 one_list : (ds es : List Decl) → AreInOrder ds → AreInOrder es → AllByRecursion (λ d. IsTrue (binds d)) ds → AllByRecursion (λ d. IsTrue (binds d)) es → Alike ds es → ds ≡ es
@@ -196,7 +196,7 @@ one_list (d ∷ ds) (e ∷ es) h g b a alike = by (order d.prefix e.prefix) refl
     by Equal is rest =
         let same : d.prefix ≡ e.prefix = order_equal d.prefix e.prefix is in
         let uris : Some d.uri ≡ Some e.uri =
-        sym (of_first d ds h.0 b.0) ∙ alike d.prefix (from_binds d b.0).1 ∙ ap (λ p. some_text (declared (e ∷ es) p)) same ∙ of_first e es g.0 a.0 in
+        sym (of_first d ds h.0 b.0) ∙ alike d.prefix (from_binds d b.0).1 ∙ ap (λ p. some_text (declared_uri (e ∷ es) p)) same ∙ of_first e es g.0 a.0 in
         let uri : d.uri ≡ e.uri = cc in
         λ i. record { prefix = same i; uri = uri i } ∷ rest (tails d e ds es same h.0 g.0 alike) i
 
@@ -204,8 +204,8 @@ pub gathered_bindings-sole : (c : List (List Decl)) (ds : List Decl) → AreInOr
     → ds ≡ gathered_bindings c
 gathered_bindings-sole c ds h b alike = one_list ds (gathered_bindings c) h (AreInOrder-gathered_bindings c) b (binds-gathered_bindings c) (λ p other. under p other)
   where
-    plain : (l : List Decl) (p : List ℕ) → bytes_eq p xml_prefix ≡ false → bound (l ∷ []) p ≡ some_text (declared l p)
+    plain : (l : List Decl) (p : List ℕ) → bytes_eq p xml_prefix ≡ false → bound (l ∷ []) p ≡ some_text (declared_uri l p)
     plain l p other = rw (other, append-nil l) refl
 
-    under : (p : List ℕ) → bytes_eq p xml_prefix ≡ false → some_text (declared ds p) ≡ some_text (declared (gathered_bindings c) p)
+    under : (p : List ℕ) → bytes_eq p xml_prefix ≡ false → some_text (declared_uri ds p) ≡ some_text (declared_uri (gathered_bindings c) p)
     under p other = sym (plain ds p other) ∙ alike p ∙ sym (bound-gathered_bindings c p) ∙ plain (gathered_bindings c) p other

@@ -6,8 +6,8 @@ use Rattle.std.specs.List.{AllByRecursion, cons_option, list_any}
 use Rattle.std.specs.Option.{option_or}
 use Rattle.std.specs.Ordering.{is_lt, ordering_reverse}
 use Rattle.xml_names.specs.declared.names.Decl.{Decl}
-use Rattle.xml_names.specs.Scopes.{AreInOrder, binding, bindings_in, binds, bound, decl_of, declared, in_order, is_before, joined, some_text, xml_prefix, xml_uri}
-use Rattle.xml_names.specs.inner.Gathering.{gathered_bindings}
+use Rattle.xml_names.specs.Scopes.{AreInOrder, binding, bindings_in, binds, bound, decl_of, declared_uri, in_order, is_before, joined, some_text, xml_prefix, xml_uri}
+use Rattle.xml_names.specs.inner.DeclarationMaps.{gathered_bindings}
 use Rattle.xml_names.proofs.BindingLaws.{Behind, gathered_bindings-sole}
 use Rattle.xml_names.proofs.ByteOrder.{order, order_equal}
 use Rattle.xml_names.proofs.ScopeLemmas.{option_or-none}
@@ -150,7 +150,7 @@ made q (Some (x ∷ xs)) d false e h =
     (ap (λ (t : Decl). t.prefix) (sym is), subst (λ (t : Decl). IsTrue (binds t)) is (ap not e))
 
 binding-is : (c : List (List Decl)) (q : List ℕ) (d : Decl) → binding c q ≡ Some d → (d.prefix ≡ q) × IsTrue (binds d)
-binding-is c q d h = made q (declared (joined c) q) d (bytes_eq q xml_prefix) refl h
+binding-is c q d h = made q (declared_uri (joined c) q) d (bytes_eq q xml_prefix) refl h
 
 -- ---- the bindings of these prefixes
 
@@ -185,29 +185,29 @@ abbrev if-in : Bool → Option (List ℕ) → Option (List ℕ)
 if-in is u = cond is u None
 
 -- p is equal to this prefix, or is another one
-here : (p : List ℕ) (rest : List Decl) (m : Bool) (u : Option (List ℕ)) → declared rest p ≡ if-in m u → declared (cons_option (option_map (decl_of p) u) rest) p ≡ u
+here : (p : List ℕ) (rest : List Decl) (m : Bool) (u : Option (List ℕ)) → declared_uri rest p ≡ if-in m u → declared_uri (cons_option (option_map (decl_of p) u) rest) p ≡ u
 here p rest true None h = h
 here p rest false None h = h
 here p rest true (Some x) h = ap (λ (o : Option (List ℕ)). option_or o (cond (bytes_eq p p) (Some x) None)) h
 here p rest false (Some x) h =
     ap (λ (o : Option (List ℕ)). option_or o (cond (bytes_eq p p) (Some x) None)) h ∙ ap (λ (b : Bool). cond b (Some x) None) ((bytes_decides p p).1 refl)
 
-elsewhere : (p q : List ℕ) (rest : List Decl) (o : Option Decl) → ((d : Decl) → o ≡ Some d → d.prefix ≡ q) → bytes_eq q p ≡ false → declared (cons_option o rest) p ≡ declared rest p
+elsewhere : (p q : List ℕ) (rest : List Decl) (o : Option Decl) → ((d : Decl) → o ≡ Some d → d.prefix ≡ q) → bytes_eq q p ≡ false → declared_uri (cons_option o rest) p ≡ declared_uri rest p
 elsewhere p q rest None of e = refl
 elsewhere p q rest (Some d) of e =
-    ap (λ (b : Bool). option_or (declared rest p) (cond b (Some d.uri) None)) (ap (λ (x : List ℕ). bytes_eq x p) (of d refl) ∙ e) ∙ option_or-none (declared rest p)
+    ap (λ (b : Bool). option_or (declared_uri rest p) (cond b (Some d.uri) None)) (ap (λ (x : List ℕ). bytes_eq x p) (of d refl) ∙ e) ∙ option_or-none (declared_uri rest p)
 
 module _ (c : List (List Decl)) (p : List ℕ) (other : bytes_eq p xml_prefix ≡ false) where
-  declared-told-step : (q : List ℕ) (qs : List (List ℕ)) (b : Bool) → bytes_eq q p ≡ b → declared (told c qs) p ≡ if-in (is_in p qs) (bound c p) → declared (told c (q ∷ qs)) p ≡ if-in (is_in p (q ∷ qs)) (bound c p)
+  declared-told-step : (q : List ℕ) (qs : List (List ℕ)) (b : Bool) → bytes_eq q p ≡ b → declared_uri (told c qs) p ≡ if-in (is_in p qs) (bound c p) → declared_uri (told c (q ∷ qs)) p ≡ if-in (is_in p (q ∷ qs)) (bound c p)
   declared-told-step q qs true e by =
       let is : binding c q ≡ option_map (decl_of p) (bound c p) =
       ap (binding c) ((bytes_decides q p).0 e) ∙ ap (λ (b : Bool). cond b None (option_map (decl_of p) (bound c p))) other in
-      ap (λ (o : Option Decl). declared (cons_option o (told c qs)) p) is ∙ here p (told c qs) (is_in p qs) (bound c p) by
+      ap (λ (o : Option Decl). declared_uri (cons_option o (told c qs)) p) is ∙ here p (told c qs) (is_in p qs) (bound c p) by
       ∙ sym (ap (λ (b : Bool). if-in (b || is_in p qs) (bound c p)) e)
   declared-told-step q qs false e by =
       elsewhere p q (told c qs) (binding c q) (λ d h. (binding-is c q d h).0) e ∙ by ∙ sym (ap (λ (b : Bool). if-in (b || is_in p qs) (bound c p)) e)
 
-  declared-told : (qs : List (List ℕ)) → declared (told c qs) p ≡ if-in (is_in p qs) (bound c p)
+  declared-told : (qs : List (List ℕ)) → declared_uri (told c qs) p ≡ if-in (is_in p qs) (bound c p)
   declared-told [] = refl
   declared-told (q ∷ qs) = declared-told-step q qs (bytes_eq q p) refl (declared-told qs)
 
@@ -216,13 +216,13 @@ module _ (c : List (List Decl)) (p : List ℕ) (other : bytes_eq p xml_prefix �
 abbrev prefixes : List Decl → List (List ℕ)
 prefixes ds = map (λ (d : Decl). d.prefix) ds
 
-undeclared-step : (p : List ℕ) (d : Decl) (ds : List Decl) (b : Bool) → bytes_eq d.prefix p ≡ b → is_in p (prefixes (d ∷ ds)) ≡ false → (is_in p (prefixes ds) ≡ false → declared ds p ≡ None) → declared (d ∷ ds) p ≡ None
+undeclared-step : (p : List ℕ) (d : Decl) (ds : List Decl) (b : Bool) → bytes_eq d.prefix p ≡ b → is_in p (prefixes (d ∷ ds)) ≡ false → (is_in p (prefixes ds) ≡ false → declared_uri ds p ≡ None) → declared_uri (d ∷ ds) p ≡ None
 undeclared-step p d ds true e h by = let clash : true ≡ false = sym (ap (λ (b : Bool). b || is_in p (prefixes ds)) e) ∙ h in cc
 undeclared-step p d ds false e h by =
-    ap (λ (b : Bool). option_or (declared ds p) (cond b (Some d.uri) None)) e ∙ option_or-none (declared ds p)
+    ap (λ (b : Bool). option_or (declared_uri ds p) (cond b (Some d.uri) None)) e ∙ option_or-none (declared_uri ds p)
     ∙ by (sym (ap (λ (b : Bool). b || is_in p (prefixes ds)) e) ∙ h)
 
-undeclared : (p : List ℕ) (ds : List Decl) → is_in p (prefixes ds) ≡ false → declared ds p ≡ None
+undeclared : (p : List ℕ) (ds : List Decl) → is_in p (prefixes ds) ≡ false → declared_uri ds p ≡ None
 undeclared p [] h = refl
 undeclared p (d ∷ ds) h = undeclared-step p d ds (bytes_eq d.prefix p) refl h (undeclared p ds)
 
@@ -232,19 +232,19 @@ again (Some []) = refl
 again (Some (c ∷ cs)) = refl
 
 module _ (c : List (List Decl)) (p : List ℕ) where
-  bound-plain : (l : List (List Decl)) → bytes_eq p xml_prefix ≡ false → bound l p ≡ some_text (declared (joined l) p)
-  bound-plain l other = ap (λ (b : Bool). cond b (Some xml_uri) (some_text (declared (joined l) p))) other
+  bound-plain : (l : List (List Decl)) → bytes_eq p xml_prefix ≡ false → bound l p ≡ some_text (declared_uri (joined l) p)
+  bound-plain l other = ap (λ (b : Bool). cond b (Some xml_uri) (some_text (declared_uri (joined l) p))) other
 
   same-text : (m : Bool) → bytes_eq p xml_prefix ≡ false → is_in p (prefixes (joined c)) ≡ m → some_text (if-in m (bound c p)) ≡ bound c p
-  same-text true other e = ap some_text (bound-plain c other) ∙ again (declared (joined c) p) ∙ sym (bound-plain c other)
+  same-text true other e = ap some_text (bound-plain c other) ∙ again (declared_uri (joined c) p) ∙ sym (bound-plain c other)
   same-text false other e = sym (bound-plain c other ∙ ap some_text (undeclared p (joined c) e))
 
   bound-step : (b : Bool) → bytes_eq p xml_prefix ≡ b → bound (bindings_in c ∷ []) p ≡ bound c p
   bound-step true is =
-      ap (λ (b : Bool). cond b (Some xml_uri) (some_text (declared (joined (bindings_in c ∷ [])) p))) is
-      ∙ sym (ap (λ (b : Bool). cond b (Some xml_uri) (some_text (declared (joined c) p))) is)
+      ap (λ (b : Bool). cond b (Some xml_uri) (some_text (declared_uri (joined (bindings_in c ∷ [])) p))) is
+      ∙ sym (ap (λ (b : Bool). cond b (Some xml_uri) (some_text (declared_uri (joined c) p))) is)
   bound-step false is =
-      bound-plain (bindings_in c ∷ []) is ∙ ap (λ (l : List Decl). some_text (declared l p)) (append-nil (bindings_in c))
+      bound-plain (bindings_in c ∷ []) is ∙ ap (λ (l : List Decl). some_text (declared_uri l p)) (append-nil (bindings_in c))
       ∙ ap some_text (declared-told c p is (in_order (prefixes (joined c))) ∙ ap (λ (b : Bool). if-in b (bound c p)) (in-order-in p (prefixes (joined c))))
       ∙ same-text (is_in p (prefixes (joined c))) is refl
 

@@ -5,7 +5,7 @@ use Rattle.std.specs.Map.{values_of}
 use Rattle.std.specs.Cmp.Lexicographic.{slice_cmp}
 use Rattle.std.specs.Ordering.{nat_cmp}
 use Rattle.xml_names.specs.declared.names.Decl.{Decl}
-use Rattle.xml_names.specs.inner.Gathering.{AreKeyed, gathered, placed, values_in}
+use Rattle.xml_names.specs.inner.DeclarationMaps.{AreKeyed, gathered, placed, values_in}
 use Rattle.xml_names.proofs.ByteOrder.{order, order-encodes, order_equal}
 
 -- the order of the keys

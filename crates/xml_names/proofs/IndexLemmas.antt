@@ -6,8 +6,8 @@ use Rattle.std.specs.Option.{option_or}
 use Rattle.std.specs.Ordering.{is_lt, ordering_index, ordering_reverse}
 use Rattle.std.proofs.lemmas.List.Sorted.{searchable_from_sorted}
 use Rattle.xml_names.specs.declared.names.Decl.{Decl}
-use Rattle.xml_names.specs.inner.Gathering.{IsIndex}
-use Rattle.xml_names.specs.Scopes.{AreInOrder, declared}
+use Rattle.xml_names.specs.inner.DeclarationMaps.{IsIndex}
+use Rattle.xml_names.specs.Scopes.{AreInOrder, declared_uri}
 use Rattle.xml_names.proofs.BindingLaws.{AreInOrder-gathered, declared-gathered, sole}
 use Rattle.xml_names.proofs.ByteOrder.{order, order_same, order_equal}
 use Rattle.xml_names.proofs.ScopeLemmas.{option_or-none}
@@ -17,9 +17,9 @@ pub in_order : (index ds : List Decl) → IsIndex index ds → AreInOrder index
 in_order index ds (inl none) = subst AreInOrder (sym none) tt
 in_order index ds (inr all) = subst AreInOrder (sym all) (AreInOrder-gathered [] ds tt)
 
-pub declared-index : (index ds : List Decl) (p : List ℕ) → IsIndex index ds → index ≢ [] → declared index p ≡ declared ds p
+pub declared-index : (index ds : List Decl) (p : List ℕ) → IsIndex index ds → index ≢ [] → declared_uri index p ≡ declared_uri ds p
 declared-index index ds p (inl none) some = absurd (some none)
-declared-index index ds p (inr all) some = ap (λ (l : List Decl). declared l p) all ∙ declared-gathered [] ds p tt ∙ option_or-none (declared ds p)
+declared-index index ds p (inr all) some = ap (λ (l : List Decl). declared_uri l p) all ∙ declared-gathered [] ds p tt ∙ option_or-none (declared_uri ds p)
 
 -- ---- a search for a prefix
 abbrev pub seen : List (Bor Decl) → List Decl
@@ -32,7 +32,7 @@ module _ (p : List ℕ) where
 
   -- a declaration of the prefix is the only one
   pub found : (ls : List (Bor Decl)) → AreInOrder (seen ls) → (i : ℕ) (d : Bor Decl) → i < length ls → to_prefix (get_or ls i d) ≡ Equal
-      → declared (seen ls) p ≡ Some (get_or ls i d).now.uri
+      → declared_uri (seen ls) p ≡ Some (get_or ls i d).now.uri
   found [] h i d within is = absurd (omega (arith, within))
   found (x ∷ ls) h zero d within is =
       let same : bytes_eq x.now.prefix p ≡ true = (bytes_decides x.now.prefix p).1 (order_equal x.now.prefix p is) in
@@ -47,7 +47,7 @@ module _ (p : List ℕ) where
       by false is = refl
       by true is = absurd (other (ap (λ (q : List ℕ). order q p) ((bytes_decides x.now.prefix p).0 is) ∙ order_same p))
 
-  missing : (ls : List (Bor Decl)) → ((k : ℕ) (d : Bor Decl) → k < length ls → to_prefix (get_or ls k d) ≢ Equal) → declared (seen ls) p ≡ None
+  missing : (ls : List (Bor Decl)) → ((k : ℕ) (d : Bor Decl) → k < length ls → to_prefix (get_or ls k d) ≢ Equal) → declared_uri (seen ls) p ≡ None
   missing [] h = refl
   missing (x ∷ ls) h = rw (missing ls (λ k d within. h (suc k) d (omega (arith, within))), unlike x (h 0 x (omega arith))) refl
 
@@ -68,7 +68,7 @@ module _ (p : List ℕ) where
 
   -- a search that ends between the lesser and the greater ones found nothing
   pub not_found : (ls : List (Bor Decl)) → AreInOrder (seen ls) → (i : ℕ)
-      → (IsNonDecreasingBy (λ x. ordering_index (to_prefix x)) ls → IsPartitionPoint (λ x. to_prefix x ≡ Less) (λ x. to_prefix x ≡ Greater) ls i) → declared (seen ls) p ≡ None
+      → (IsNonDecreasingBy (λ x. ordering_index (to_prefix x)) ls → IsPartitionPoint (λ x. to_prefix x ≡ Less) (λ x. to_prefix x ≡ Greater) ls i) → declared_uri (seen ls) p ≡ None
   not_found ls h i parts = missing ls (λ k d short is.
       let halves = parts (searchable ls h) in
       elim (side k i) [

@@ -1,7 +1,7 @@
 pub mod Attributes
 pub mod Characters
 pub mod Comments
-pub mod Expanded
+pub mod ExpandedNames
 pub mod Limits
 pub mod Markup
 pub mod Memory

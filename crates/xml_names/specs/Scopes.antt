@@ -31,9 +31,10 @@ joined [] = []
 joined (ds ∷ c) = ds ++ joined c
 
 -- the URI of the last declaration of a prefix
-abbrev pub declared : List Decl → List ℕ → Option (List ℕ)
-declared [] p = None
-declared (d ∷ ds) p = option_or (declared ds p) (if bytes_eq d.prefix p then Some d.uri else None)
+abbrev pub declared_uri : List Decl → List ℕ → Option (List ℕ)
+declared_uri [] p = None
+declared_uri (d ∷ ds) p =
+    option_or (declared_uri ds p) (if bytes_eq d.prefix p then Some d.uri else None)
 
 -- an empty URI binds nothing, and hides outer declarations
 abbrev pub some_text : Option (List ℕ) → Option (List ℕ)
@@ -44,7 +45,7 @@ some_text (Some (c ∷ cs)) = Some (c ∷ cs)
 -- the URI that a prefix is bound to: by the nearest declaration, and `xml` always to its own
 -- namespace
 abbrev pub bound : List (List Decl) → List ℕ → Option (List ℕ)
-bound c p = if bytes_eq p xml_prefix then Some xml_uri else some_text (declared (joined c) p)
+bound c p = if bytes_eq p xml_prefix then Some xml_uri else some_text (declared_uri (joined c) p)
 
 -- ---- all bindings of a scope, in order
 

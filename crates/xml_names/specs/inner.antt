@@ -1,5 +1,5 @@
 -- Definitions for private functions and proofs; no public clause needs them.
 pub mod Codes
-pub mod Gathering
+pub mod DeclarationMaps
 pub mod TextBytes
 pub mod Words

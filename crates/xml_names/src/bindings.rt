@@ -1,7 +1,8 @@
 //! All bindings of a scope, in the order of their prefixes.
 ghost use Rattle.std.specs.Prelude.{◌≡◌, map, filter, IfOk, OnOk};
 ghost use Rattle.xml_names.specs.Scopes.{bindings_in, binds};
-ghost use Rattle.xml_names.specs.inner.Gathering.{AreKeyed, gathered, gathered_bindings, values_in};
+ghost use Rattle.xml_names.specs.inner.DeclarationMaps.{AreKeyed, gathered, gathered_bindings};
+ghost use Rattle.xml_names.specs.inner.DeclarationMaps.{values_in};
 
 use crate::names::{Decl, push_decl_copy};
 use crate::prefixes::is_xml;

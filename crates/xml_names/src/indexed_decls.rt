@@ -1,8 +1,8 @@
 //! The declarations of an element, with an index if they are many.
 ghost use Rattle.std.specs.Prelude.{◌≡◌, ◌==◌, [], length, map, IfOk};
 ghost use Rattle.std.specs.Option.{option_copied};
-ghost use Rattle.xml_names.specs.inner.Gathering.{gathered};
-ghost use Rattle.xml_names.specs.Scopes.{AreInOrder, declared};
+ghost use Rattle.xml_names.specs.inner.DeclarationMaps.{gathered};
+ghost use Rattle.xml_names.specs.Scopes.{AreInOrder, declared_uri};
 
 use crate::bindings::gather;
 use crate::names::{Decl, Prefix};
@@ -27,7 +27,7 @@ pub struct IndexedDecls<'a> {
 impl<'a> Model for IndexedDecls<'a> {
     ghost use Rattle.std.specs.Prelude.{List, map};
     ghost use Rattle.xml_names.specs.inner.Codes.{decls_code};
-    ghost use Rattle.xml_names.specs.inner.Gathering.{IsIndex};
+    ghost use Rattle.xml_names.specs.inner.DeclarationMaps.{IsIndex};
     ghost use Rattle.xml_names.specs.declared.names.Decl.{Decl};
 
     ghost Value = { List Decl };
@@ -75,10 +75,10 @@ impl<'a> IndexedDecls<'a> {
     /// is undeclared. Does not allocate.
     #[inline(never)]
     pub fn uri_of(&self, prefix: &Prefix) -> Option<&'a Text>
-        ensures exact { option_copied result ≡ declared self.now prefix.now }
+        ensures exact { option_copied result ≡ declared_uri self.now prefix.now }
     {
         if self.index.is_empty() {
-            return prefixes::declared(self.decls, prefix.as_str());
+            return prefixes::declared_uri(self.decls, prefix.as_str());
         }
         look_up(&self.index, prefix)
     }
@@ -101,7 +101,7 @@ fn index_of<'a>(alloc: Global, decls: &'a [Decl]) -> Result<Vec<&'a Decl>, Alloc
 // The URI of a prefix in an index.
 fn look_up<'a>(index: &[&'a Decl], prefix: &Prefix) -> Option<&'a Text>
     requires { AreInOrder (map (λ x. x.now) index.now) }
-    ensures exact { option_copied result ≡ declared (map (λ x. x.now) index.now) prefix.now }
+    ensures exact { option_copied result ≡ declared_uri (map (λ x. x.now) index.now) prefix.now }
 {
     match index.binary_search_by(|decl| decl.prefix.cmp(prefix)) {
         Ok(place) => Some(&index[place].uri),

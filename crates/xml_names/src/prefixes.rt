@@ -2,7 +2,7 @@
 ghost use Rattle.std.specs.Prelude.{◌≡◌, ◌<◌, [], map, option_map, chars};
 ghost use Rattle.std.specs.Option.{option_copied};
 ghost use Rattle.std.specs.Str.{bytes_eq};
-ghost use Rattle.xml_names.specs.Scopes.{declared, joined, some_text, xml_prefix, xml_uri};
+ghost use Rattle.xml_names.specs.Scopes.{declared_uri, joined, some_text, xml_prefix, xml_uri};
 ghost use Rattle.xml_names.specs.Scopes.{xmlns_prefix};
 
 use crate::names::Decl;
@@ -44,11 +44,11 @@ pub fn some_text<'a>(uri: Option<&'a Text>) -> Option<&'a str>
 #[tactic(auto, using(crate::proofs::ScopeLemmas::declared_steps))]
 pub fn nearest<'a>(lists: &[&'a [Decl]], prefix: &str) -> Option<&'a Text>
     ensures exact { option_copied result
-        ≡ declared (joined (map (λ x. x.now) lists.now)) (chars prefix.now) }
+        ≡ declared_uri (joined (map (λ x. x.now) lists.now)) (chars prefix.now) }
 {
     let mut found = None;
     for list in lists {
-        if let Some(uri) = declared(list, prefix) {
+        if let Some(uri) = declared_uri(list, prefix) {
             found = Some(uri);
         }
     }
@@ -56,8 +56,8 @@ pub fn nearest<'a>(lists: &[&'a [Decl]], prefix: &str) -> Option<&'a Text>
 }
 
 // The URI that a list declares for a prefix.
-pub(crate) fn declared<'a>(decls: &'a [Decl], prefix: &str) -> Option<&'a Text>
-    ensures exact { option_copied result ≡ declared decls.now (chars prefix.now) }
+pub(crate) fn declared_uri<'a>(decls: &'a [Decl], prefix: &str) -> Option<&'a Text>
+    ensures exact { option_copied result ≡ declared_uri decls.now (chars prefix.now) }
 {
     let mut found = None;
     for decl in decls {

@@ -5,7 +5,7 @@ use Rattle.std.specs.Str.{IsCharBoundary}
 use Rattle.std.specs.Int.{is_in_range as within}
 use Rattle.std.proofs.lemmas.Bool.{and_right, eqb-true, lt-leb, ltb-false, ltb-true, ne_eqb, or_from, true≢false}
 use Rattle.std.proofs.lemmas.Str.{byte_from_char, chars-nil, encodes-chars, IsCharBoundary-after_ascii}
-use Rattle.xml_grammar.specs.Reading.{Syntax, head_is, starts, read_word}
+use Rattle.xml_grammar.specs.TextReading.{Syntax, head_is, starts, read_word}
 use Rattle.xml_names.specs.Characters.{is_space}
 use Rattle.xml_tokens.specs.declared.fault_kind.FaultKind.{FaultKind}
 use Rattle.xml_tokens.proofs.TextBytes.{ascii_first, first_at}

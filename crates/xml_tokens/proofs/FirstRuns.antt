@@ -3,7 +3,7 @@ use Rattle.std.proofs.Common.{◌≡◌, ℕ, ◌<◌, ◌≤◌, Bool, true, fa
 use Rattle.std.specs.Prelude.{nat_eq}
 use Rattle.std.proofs.lemmas.Bool.{eqb-true, lt-leb, ne_eqb, or_left, or_right}
 use Rattle.std.specs.Int.{is_in_range as within}
-use Rattle.xml_grammar.specs.Reading.{Syntax, head_is, front_of, after_front}
+use Rattle.xml_grammar.specs.TextReading.{Syntax, head_is, front_of, after_front}
 use Rattle.xml_grammar.specs.readers.Functions.{read_name_of}
 use Rattle.xml_names.specs.Characters.{is_name_start, is_joining, is_name_char}
 use Rattle.xml_tokens.specs.declared.fault_kind.FaultKind.{FaultKind}

@@ -1,11 +1,11 @@
 pub mod AheadLemmas
-pub mod Answering
+pub mod CharacterTests
 pub mod ClassLemmas
 pub mod FirstRuns
 pub mod Loops
+pub mod MemoryAnswers
 pub mod NameFronts
 pub mod NameLemmas
-pub mod Passing
 pub mod PlainFronts
 pub mod PlainRuns
 pub mod RawLetters

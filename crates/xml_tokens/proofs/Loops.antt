@@ -1,7 +1,7 @@
 -- A loop over members reads them all: what it has made of the members that it has read, and the
 -- members that are left.
 use Rattle.std.proofs.Common.{◌≡◌, ℕ, zero, suc, ◌+◌, ◌-◌, ◌<◌, ◌≤◌, Bool, true, false, List, [], ◌∷◌, Result, Ok, Err, chars, refl, ap, ◌∙◌, arith}
-use Rattle.xml_grammar.specs.Reading.{Stop, Syntax, Faulty, Reader, ◌>>=◌, read_sequence, read_valued}
+use Rattle.xml_grammar.specs.TextReading.{Stop, Syntax, Faulty, Reader, ◌>>=◌, read_sequence, read_valued}
 use Rattle.xml_grammar.specs.readers.Functions.{read_at_most, read_many, read_between}
 use Rattle.xml_tokens.specs.declared.fault_kind.FaultKind.{FaultKind}
 use Rattle.xml_tokens.specs.declared.parse_error.ParseError.{ParseError as CodeStop}

@@ -3,7 +3,7 @@ use Rattle.std.proofs.Common.{◌≡◌, ℕ, ◌≤◌, ◌≢◌, Bool, true, 
 use Rattle.std.specs.List.{list_all}
 use Rattle.std.specs.Prelude.{nat_eq, nat_le, not}
 use Rattle.std.proofs.lemmas.Bool.{and_parts, eqb-true, le-leb, ne_eqb}
-use Rattle.xml_grammar.specs.Reading.{Stop, front_of, after_front}
+use Rattle.xml_grammar.specs.TextReading.{Stop, front_of, after_front}
 use Rattle.xml_grammar.specs.readers.Functions.{front_without, after_without}
 use Rattle.std.specs.Int.{is_in_range as within}
 use Rattle.xml_tokens.specs.declared.fault_kind.FaultKind.{FaultKind}

@@ -3,7 +3,7 @@ use Rattle.std.proofs.Common.{◌≡◌, ℕ, ◌≤◌, ◌≢◌, Bool, true, 
 use Rattle.std.specs.Prelude.{nat_eq, nat_le, not}
 use Rattle.std.proofs.lemmas.Bool.{and_parts, eqb-true, leb-true, le-leb, ne_eqb, or_left, true≢false}
 use Rattle.std.specs.Int.{is_in_range as within}
-use Rattle.xml_grammar.specs.Reading.{head_is}
+use Rattle.xml_grammar.specs.TextReading.{head_is}
 use Rattle.xml_names.specs.Characters.{is_name_start, is_joining, is_name_char}
 use Rattle.xml_tokens.specs.Tokens.{is_raw}
 use Rattle.xml_tokens.specs.readers.Runs.{is_frequent, is_usual}

@@ -3,7 +3,7 @@ use Rattle.std.proofs.Common.{◌≡◌, ℕ, zero, suc, ◌-◌, ◌<◌, ◌�
 use Rattle.std.proofs.lemmas.Str.{length-le-encodes}
 use Rattle.std.specs.Prelude.{nat_eq, Option, None}
 use Rattle.xml_grammar.specs.Rules.{AllPass}
-use Rattle.xml_grammar.specs.Reading.{Stop, Reader, ◌>>=◌, head_is, read_one, read_word, read_run, read_sequence, read_valued}
+use Rattle.xml_grammar.specs.TextReading.{Stop, Reader, ◌>>=◌, head_is, read_one, read_word, read_run, read_sequence, read_valued}
 use Rattle.xml_grammar.specs.readers.Functions.{read_either, read_at_most, read_many, read_sized, read_atomic, read_judged, read_between, read_name_of, read_before, read_behind, read_quoted}
 use Rattle.xml_tokens.specs.declared.fault_kind.FaultKind.{FaultKind}
 

@@ -4,7 +4,7 @@ use Rattle.std.specs.Prelude.{nat_eq}
 use Rattle.std.proofs.lemmas.Bool.{eqb-true}
 use Rattle.std.proofs.Math.Seq.{drop-cons, take-length}
 use Rattle.std.proofs.lemmas.List.{length-drop, length-take, drop_at, take-append-le, take_min, append-nil}
-use Rattle.xml_grammar.specs.Reading.{Stop, Syntax, ◌>>=◌, starts, front_of, after_front}
+use Rattle.xml_grammar.specs.TextReading.{Stop, Syntax, ◌>>=◌, starts, front_of, after_front}
 use Rattle.xml_grammar.specs.readers.Functions.{all_but_last, front_without, after_without, read_up_to}
 use Rattle.xml_tokens.specs.declared.fault_kind.FaultKind.{FaultKind}
 use Rattle.xml_tokens.specs.readers.Runs.{run_len}

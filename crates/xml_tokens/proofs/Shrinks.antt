@@ -2,7 +2,7 @@
 use Rattle.std.proofs.Common.{◌≡◌, ℕ, zero, suc, ◌+◌, ◌*◌, ◌≤◌, Bool, true, false, cond, List, [], ◌∷◌, ◌++◌, length, length-append, Result, Ok, Err, encode_utf8_all, refl, sym, ap, ◌∙◌, append_assoc, subst, arith}
 use Rattle.std.specs.Prelude.{nat_eq, nat_le}
 use Rattle.xml_grammar.specs.Digits.{Digits}
-use Rattle.xml_grammar.specs.Reading.{Stop, Syntax, Reader, ◌>>=◌, after_front, read_one, read_word, read_run, read_sequence, read_valued}
+use Rattle.xml_grammar.specs.TextReading.{Stop, Syntax, Reader, ◌>>=◌, after_front, read_one, read_word, read_run, read_sequence, read_valued}
 use Rattle.xml_grammar.specs.readers.Functions.{number_end, read_digits, read_number, read_either, read_at_most, read_many, read_empty}
 use Rattle.xml_tokens.specs.declared.fault_kind.FaultKind.{FaultKind}
 use Rattle.xml_tokens.specs.readers.Ends.{EndsWith}

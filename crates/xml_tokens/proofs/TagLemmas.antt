@@ -1,7 +1,7 @@
 -- Names and references: what is left after them.
 use Rattle.std.proofs.Common.{ℕ, List, [], ◌∷◌}
 use Rattle.std.specs.Prelude.{◌==◌}
-use Rattle.xml_grammar.specs.Reading.{head_is, starts}
+use Rattle.xml_grammar.specs.TextReading.{head_is, starts}
 use Rattle.xml_tokens.specs.readers.Words.{ampersand, semicolon, hash, small_x, amp, lt, gt, quot, apos}
 use Rattle.xml_grammar.specs.Digits.{decimal_digits, hexadecimal}
 use Rattle.xml_names.specs.Characters.{is_char, is_name_start, is_name_char}

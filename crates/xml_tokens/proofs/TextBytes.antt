@@ -10,7 +10,7 @@ use Rattle.std.proofs.Math.Seq.{take-length}
 use Rattle.std.proofs.lemmas.List.Folds.{list_all-append}
 use Rattle.std.proofs.lemmas.Str.{chars-nil, chars-append, chars-IsAscii, encode_ascii, encodes-append, encodes-chars, inside_one, length-le-encodes, IsUtf8-from_ascii, IsUtf8-take, IsCharBoundary-from_take, IsCharBoundary-at_seam}
 use Rattle.std.proofs.lemmas.Str.Ascii.{IsAscii-nil, IsAscii-cons}
-use Rattle.xml_grammar.specs.Reading.{head_is, front_of, after_front}
+use Rattle.xml_grammar.specs.TextReading.{head_is, front_of, after_front}
 use Rattle.xml_tokens.specs.readers.Runs.{run_len}
 use Rattle.xml_tokens.specs.readers.Classes.{in_ascii, is_wide}
 use Rattle.xml_tokens.specs.readers.Ends.{EndsWith}

@@ -4,7 +4,7 @@ use Rattle.std.specs.Prelude.{nat_eq}
 use Rattle.std.specs.Char.{to_ascii_lowercase}
 use Rattle.std.proofs.Math.Seq.{drop-cons}
 use Rattle.std.proofs.lemmas.List.{drop_all, take_all, take_more}
-use Rattle.xml_grammar.specs.Reading.{Stop, Syntax, starts, read_word}
+use Rattle.xml_grammar.specs.TextReading.{Stop, Syntax, starts, read_word}
 use Rattle.xml_tokens.specs.declared.fault_kind.FaultKind.{FaultKind}
 use Rattle.xml_tokens.specs.Values.{same_letters}
 

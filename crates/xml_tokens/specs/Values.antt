@@ -6,7 +6,7 @@ use Rattle.xml_names.specs.declared.names.Name.{Name}
 use Rattle.std.specs.Char.{to_ascii_lowercase}
 use Rattle.std.specs.List.{cons_option}
 use Rattle.std.specs.Option.{option_map_or}
-use Rattle.xml_grammar.specs.Reading.{head_is}
+use Rattle.xml_grammar.specs.TextReading.{head_is}
 
 -- Line ends (XML 1.0, 2.11): CR LF, and a CR (13) that no LF (10) follows, are read as LF. So a
 -- CR before an LF is read as nothing.

@@ -1,7 +1,7 @@
 //! References, and values between quotes.
 ghost use Rattle.std.specs.Prelude.{◌≡◌, ◌≤◌, ◌<◌, ◌++◌, ◌&&◌, true, false, [], ◌∷◌, chars};
 ghost use Rattle.std.specs.Prelude.{MatchOption, IfOk, OnOk, Ok, option_map};
-ghost use Rattle.xml_grammar.specs.Reading.{read_one, read_valued};
+ghost use Rattle.xml_grammar.specs.TextReading.{read_one, read_valued};
 ghost use Rattle.xml_grammar.specs.readers.Functions.{number_end, read_number, read_many};
 ghost use Rattle.xml_names.specs.Characters.{is_char};
 ghost use Rattle.xml_tokens.specs.readers.Results.{Gives};

@@ -1,6 +1,6 @@
 //! Runs of characters of one class.
 ghost use Rattle.std.specs.Prelude.{◌≡◌, ◌≤◌, chars, length, take};
-ghost use Rattle.xml_grammar.specs.Reading.{front_of, after_front, head_is};
+ghost use Rattle.xml_grammar.specs.TextReading.{front_of, after_front, head_is};
 ghost use Rattle.xml_tokens.specs.readers.Runs.{run_len};
 ghost use Rattle.xml_names.specs.Characters.{is_name_char};
 ghost use Rattle.xml_tokens.specs.readers.Runs.{is_plain_in_content, is_plain_in_value};

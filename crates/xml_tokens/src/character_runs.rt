@@ -1,7 +1,7 @@
 //! Runs of characters: raw ones in content, and characters up to a word that ends them.
 ghost use Rattle.std.specs.Prelude.{◌≡◌, ◌==◌, ◌++◌, true, false, [], ◌∷◌, chars, drop, OnOk, IfOk};
 ghost use Rattle.std.specs.Prelude.{IfSome, IfNone, IsTrue, Ok};
-ghost use Rattle.xml_grammar.specs.Reading.{starts};
+ghost use Rattle.xml_grammar.specs.TextReading.{starts};
 ghost use Rattle.xml_grammar.specs.readers.Functions.{after_without, read_up_to};
 ghost use Rattle.xml_names.specs.Characters.{is_char};
 ghost use Rattle.xml_tokens.specs.readers.Results.{Gives};

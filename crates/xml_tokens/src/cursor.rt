@@ -1,7 +1,7 @@
 //! Texts, character by character, and how many characters they have.
 ghost use Rattle.std.specs.Prelude.{◌≡◌, ◌==◌, ◌<◌, ◌-◌, ◌++◌, [], ◌∷◌, drop, take, length, chars};
 ghost use Rattle.std.specs.Prelude.{IfSome, IfNone};
-ghost use Rattle.xml_grammar.specs.Reading.{head_is};
+ghost use Rattle.xml_grammar.specs.TextReading.{head_is};
 ghost use Rattle.xml_tokens.specs.readers.Ends.{EndsWith};
 
 /// The first character of a text, and what follows it. Most are ASCII.

@@ -1,7 +1,7 @@
 //! Runs of digits.
 ghost use Rattle.std.specs.Prelude.{◌≡◌, chars};
 ghost use Rattle.std.specs.Char.{is_ascii_digit};
-ghost use Rattle.xml_grammar.specs.Reading.{head_is, read_some_of};
+ghost use Rattle.xml_grammar.specs.TextReading.{head_is, read_some_of};
 ghost use Rattle.xml_tokens.specs.readers.Results.{Gives};
 
 use crate::character_classes::{Class, run};

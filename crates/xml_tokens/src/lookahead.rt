@@ -2,7 +2,7 @@
 //! another character equals it.
 ghost use Rattle.std.specs.Prelude.{◌≡◌, ◌==◌, ◌||◌, ◌<◌, false, [], ◌∷◌, chars, IfSome, IfNone};
 ghost use Rattle.std.specs.Int.{is_in_range as within};
-ghost use Rattle.xml_grammar.specs.Reading.{head_is, starts};
+ghost use Rattle.xml_grammar.specs.TextReading.{head_is, starts};
 ghost use Rattle.xml_names.specs.Characters.{is_space};
 
 use xml_names::is_space;

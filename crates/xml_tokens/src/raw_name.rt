@@ -1,7 +1,7 @@
 //! Names as written in a text.
 ghost use Rattle.std.specs.Prelude.{◌≡◌, ◌+◌, ◌<◌, ◌≤◌, ◌^◌, suc, [], ◌∷◌, ◌++◌, chars, length};
 ghost use Rattle.std.specs.Prelude.{take, IfOk, IfSome};
-ghost use Rattle.xml_grammar.specs.Reading.{read_word};
+ghost use Rattle.xml_grammar.specs.TextReading.{read_word};
 ghost use Rattle.xml_grammar.specs.readers.Functions.{read_behind};
 ghost use Rattle.xml_tokens.specs.readers.Results.{Gives};
 ghost use Rattle.xml_tokens.specs.Values.{written};
@@ -87,7 +87,7 @@ pub fn front_qname(text: &str) -> Result<(RawName<'_>, &str), ParseError<'_>>
 /// What follows a name written like this one, which has a prefix.
 #[inline(never)]
 #[tactic(auto, using(crate::proofs::NameLemmas::word_then, crate::proofs::NameLemmas::prefixed))]
-fn same_prefixed<'a>(text: &'a str, name: &RawName<'_>) -> Result<&'a str, ParseError<'a>>
+fn same_prefixed_name<'a>(text: &'a str, name: &RawName<'_>) -> Result<&'a str, ParseError<'a>>
     requires { 0 < length (chars name.now.prefix.now) }
     ensures reads_rule { Gives (λ rest. (tt, chars rest.now)) result
         (read_word (written (name_in name.now)) (chars text.now)) }
@@ -104,7 +104,7 @@ fn same_name<'a>(text: &'a str, name: &RawName<'_>) -> Result<&'a str, ParseErro
         (read_word (written (name_in name.now)) (chars text.now)) }
 {
     match split_first(name.prefix) {
-        Some(_) => same_prefixed(text, name),
+        Some(_) => same_prefixed_name(text, name),
         None => same(text, name.local),
     }
 }
@@ -236,12 +236,12 @@ pub fn own_qname(alloc: Global, text: &str) -> Result<(Name, RawName<'_>, &str),
         let (name, written) = own_local(alloc, text, first)?;
         return Ok((name, written, rest));
     }
-    own_prefixed(alloc, text)
+    own_prefixed_name(alloc, text)
 }
 
 /// `own_qname` for any name.
 #[inline(never)]
-fn own_prefixed(alloc: Global, text: &str) -> Result<(Name, RawName<'_>, &str), ParseError<'_>>
+fn own_prefixed_name(alloc: Global, text: &str) -> Result<(Name, RawName<'_>, &str), ParseError<'_>>
     ensures reads_rule { Gives (λ x. (x.0, chars x.2.now)) result (read_qname (chars text.now)) }
     ensures name_as_written { IfOk result (λ x. x.0 ≡ name_in x.1) }
 {

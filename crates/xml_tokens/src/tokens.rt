@@ -2,7 +2,7 @@
 ghost use Rattle.std.specs.Prelude.{◌≡◌, ◌<◌, true, [], ◌∷◌, ◌++◌, chars, drop, take, length};
 ghost use Rattle.std.specs.Prelude.{IsTrue, IfOk, IfSome, Ok};
 ghost use Rattle.std.specs.List.{list_all};
-ghost use Rattle.xml_grammar.specs.Reading.{head_is, front_of, after_front, read_word};
+ghost use Rattle.xml_grammar.specs.TextReading.{head_is, front_of, after_front, read_word};
 ghost use Rattle.xml_names.specs.Characters.{is_space, is_name_start, is_name_char};
 ghost use Rattle.xml_tokens.specs.readers.Results.{Gives};
 ghost use Rattle.xml_tokens.specs.readers.Tokens.{read_name, read_spaces, read_some_spaces};

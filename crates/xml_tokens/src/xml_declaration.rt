@@ -9,7 +9,7 @@ ghost use Rattle.xml_tokens.specs.readers.Tokens.{read_encoding, read_standalone
 ghost use Rattle.xml_tokens.specs.readers.Tokens.{read_standalone_if, read_xml_declaration};
 ghost use Rattle.xml_tokens.specs.readers.Tokens.{declaration_follows, read_declaration};
 ghost use Rattle.xml_tokens.specs.readers.Tokens.{read_declaration_if, read_mark_if};
-ghost use Rattle.xml_grammar.specs.Reading.{head_is};
+ghost use Rattle.xml_grammar.specs.TextReading.{head_is};
 
 use crate::attribute_values::quote;
 use crate::character_classes::{Class, run};

@@ -3,7 +3,7 @@ use Rattle.std.proofs.Common.{◌≡◌, ℕ, List, ◌∷◌, Some, option_and_
 use Rattle.std.specs.List.{slice_get}
 use Rattle.xml_tree.specs.Tree.{Content, Tree, child_elements_of, at}
 use Rattle.xml_tree.specs.Edits.{change_child}
-use Rattle.xml_tree.specs.inner.Lending.{nodes_with_child}
+use Rattle.xml_tree.specs.inner.NodeBorrows.{nodes_with_child}
 use Rattle.xml_tree.proofs.Places.{AreNormal-set, content_of-child_element}
 use Rattle.xml_tree.specs.declared.tree.Element.TheInside.{Inside}
 use Rattle.xml_tree.specs.contracts.tree.Element.{the_view as view, the_invariant as IsWhole}

@@ -7,7 +7,7 @@ use Rattle.xml_tree.specs.Edits.{put, cut, change, with_elem, with_text, with_co
 use Rattle.xml_tree.specs.Nodes.{nodes_of, text_node, elem_of}
 use Rattle.xml_tree.specs.declared.tree.Node.{Node}
 use Rattle.xml_tree.specs.declared.tree.Node.TheVariants.{Elem, Comment}
-use Rattle.xml_tree.specs.Diverging.{Apart}
+use Rattle.xml_tree.specs.DivergingPaths.{Apart}
 use Rattle.xml_tree.proofs.Places.{child_elements-before}
 
 -- ---- child elements

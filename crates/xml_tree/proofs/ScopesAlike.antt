@@ -6,8 +6,8 @@ use Rattle.xml_names.specs.declared.names.Name.{Name}
 use Rattle.xml_names.specs.declared.names.Decl.{Decl}
 use Rattle.xml_names.specs.declared.names.Attr.{Attr}
 use Rattle.xml_tree.specs.Tree.{Content, last, more, comment_node, Tree}
-use Rattle.xml_names.specs.Expanded.{attr_name, same_expanded}
-use Rattle.xml_names.specs.Scopes.{bound, declared, joined, some_text, xml_prefix, xml_uri}
+use Rattle.xml_names.specs.ExpandedNames.{attr_name, same_expanded}
+use Rattle.xml_names.specs.Scopes.{bound, declared_uri, joined, some_text, xml_prefix, xml_uri}
 use Rattle.xml_tree.specs.Proper.{IsAttribute, IsNamed, IsTag, ProperIn}
 use Rattle.xml_tree.specs.inner.Proper.{Proper}
 use Rattle.xml_names.proofs.ScopeLemmas.{declared-append}
@@ -17,22 +17,22 @@ joined-append [] d = refl
 joined-append (ds ∷ c) d = ap (λ l. ds ++ l) (joined-append c d) ∙ sym (append_assoc ds (joined c) (joined d))
 
 -- a scope with one more list
-pub declared-inner : (c : List (List Decl)) (ds : List Decl) (p : List ℕ) → declared (joined (c ++ ds ∷ [])) p ≡ option_or (declared ds p) (declared (joined c) p)
+pub declared-inner : (c : List (List Decl)) (ds : List Decl) (p : List ℕ) → declared_uri (joined (c ++ ds ∷ [])) p ≡ option_or (declared_uri ds p) (declared_uri (joined c) p)
 declared-inner c ds p =
-    ap (λ l. declared l p) (joined-append c (ds ∷ []) ∙ ap (λ l. joined c ++ l) (append-nil ds)) ∙ declared-append (joined c) ds p
+    ap (λ l. declared_uri l p) (joined-append c (ds ∷ []) ∙ ap (λ l. joined c ++ l) (append-nil ds)) ∙ declared-append (joined c) ds p
 
 pub bound-inner : (c : List (List Decl)) (ds : List Decl) (p : List ℕ)
-    → bound (c ++ ds ∷ []) p ≡ (if bytes_eq p xml_prefix then Some xml_uri else some_text (option_or (declared ds p) (declared (joined c) p)))
+    → bound (c ++ ds ∷ []) p ≡ (if bytes_eq p xml_prefix then Some xml_uri else some_text (option_or (declared_uri ds p) (declared_uri (joined c) p)))
 bound-inner c ds p = ap (λ o. if bytes_eq p xml_prefix then Some xml_uri else some_text o) (declared-inner c ds p)
 
 module _ (c d : List (List Decl)) (alike : (p : List ℕ) → bound c p ≡ bound d p) where
   -- they have the same bindings with the same declarations inside
   pub alike-inner : (ds : List Decl) (p : List ℕ) → bound (c ++ ds ∷ []) p ≡ bound (d ++ ds ∷ []) p
-  alike-inner ds p = bound-inner c ds p ∙ by (bytes_eq p xml_prefix) refl (declared ds p) ∙ sym (bound-inner d ds p)
+  alike-inner ds p = bound-inner c ds p ∙ by (bytes_eq p xml_prefix) refl (declared_uri ds p) ∙ sym (bound-inner d ds p)
     where
       by : (b : Bool) → bytes_eq p xml_prefix ≡ b → (o : Option (List ℕ))
-          → (if bytes_eq p xml_prefix then Some xml_uri else some_text (option_or o (declared (joined c) p)))
-          ≡ (if bytes_eq p xml_prefix then Some xml_uri else some_text (option_or o (declared (joined d) p)))
+          → (if bytes_eq p xml_prefix then Some xml_uri else some_text (option_or o (declared_uri (joined c) p)))
+          ≡ (if bytes_eq p xml_prefix then Some xml_uri else some_text (option_or o (declared_uri (joined d) p)))
       by true is o = rw is refl
       by false is (Some u) = refl
       by false is None = alike p

@@ -1,7 +1,7 @@
-pub mod Diverging
+pub mod DivergingPaths
 pub mod Edits
 pub mod EditsAt
-pub mod Lending
+pub mod LastNodeBorrows
 pub mod Nodes
 pub mod PathTexts
 pub mod Print

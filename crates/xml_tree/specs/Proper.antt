@@ -8,7 +8,7 @@ use Rattle.xml_names.specs.Characters.{is_char, is_name, all_chars}
 use Rattle.xml_names.specs.Comments.{is_comment}
 use Rattle.xml_tree.specs.Tree.{Content, last, more, comment_node, Tree}
 use Rattle.xml_names.specs.Scopes.{bound, xml_prefix, xml_uri, xmlns_prefix, xmlns_uri}
-use Rattle.xml_names.specs.Expanded.{attr_name, same_expanded}
+use Rattle.xml_names.specs.ExpandedNames.{attr_name, same_expanded}
 use Rattle.xml_names.specs.declared.names.Name.{Name}
 use Rattle.xml_names.specs.declared.names.Decl.{Decl}
 use Rattle.xml_names.specs.declared.names.Attr.{Attr}

@@ -3,7 +3,7 @@ pub mod Around
 pub mod Attributes
 pub mod Codes
 pub mod Heights
-pub mod Lending
+pub mod NodeBorrows
 pub mod Nodes
 pub mod Print
 pub mod Proper

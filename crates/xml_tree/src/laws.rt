@@ -7,7 +7,7 @@ ghost use Rattle.xml_names.specs.Attributes.{change_item};
 ghost use Rattle.xml_tree.specs.Edits.{change, change_at, cut, put, put_in, put_over, take_in};
 ghost use Rattle.xml_tree.specs.Edits.{with_comment, with_elem, with_text};
 ghost use Rattle.xml_tree.specs.Nodes.{AreNormal, content_of, elem_of, nodes_of};
-ghost use Rattle.xml_tree.specs.Diverging.{Apart};
+ghost use Rattle.xml_tree.specs.DivergingPaths.{Apart};
 ghost use Rattle.xml_tree.specs.declared.tree.Node.{Node};
 
 /// A change at a path leaves what is at a diverging path.

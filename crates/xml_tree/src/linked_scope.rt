@@ -1,7 +1,7 @@
 //! Scopes as chains of borrows.
 ghost use Rattle.std.specs.Prelude.{◌≡◌, ◌++◌, [], ◌∷◌, option_map, chars};
 ghost use Rattle.std.specs.Option.{option_copied};
-ghost use Rattle.xml_names.specs.Scopes.{bound, declared, joined};
+ghost use Rattle.xml_names.specs.Scopes.{bound, declared_uri, joined};
 
 use crate::scope::Scope;
 use std::marker::Model;
@@ -88,7 +88,7 @@ impl<'a> LinkedScope<'a> {
 
     // The URI in the nearest declaration of a prefix. Most elements declare nothing.
     fn nearest(&self, prefix: &Prefix) -> Option<&'a Text>
-        ensures exact { option_copied result ≡ declared (joined self.now) prefix.now }
+        ensures exact { option_copied result ≡ declared_uri (joined self.now) prefix.now }
     {
         match self.place {
             Place::Nothing => None,

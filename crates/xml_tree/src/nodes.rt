@@ -10,8 +10,8 @@ ghost use Rattle.xml_tree.specs.Edits.{TextsMeet, cut, put, with_comment, with_e
 ghost use Rattle.xml_tree.specs.Nodes.{AreNormal, content_of, gap_place, joined_beside, last_elem};
 ghost use Rattle.xml_tree.specs.Nodes.{place, text_at};
 ghost use Rattle.xml_tree.specs.inner.Nodes.{ends_in_text, removed_joined};
-ghost use Rattle.xml_tree.specs.Lending.{LendsLast};
-ghost use Rattle.xml_tree.specs.inner.Lending.{LendsChild};
+ghost use Rattle.xml_tree.specs.LastNodeBorrows.{LendsLast};
+ghost use Rattle.xml_tree.specs.inner.NodeBorrows.{LendsChild};
 ghost use Rattle.xml_tree.specs.Reservations.{HasRoom};
 
 use crate::tree::{Element, Node};

@@ -2,7 +2,8 @@
 ghost use Rattle.std.specs.Prelude.{◌≡◌, ◌<◌, ◌++◌, [], ◌∷◌, length, map, option_map, chars, IfOk};
 ghost use Rattle.std.specs.Option.{option_copied};
 ghost use Rattle.xml_tree.specs.Tree.{at};
-ghost use Rattle.xml_names.specs.Scopes.{bindings_in, bound, declared, joined, some_text, xml_uri};
+ghost use Rattle.xml_names.specs.Scopes.{bindings_in, bound, declared_uri, joined, some_text};
+ghost use Rattle.xml_names.specs.Scopes.{xml_uri};
 ghost use Rattle.xml_tree.specs.TreeScopes.{scope_at};
 
 use crate::path::Path;
@@ -126,7 +127,7 @@ impl<'a> Scope<'a> {
 
     // The URI in the nearest declaration of a prefix.
     pub(crate) fn nearest(&self, prefix: &str) -> Option<&'a Text>
-        ensures exact { option_copied result ≡ declared (joined self.now) (chars prefix.now) }
+        ensures exact { option_copied result ≡ declared_uri (joined self.now) (chars prefix.now) }
     {
         nearest(&self.lists[..self.len], prefix)
     }

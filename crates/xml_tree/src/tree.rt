@@ -269,7 +269,7 @@ impl Element {
 /// Kinds of nodes.
 impl Node {
     ghost use Rattle.std.specs.Borrow.{sem};
-    ghost use Rattle.xml_tree.specs.inner.Lending.{LendsElem};
+    ghost use Rattle.xml_tree.specs.inner.NodeBorrows.{LendsElem};
     ghost use Rattle.xml_tree.specs.Nodes.{elem_of, is_text, text_of};
     ghost use Rattle.xml_tree.specs.inner.Nodes.{node_with};
 

@@ -7,13 +7,13 @@ use Rattle.http_wire.specs.declared.request.Request.{Request}
 use Rattle.http_wire.specs.declared.request.Asked.{Asked}
 use Rattle.http_wire.specs.declared.request.Asked.TheVariants.{Request as Requested, Bad, TooLong}
 use Rattle.http_wire.specs.declared.request.Asked.TheVariants.{Coded, End, NoMemory}
-use Rattle.http_wire.specs.Asking.{RequestReaderState}
-use Rattle.http_wire.specs.Serving.{EndsBy, GoesOn}
+use Rattle.http_wire.specs.NextRequests.{RequestReaderState}
+use Rattle.http_wire.specs.ServedConnections.{EndsBy, GoesOn}
 use Rattle.xcap_io.specs.Causes.{StreamState}
 use Rattle.xcap_io.specs.StreamTraffic.{Gave, Took}
 use Rattle.http_wire.specs.declared.close_reason.CloseReason.{CloseReason}
-use Rattle.http_serve.specs.Fixed.{fixed}
-use Rattle.http_serve.specs.Reading.{IsRead}
+use Rattle.http_serve.specs.FixedReplies.{fixed_reply}
+use Rattle.http_serve.specs.ReadRequests.{IsRead}
 
 -- the reader's result is no request, or one that was read
 abbrev pub AsksRead : Asked → Type 0
@@ -48,9 +48,9 @@ module _ {M E : Type 0} (Step : M → Request → List ℕ → M → Option E �
   abbrev pub Did : Option CloseReason → ℕ → M → List ℕ → Bool → List ℕ → M → Option E → List ℕ
       → Type 0
   Did None before machine given end written next edit held =
-      GoesOn Step fixed before machine given written next edit held
+      GoesOn Step fixed_reply before machine given written next edit held
   Did (Some ended) before machine given end written next edit held =
-      EndsBy Step fixed ended before machine given end written next edit
+      EndsBy Step fixed_reply ended before machine given end written next edit
 
   -- Some bytes were read and some written, and the watchers were notified of the edit, if there
   -- was one.

@@ -18,9 +18,10 @@ use Rattle.http_wire.specs.declared.body_decoder.DecodeResult.{DecodeResult}
 use Rattle.http_wire.specs.declared.body_decoder.DecodeResult.TheVariants.{Whole, TooLong, Bad, Cut}
 use Rattle.http_wire.specs.Limits.{max_body_bytes, max_head_bytes}
 use Rattle.http_wire.specs.Framing.{framing}
-use Rattle.http_wire.specs.inner.Decoding.{Decoding, start, is_settled, ReadsOn}
-use Rattle.http_wire.specs.Chunked.{ChunkedBody, ReadsBody, HasNoBody, MayBecomeBody, PassesLimit}
-use Rattle.http_wire.specs.Chunked.{chunk_data}
+use Rattle.http_wire.specs.inner.ChunkDecoder.{Decoding, start, is_settled, ReadsOn}
+use Rattle.http_wire.specs.ChunkedBodies.{ChunkedBody, ReadsBody, HasNoBody, MayBecomeBody}
+use Rattle.http_wire.specs.ChunkedBodies.{PassesLimit}
+use Rattle.http_wire.specs.ChunkedBodies.{chunk_data}
 use Rattle.http_wire.specs.declared.limits.TheConstants.{MAX_HELD}
 
 -- the capacity of the read buffer

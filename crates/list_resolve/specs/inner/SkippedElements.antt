@@ -15,7 +15,7 @@ use Rattle.list_resolve.specs.declared.reference.Reference.{Reference}
 use Rattle.list_resolve.specs.ScopedElements.{ScopedElement, list_element}
 use Rattle.list_resolve.specs.Resolution.{ResolutionContext, ResolvedReference, lead_of, tree_held}
 use Rattle.list_resolve.specs.Walks.{Item, address, mark, scoped_element_items}
-use Rattle.list_resolve.specs.inner.Gathering.{FlatError, Gathered, Fails, with_items}
+use Rattle.list_resolve.specs.inner.WalkStates.{FlatError, Gathered, Fails, with_items}
 
 -- ---- where references lead
 

@@ -3,8 +3,8 @@
 use Rattle.std.specs.Prelude.{ℕ, Bool, not, ◌&&◌, ◌||◌, ◌==◌, codes, List, ◌++◌, Option, None, Some}
 use Rattle.xml_names.specs.declared.names.Name.{Name}
 use Rattle.std.specs.Char.{is_ascii_digit}
-use Rattle.xml_grammar.specs.Reading.{Reader, head_is, starts, read_word, read_sequence}
-use Rattle.xml_grammar.specs.Reading.{read_valued, read_some_of}
+use Rattle.xml_grammar.specs.TextReading.{Reader, head_is, starts, read_word, read_sequence}
+use Rattle.xml_grammar.specs.TextReading.{read_valued, read_some_of}
 use Rattle.xml_grammar.specs.readers.Functions.{read_either, read_many, read_sized, read_only}
 use Rattle.xml_grammar.specs.readers.Functions.{read_optional, read_between, read_before}
 use Rattle.xml_grammar.specs.readers.Functions.{read_behind, read_quoted}

@@ -1,6 +1,6 @@
 -- The result of reading a whole text, from left to right.
 use Rattle.std.specs.Prelude.{ℕ, List, Option, None, Some, Result, Ok, Err, chars}
-use Rattle.xml_grammar.specs.Reading.{Stop}
+use Rattle.xml_grammar.specs.TextReading.{Stop}
 use Rattle.xml_grammar.specs.readers.Functions.{read_whole}
 use Rattle.xml_tokens.specs.declared.fault_kind.FaultKind.{FaultKind}
 use Rattle.xml_names.specs.declared.names.Decl.{Decl}

@@ -4,7 +4,7 @@ use Rattle.std.specs.Prelude.{option_map, unwrap_or, Result}
 use Rattle.std.specs.List.{list_any}
 use Rattle.xml_names.specs.Attributes.{with_value}
 use Rattle.xml_tree.specs.Edits.{change_at, parent_path}
-use Rattle.xml_names.specs.Expanded.{attr_name, same_expanded}
+use Rattle.xml_names.specs.ExpandedNames.{attr_name, same_expanded}
 use Rattle.xml_tree.specs.Nodes.{exchange_nodes, nodes_of}
 use Rattle.xml_tree.specs.TreeScopes.{scope_at}
 use Rattle.xml_tree.specs.Tree.{Content, Tree, at}
@@ -13,11 +13,12 @@ use Rattle.xml_names.specs.declared.names.Name.{Name}
 use Rattle.node_select.specs.declared.selector.PatchSelector.{PatchSelector}
 use Rattle.patch_rules.specs.PatchOperations.{OperationError, Directive, Prefix, Unlocated}
 use Rattle.patch_rules.specs.PatchOperations.{WrongNodes, PatchAction, Position, Behind, Prepend}
-use Rattle.patch_rules.specs.PatchOperations.{Before, After, done, given, is_bare, is_bound_type}
+use Rattle.patch_rules.specs.PatchOperations.{Before, After, apply_action, given, is_bare}
+use Rattle.patch_rules.specs.PatchOperations.{is_bound_type}
 use Rattle.patch_rules.specs.PatchOperations.{is_space_at, locate, made, means_alike, nodes_at}
 use Rattle.patch_rules.specs.PatchOperations.{own_place, space_before, suits, tested, value_in}
 use Rattle.patch_rules.specs.PatchOperations.{with_attrs}
-use Rattle.patch_rules.specs.readers.Applied.{reading_in}
+use Rattle.patch_rules.specs.readers.AppliedOperations.{reading_in}
 use Rattle.patch_parse.specs.Operations.{task_said}
 
 -- where content goes: the element among whose nodes it comes, and the number of the node after it
@@ -74,12 +75,12 @@ task_done here sel task content t =
     tested (suits task reading.ends) Directive
     (given (reading.means here) Prefix (λ s.
     tested (is_bound_type here task) Prefix
-    (given (locate s t) Unlocated (λ location. done here task location content t)))))
+    (given (locate s t) Unlocated (λ location. apply_action here task location content t)))))
 
-abbrev pub done_where : List (List Decl) → PatchAction → PatchSelector → Content → Tree
+abbrev pub locate_and_apply : List (List Decl) → PatchAction → PatchSelector → Content → Tree
     → Result Tree OperationError
-done_where here task s content t =
-    given (locate s t) Unlocated (λ location. done here task location content t)
+locate_and_apply here task s content t =
+    given (locate s t) Unlocated (λ location. apply_action here task location content t)
 
 abbrev pub said_done : List (List Decl) → List ℕ → Tree → Tree → Result Tree OperationError
 said_done here sel o t =

@@ -2,7 +2,7 @@
 use Rattle.patch_parse.specs.declared.patch_actions.OperationName.{OperationName}
 use Rattle.std.specs.Prelude.{Bool, ◌&&◌, ◌||◌, codes, List, is_some}
 use Rattle.std.specs.Str.{bytes_eq}
-use Rattle.xml_names.specs.Expanded.{element_name}
+use Rattle.xml_names.specs.ExpandedNames.{element_name}
 use Rattle.xml_names.specs.declared.names.Attr.{Attr}
 use Rattle.xml_names.specs.declared.names.Decl.{Decl}
 use Rattle.xml_names.specs.declared.names.Name.{Name}

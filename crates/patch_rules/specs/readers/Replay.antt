@@ -4,10 +4,10 @@ use Rattle.xml_tree.specs.Tree.{Tree}
 use Rattle.xml_names.specs.declared.names.Decl.{Decl}
 use Rattle.patch_rules.specs.Replay as words
 use Rattle.patch_rules.specs.Replay.{CopyAnswer, CopyFault, ReplicaContents, DocumentOutcome}
-use Rattle.patch_rules.specs.readers.Applied.{reading_in}
+use Rattle.patch_rules.specs.readers.AppliedOperations.{reading_in}
 
-abbrev pub all_applied : ℕ → List (List Decl) → List Tree → Tree → Result Tree CopyFault
-all_applied = words.all_applied reading_in
+abbrev pub apply_all : ℕ → List (List Decl) → List Tree → Tree → Result Tree CopyFault
+apply_all = words.apply_all reading_in
 
 abbrev pub change_outcome : ℕ → List (List Decl) → List Tree → List ℕ → ReplicaContents
     → Result DocumentOutcome CopyFault

@@ -1,7 +1,7 @@
 -- The print of a document, as it is cached with the tree.
 use Rattle.std.specs.Prelude.{◌≡◌, ℕ, List, Option, None, Some, encode_utf8_all}
 use Rattle.edit_ops.specs.declared.change.Change.{Change}
-use Rattle.edit_ops.specs.Inserted.{BringsElement, inserted_part}
+use Rattle.edit_ops.specs.InsertedElements.{BringsElement, inserted_part}
 use Rattle.xml_tree.specs.Tree.{Tree}
 use Rattle.xml_tree.specs.Print.{document_print}
 

@@ -9,7 +9,7 @@ use Rattle.xml_tree.specs.Tree.{Tree}
 use Rattle.doc_names.specs.declared.doc_id.DocId.{DocId}
 use Rattle.store_core.specs.declared.entry.Entry.{Entry}
 use Rattle.store_core.specs.Indexes.{indexed}
-use Rattle.store_core.specs.inner.Storing.{stored_in}
+use Rattle.store_core.specs.inner.StoreMemory.{stored_in}
 
 -- the users' names and the trees of the documents that the index lists
 abbrev pub listed : List (DocId × Entry) → List (List ℕ × Tree)

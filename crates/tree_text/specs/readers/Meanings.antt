@@ -5,7 +5,7 @@ use Rattle.std.specs.Prelude.{option_map, option_and_then, encode_utf8_all}
 use Rattle.std.specs.Str.{bytes_eq}
 use Rattle.std.specs.List.{list_any}
 use Rattle.std.specs.BTreeSet.{BTreeSet, contains}
-use Rattle.xml_names.specs.Expanded.{attr_name}
+use Rattle.xml_names.specs.ExpandedNames.{attr_name}
 use Rattle.xml_names.specs.declared.names.Name.{Name}
 use Rattle.tree_text.specs.declared.bindings.Bindings.{Bindings}
 use Rattle.tree_text.specs.declared.attribute_meanings.Meaning.{Meaning}

@@ -1,6 +1,6 @@
 -- The members of repetitions, as loops read them.
 use Rattle.std.specs.Prelude.{ℕ, Bool, List}
-use Rattle.xml_grammar.specs.Reading.{Reader, read_sequence, read_valued}
+use Rattle.xml_grammar.specs.TextReading.{Reader, read_sequence, read_valued}
 use Rattle.xml_tree.specs.Edits.{with_text}
 use Rattle.xml_tree.specs.Tree.{Content, Tree}
 use Rattle.xml_names.specs.declared.names.Name.{Name}

@@ -6,8 +6,8 @@ use Rattle.xml_names.specs.Characters.{is_char, is_space, is_name_start}
 use Rattle.xml_tree.specs.Tree.{Content, last, Tree}
 use Rattle.xml_names.specs.declared.names.Name.{Name}
 use Rattle.xml_names.specs.declared.names.Decl.{Decl}
-use Rattle.xml_grammar.specs.Reading.{Reader, head_is, starts, read_one, read_word, read_run}
-use Rattle.xml_grammar.specs.Reading.{read_sequence, read_valued}
+use Rattle.xml_grammar.specs.TextReading.{Reader, head_is, starts, read_one, read_word, read_run}
+use Rattle.xml_grammar.specs.TextReading.{read_sequence, read_valued}
 use Rattle.xml_grammar.specs.readers.Functions.{spaced, read_never, read_empty, read_up_to}
 use Rattle.xml_grammar.specs.readers.Functions.{read_either, read_many, read_sized, read_only}
 use Rattle.xml_grammar.specs.readers.Functions.{read_atomic, read_marked, read_judged, read_trap}
@@ -23,7 +23,7 @@ use Rattle.tree_text.specs.Pieces.{Markup, Reference, Section, Comment, Instruct
 use Rattle.tree_text.specs.Pieces.{StartTag, with_pieces}
 use Rattle.tree_text.specs.readers.TagValues.{said_of, start_tag_of}
 use Rattle.tree_text.specs.Names.{element_of, inside_tag}
-use Rattle.tree_text.specs.readers.Judging.{tag_fault}
+use Rattle.tree_text.specs.readers.TagNameFaults.{tag_fault}
 use Rattle.xml_tokens.specs.Tokens.{is_quote, is_raw}
 use Rattle.tree_text.specs.Grammar.{is_target}
 use Rattle.xml_tokens.specs.readers.Tokens.{read_chars, read_declaration_if, read_dropped}

@@ -1,7 +1,7 @@
 -- The result of reading all bytes, from left to right.
 use Rattle.std.specs.Prelude.{◌≡◌, ℕ, ◌-◌, List, Result, Err, if◌then◌else◌, chars}
 use Rattle.std.specs.Str.{is_utf8}
-use Rattle.xml_grammar.specs.Reading.{Syntax, Faulty}
+use Rattle.xml_grammar.specs.TextReading.{Syntax, Faulty}
 use Rattle.xml_grammar.specs.readers.Functions.{read_whole}
 use Rattle.xml_tree.specs.Tree.{Tree}
 use Rattle.xml_names.specs.declared.names.Decl.{Decl}

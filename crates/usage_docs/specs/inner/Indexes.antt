@@ -4,7 +4,7 @@ use Rattle.xml_tree.specs.Tree.{Tree, child_elements_of}
 use Rattle.xml_tree.specs.declared.tree.Node.TheVariants.{Elem}
 use Rattle.xml_names.specs.Limits.{u64_max}
 use Rattle.usage_docs.specs.Services.{index_of}
-use Rattle.usage_docs.specs.readers.Listing.{elems_len}
+use Rattle.usage_docs.specs.readers.ServiceNodes.{elems_len}
 
 -- the element is the index of its children, and their printed length is this
 pub record IsIndex (root : Tree) (inner : ℕ) : Type 0 where

@@ -2,7 +2,7 @@
 use Rattle.std.specs.Prelude.{◌≡◌, ℕ, min, List, [], ◌∷◌, filter, flat_map, is_some}
 use Rattle.std.specs.Str.{bytes_eq}
 use Rattle.xml_names.specs.Markup.{print_decl, byte_len}
-use Rattle.xml_names.specs.Scopes.{bindings_in, declared}
+use Rattle.xml_names.specs.Scopes.{bindings_in, declared_uri}
 use Rattle.xml_names.specs.declared.names.Decl.{Decl}
 use Rattle.xml_names.specs.Limits.{u64_max}
 use Rattle.usage_docs.specs.declared.lengths.Outer.{Outer}
@@ -13,7 +13,7 @@ decls_len ds = byte_len (flat_map print_decl ds)
 
 -- the bindings whose prefixes these declarations redeclare
 abbrev pub hidden : List Decl → List Decl → List Decl
-hidden own bs = filter (λ b. is_some (declared own b.prefix)) bs
+hidden own bs = filter (λ b. is_some (declared_uri own b.prefix)) bs
 
 -- the bindings of a prefix
 abbrev pub binding_of : List ℕ → List Decl → List Decl

@@ -12,22 +12,22 @@ use Rattle.usage_docs.specs.declared.schema_table.ElementKind.TheVariants.{Packa
 use Rattle.usage_docs.specs.SchemaTable.{Scope, Child, known, foreign, stray, child_class_of}
 
 -- the part of a child of some kind; 0 if it isn't allowed
-unfoldable pub part_named : ElementKind → ElementKind → ℕ
-part_named ResourceLists EntryList = 1
-part_named EntryList DisplayName = 1
-part_named EntryList EntryList = 2
-part_named EntryList External = 2
-part_named EntryList Entry = 2
-part_named EntryList EntryRef = 2
-part_named Entry DisplayName = 1
-part_named EntryRef DisplayName = 1
-part_named External DisplayName = 1
-part_named RlsServices Service = 1
-part_named Service ResourceList = 1
-part_named Service EntryList = 1
-part_named Service Packages = 2
-part_named Packages Package = 1
-part_named row kind = 0
+unfoldable pub part_of_kind : ElementKind → ElementKind → ℕ
+part_of_kind ResourceLists EntryList = 1
+part_of_kind EntryList DisplayName = 1
+part_of_kind EntryList EntryList = 2
+part_of_kind EntryList External = 2
+part_of_kind EntryList Entry = 2
+part_of_kind EntryList EntryRef = 2
+part_of_kind Entry DisplayName = 1
+part_of_kind EntryRef DisplayName = 1
+part_of_kind External DisplayName = 1
+part_of_kind RlsServices Service = 1
+part_of_kind Service ResourceList = 1
+part_of_kind Service EntryList = 1
+part_of_kind Service Packages = 2
+part_of_kind Packages Package = 1
+part_of_kind row kind = 0
 
 -- the part of the foreign elements; 0 if they aren't allowed
 unfoldable pub foreign_part : ElementKind → ℕ
@@ -76,7 +76,7 @@ end = 4
 
 -- the part of a child; 0 if it isn't allowed
 abbrev pub part_in : ElementKind → Child → ℕ
-part_in row (known kind) = part_named row kind
+part_in row (known kind) = part_of_kind row kind
 part_in row foreign = foreign_part row
 part_in row stray = 0
 

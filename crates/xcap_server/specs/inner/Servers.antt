@@ -5,7 +5,7 @@ use Rattle.http_wire.specs.declared.request.Request.{Request}
 use Rattle.edit_ops.specs.declared.edit.Edit.{Edit}
 use Rattle.edit_journal.specs.declared.journal_log.AppendFault.{AppendFault}
 use Rattle.edit_journal.specs.declared.journal_log.AppendFault.TheVariants.{Failed, NoMemory}
-use Rattle.store_core.specs.Stored.{Stored}
+use Rattle.store_core.specs.StoreViews.{Stored}
 use Rattle.xcap_machine.specs.Machine.{Does, answer_as, content_after_answer}
 use Rattle.xcap_put.specs.Decisions.{answer_of}
 use Rattle.xcap_put.specs.declared.decision.Decision.{Decision}

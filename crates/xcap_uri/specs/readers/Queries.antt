@@ -3,7 +3,7 @@
 use Rattle.std.specs.Prelude.{ℕ, zero, suc, ◌+◌, ◌-◌, Bool, ◌&&◌, ◌||◌, ◌==◌, List, [], ◌∷◌, codes}
 use Rattle.std.specs.Prelude.{length, Option, None, Some, Result, Ok, Err, if◌then◌else◌}
 use Rattle.std.specs.Str.{bytes_eq}
-use Rattle.xml_grammar.specs.Reading.{front_of, after_front, head_is}
+use Rattle.xml_grammar.specs.TextReading.{front_of, after_front, head_is}
 use Rattle.xml_names.specs.Characters.{is_name_start, is_name_char, is_space}
 use Rattle.xml_names.specs.declared.names.Decl.{Decl}
 use Rattle.xml_names.specs.declared.read_error.ReadError.TheVariants.{Fault}

@@ -117,9 +117,9 @@ abbrev pub of_usage : Option Auid → List (List ℕ) → Option (List ℕ) → 
 of_usage None rest selector = Err (Fault UnknownAuid)
 of_usage (Some auid) rest selector = in_usage auid rest selector
 
-abbrev pub named : List (List ℕ) → Option (List ℕ) → Result Shape UriError
-named [] selector = Err (Fault UnknownAuid)
-named (first ∷ rest) selector =
+abbrev pub shape_of_segments : List (List ℕ) → Option (List ℕ) → Result Shape UriError
+shape_of_segments [] selector = Err (Fault UnknownAuid)
+shape_of_segments (first ∷ rest) selector =
     if bytes_eq first feed then feed_shape rest selector
     else if bytes_eq first flat then flat_shape rest selector
     else of_usage (auid_of first) rest selector
@@ -131,4 +131,4 @@ is_empty (c ∷ cs) = false
 -- what the segments name, none of which is empty
 abbrev pub shape_of : List (List ℕ) → Option (List ℕ) → Result Shape UriError
 shape_of segments selector =
-    if list_any is_empty segments then Err (Fault BadShape) else named segments selector
+    if list_any is_empty segments then Err (Fault BadShape) else shape_of_segments segments selector

@@ -5,9 +5,10 @@ use Rattle.std.specs.Prelude.{ℕ, zero, suc, ◌+◌, ◌-◌, ◌*◌, Bool, t
 use Rattle.std.specs.Prelude.{◌++◌, Result, Ok, Err, if◌then◌else◌, nat_le, length, drop}
 use Rattle.std.specs.Prelude.{encode_utf8_all, Option, Some, None}
 use Rattle.xml_grammar.specs.Digits.{Digits}
-use Rattle.xml_grammar.specs.Reading.{Faulty, Reader, Stop, Syntax, after_front, head_is, read_one}
-use Rattle.xml_grammar.specs.Reading.{read_run, read_sequence, read_valued, read_word, starts}
-use Rattle.xml_grammar.specs.Reading.{◌>>=◌}
+use Rattle.xml_grammar.specs.TextReading.{Faulty, Reader, Stop, Syntax, after_front, head_is}
+use Rattle.xml_grammar.specs.TextReading.{read_one}
+use Rattle.xml_grammar.specs.TextReading.{read_run, read_sequence, read_valued, read_word, starts}
+use Rattle.xml_grammar.specs.TextReading.{◌>>=◌}
 
 -- at least one character of the first class is at the front, and after all of them one of the
 -- second

@@ -2,7 +2,7 @@
 -- This says more than `Answered`: the value is seen through a view, and a stop has the rest of the
 -- text, from which a fault gets its place.
 use Rattle.std.specs.Prelude.{◌≡◌, Result, Ok, Err, chars}
-use Rattle.xml_grammar.specs.Reading.{Stop, Syntax, Faulty}
+use Rattle.xml_grammar.specs.TextReading.{Stop, Syntax, Faulty}
 use Rattle.xml_tokens.specs.declared.fault_kind.FaultKind.{FaultKind}
 use Rattle.xml_tokens.specs.declared.parse_error.ParseError.{ParseError as CodeStop}
 use Rattle.xml_tokens.specs.declared.parse_error.ParseError.TheVariants as stops

@@ -1,7 +1,7 @@
 -- How much of a text comes before what ends it.
 use Rattle.std.specs.Prelude.{◌≡◌, ℕ, ◌+◌, Bool, List, [], ◌∷◌, if◌then◌else◌, ◌==◌, ◌&&◌, ◌||◌}
 use Rattle.std.specs.Prelude.{not, nat_le, chars}
-use Rattle.xml_grammar.specs.Reading.{head_is}
+use Rattle.xml_grammar.specs.TextReading.{head_is}
 use Rattle.std.specs.Int.{is_in_range as within}
 
 -- how many characters of a class the text begins with

@@ -6,8 +6,9 @@ use Rattle.std.specs.Char.{is_ascii_digit, is_ascii_alphabetic}
 use Rattle.xml_names.specs.Characters.{is_char, is_space, is_name_start, is_name_char}
 use Rattle.xml_names.specs.declared.names.Name.{Name}
 use Rattle.xml_grammar.specs.Digits.{decimal_digits, hexadecimal}
-use Rattle.xml_grammar.specs.Reading.{Reader, head_is, starts, read_word, read_run, read_sequence}
-use Rattle.xml_grammar.specs.Reading.{read_valued, read_some_of}
+use Rattle.xml_grammar.specs.TextReading.{Reader, head_is, starts, read_word, read_run}
+use Rattle.xml_grammar.specs.TextReading.{read_sequence}
+use Rattle.xml_grammar.specs.TextReading.{read_valued, read_some_of}
 use Rattle.xml_grammar.specs.readers.Functions.{spaced, read_run_without, read_number, read_either}
 use Rattle.xml_grammar.specs.readers.Functions.{read_judged, read_optional, read_between}
 use Rattle.xml_grammar.specs.readers.Functions.{read_name_of, read_before, read_behind, read_quoted}

@@ -1,6 +1,6 @@
 -- The parts of values, as loops read them.
 use Rattle.std.specs.Prelude.{ℕ, List, ◌++◌}
-use Rattle.xml_grammar.specs.Reading.{Reader, read_sequence, read_valued}
+use Rattle.xml_grammar.specs.TextReading.{Reader, read_sequence, read_valued}
 use Rattle.xml_tokens.specs.declared.fault_kind.FaultKind.{FaultKind}
 use Rattle.xml_tokens.specs.Values.{more_value, raw}
 use Rattle.xml_tokens.specs.readers.Tokens.{read_reference, read_raw}

@@ -1,10 +1,10 @@
 use Rattle.std.proofs.Common.{ℕ, List, ◌-◌, ◌∙◌, length, sym, subst, take}
 use Rattle.xcap_io.specs.StreamTraffic.{Gave}
-use Rattle.xcap_io.proofs.Passing.{gave_on}
+use Rattle.xcap_io.proofs.TrafficSums.{gave_on}
 use Rattle.http_wire.proofs.Buffers.{put_behind}
 use Rattle.xcap_io.proofs.Lines.{reads_on}
 use borrow.Rule.Slice.PartMut.{post_of}
-use Rattle.client_commands.proofs.Filling.{behind_front}
+use Rattle.client_commands.proofs.BufferLemmas.{behind_front}
 use Rattle.client_commands.proofs.inputs.fill.Goals as goal
 
 pub reading-preserved : goal.reading-preserved

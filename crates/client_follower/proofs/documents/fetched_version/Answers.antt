@@ -1,7 +1,7 @@
 use Rattle.std.proofs.Common.{refl, ap, ◌∙◌}
 use Rattle.std.specs.Prelude.{Ok, Err}
 use Rattle.std.proofs.lemmas.Result.{err_from_is_err_and}
-use Rattle.client_follower.proofs.Taking.{document_taken}
+use Rattle.client_follower.proofs.ResponseContents.{document_taken}
 use Rattle.client_follower.proofs.documents.fetched_version.Goals as goal
 
 pub returns-in_err-version_in-in-Ok-clause-takes_document : goal.returns-in_err-version_in-in-Ok-clause-takes_document

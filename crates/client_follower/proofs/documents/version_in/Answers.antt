@@ -1,7 +1,7 @@
 use Rattle.std.proofs.Common.{ap, ◌∙◌}
 use Rattle.std.specs.Prelude.{Err}
 use Rattle.std.proofs.lemmas.Result.{err_from_is_err_and}
-use Rattle.client_follower.proofs.Taking.{text_refused, text_taken}
+use Rattle.client_follower.proofs.ResponseContents.{text_refused, text_taken}
 use Rattle.client_follower.proofs.documents.version_in.Goals as goal
 
 pub returns-in_err-root-clause-brings_version : goal.returns-in_err-root-clause-brings_version

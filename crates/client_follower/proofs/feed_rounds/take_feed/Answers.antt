@@ -1,5 +1,5 @@
 use Rattle.patch_apply.specs.Views.{stored_in}
-use Rattle.client_follower.proofs.Taking.{feed_taken, notice_keeps}
+use Rattle.client_follower.proofs.ResponseContents.{feed_taken, notice_keeps}
 use Rattle.client_follower.proofs.feed_rounds.take_feed.Goals as goal
 
 pub returns-in-Ok-clause-takes_feed : goal.returns-in-Ok-clause-takes_feed

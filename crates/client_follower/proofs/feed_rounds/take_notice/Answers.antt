@@ -3,7 +3,7 @@ use Rattle.std.specs.Prelude.{Err}
 use Rattle.std.proofs.lemmas.Result.{err_from_is_err_and}
 use Rattle.patch_apply.specs.Views.{stored_in}
 use Rattle.client_follower.specs.Feeds.{applies}
-use Rattle.client_follower.proofs.Taking.{notice_refused, sound_is_low}
+use Rattle.client_follower.proofs.ResponseContents.{notice_refused, sound_is_low}
 use Rattle.client_follower.proofs.feed_rounds.take_notice.Goals as goal
 
 pub returns-in_err-notice-clause-takes_diff : goal.returns-in_err-notice-clause-takes_diff

@@ -1,4 +1,4 @@
-use Rattle.client_follower.proofs.Counting.{round_begins}
+use Rattle.client_follower.proofs.ConnectionCounts.{round_begins}
 use Rattle.client_follower.proofs.laws.rounds_begin_two_connections.Goals as goal
 
 pub returns : goal.returns

@@ -1,4 +1,4 @@
-use Rattle.client_follower.proofs.Counting.{start_begins}
+use Rattle.client_follower.proofs.ConnectionCounts.{start_begins}
 use Rattle.client_follower.proofs.laws.starts_begin_one_connection.Goals as goal
 
 pub returns : goal.returns

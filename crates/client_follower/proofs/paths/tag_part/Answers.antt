@@ -2,7 +2,7 @@ use Rattle.std.proofs.Common.{List, ℕ, ◌++◌, ap, ◌∙◌}
 use Rattle.std.specs.Str.{chars}
 use Rattle.std.proofs.lemmas.Str.{chars-IsAscii}
 use Rattle.doc_names.specs.Escapes.{escaped_part}
-use Rattle.doc_names.proofs.Printed.{part_letters}
+use Rattle.doc_names.proofs.AsciiPrints.{part_letters}
 use Rattle.client_follower.proofs.paths.tag_part.Goals as goal
 
 pub returns : goal.returns

@@ -1,6 +1,6 @@
 use Rattle.std.proofs.Common.{encode_utf8_all, refl, ap, ◌∙◌}
 use Rattle.xcap_uri.specs.Roots.{authority_of, path_of}
-use Rattle.client_theorem.proofs.Printed.{id_octets, root_octets}
+use Rattle.client_theorem.proofs.AsciiAddresses.{id_octets, root_octets}
 use Rattle.client_theorem.proofs.feed_requests.feed_address.Goals as goal
 
 pub returns : goal.returns

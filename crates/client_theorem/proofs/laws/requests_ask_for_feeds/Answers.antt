@@ -1,5 +1,5 @@
 use Rattle.client_theorem.proofs.Addresses.{means_feed}
-use Rattle.client_theorem.proofs.Allowed.{allowed, reads}
+use Rattle.client_theorem.proofs.FeedRights.{allowed, reads}
 use Rattle.client_theorem.proofs.laws.requests_ask_for_feeds.Goals as goal
 
 pub returns : goal.returns

@@ -1,5 +1,5 @@
 use Rattle.std.proofs.Common.{refl}
-use Rattle.doc_names.proofs.Escaped.{parts_escaped}
+use Rattle.doc_names.proofs.OctetPrints.{parts_escaped}
 use Rattle.doc_names.proofs.escapes.push_part.Goals as goal
 
 pub returns : goal.returns

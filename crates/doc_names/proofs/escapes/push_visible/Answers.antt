@@ -1,5 +1,5 @@
 use Rattle.std.proofs.Common.{refl}
-use Rattle.doc_names.proofs.Escaped.{visible_escaped}
+use Rattle.doc_names.proofs.OctetPrints.{visible_escaped}
 use Rattle.doc_names.proofs.escapes.push_visible.Goals as goal
 
 pub returns : goal.returns

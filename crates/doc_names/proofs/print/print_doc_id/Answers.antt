@@ -1,7 +1,7 @@
 use Rattle.std.proofs.Common.{◌≡◌, string_bytes, append_assoc, refl, ap, ◌∙◌}
 use Rattle.std.specs.Str.{chars}
 use Rattle.doc_names.specs.Ids.{id_text}
-use Rattle.doc_names.proofs.Printed.{id_letters}
+use Rattle.doc_names.proofs.AsciiPrints.{id_letters}
 use Rattle.doc_names.proofs.print.print_doc_id.Goals as goal
 
 pub returns : goal.returns

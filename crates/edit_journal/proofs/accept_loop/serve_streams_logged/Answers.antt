@@ -2,7 +2,7 @@ use Rattle.std.proofs.Common.{rules}
 use Rattle.edit_journal.specs.Journals.{IsJournalProgress}
 use Rattle.edit_journal.specs.Logs.{Fits}
 use Rattle.edit_journal.specs.Ports.{ServesLogged}
-use Rattle.edit_journal.proofs.Balancing.{port_goes, port_logged}
+use Rattle.edit_journal.proofs.LogAccounts.{port_goes, port_logged}
 use Rattle.edit_journal.proofs.accept_loop.serve_streams_logged.Goals as goal
 
 pub returns-clause-serves_port : goal.returns-clause-serves_port

@@ -1,5 +1,5 @@
 use Rattle.std.proofs.Common.{ℕ, Ok, sym, subst, arith}
-use Rattle.edit_journal.specs.inner.Reading.{Reads, Number}
+use Rattle.edit_journal.specs.inner.PartReaders.{Reads, Number}
 use Rattle.edit_journal.proofs.Numbers.{number_whole}
 use Rattle.edit_journal.proofs.field_parsers.number.Goals as goal
 

@@ -1,5 +1,5 @@
 use Rattle.std.proofs.Common.{ℕ, Ok, sym, subst, arith}
-use Rattle.edit_journal.specs.inner.Reading.{Reads, Short}
+use Rattle.edit_journal.specs.inner.PartReaders.{Reads, Short}
 use Rattle.edit_journal.proofs.Numbers.{short_whole, short_open}
 use Rattle.edit_journal.proofs.field_parsers.short.Goals as goal
 

@@ -4,7 +4,7 @@ use Rattle.http_wire.specs.declared.request.Request.{Request}
 use Rattle.edit_journal.specs.Records.{record_of}
 use Rattle.edit_journal.specs.inner.ReadBuffer.{TakesRecord}
 use Rattle.edit_journal.proofs.Lengths.{record_length}
-use Rattle.edit_journal.proofs.Redoing.{held_next, held_stops, held_short, held_few}
+use Rattle.edit_journal.proofs.ReplayedRequests.{held_next, held_stops, held_short, held_few}
 use Rattle.edit_journal.proofs.journal_restart.redo_held.Goals as goal
 
 pub redo_one-requires-clause-within_max : goal.redo_one-requires-clause-within_max

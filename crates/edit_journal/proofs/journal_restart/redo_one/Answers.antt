@@ -1,6 +1,6 @@
 use Rattle.std.proofs.Common.{◌+◌, refl}
 use Rattle.std.proofs.lemmas.Result.{err_from_is_err_and}
-use Rattle.edit_journal.proofs.Redoing.{stops_refused, one_redone, one_stopped}
+use Rattle.edit_journal.proofs.ReplayedRequests.{stops_refused, one_redone, one_stopped}
 use Rattle.edit_journal.proofs.journal_restart.redo_one.Goals as goal
 
 pub returns-in-Refused : goal.returns-in-Refused

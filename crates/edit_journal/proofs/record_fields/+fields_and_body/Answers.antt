@@ -1,6 +1,6 @@
 use Rattle.std.proofs.Common.{◌≡◌, ◌+◌, ◌-◌, ◌<◌, List, ℕ, length, drop, ap, sym, ◌∙◌, subst, arith, length-append}
 use Rattle.http_wire.specs.declared.request.Field.{Field}
-use Rattle.edit_journal.specs.inner.Reading.{Reads, FieldsAndBody, HasRoom}
+use Rattle.edit_journal.specs.inner.PartReaders.{Reads, FieldsAndBody, HasRoom}
 use Rattle.edit_journal.proofs.Blocks.{behind}
 use Rattle.edit_journal.proofs.Fields.{body_stops, body_whole, field_stops, fields_go_on, fields_grow, stops_with}
 use Rattle.edit_journal.proofs.Lengths.{field_length}

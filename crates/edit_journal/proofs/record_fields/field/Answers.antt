@@ -2,7 +2,7 @@ use Rattle.std.proofs.Common.{◌≡◌, ◌+◌, ◌-◌, List, ℕ, length, Ok
 use Rattle.std.specs.Borrow.{Bor}
 use Rattle.std.proofs.lemmas.Result.{err_from_is_err_and}
 use Rattle.http_wire.specs.declared.request.Field.{Field}
-use Rattle.edit_journal.specs.inner.Reading.{Reads, Value, FieldPart}
+use Rattle.edit_journal.specs.inner.PartReaders.{Reads, Value, FieldPart}
 use Rattle.edit_journal.proofs.Blocks.{behind}
 use Rattle.edit_journal.proofs.Fields.{field_no_name, field_no_value, field_whole}
 use Rattle.edit_journal.proofs.Lengths.{block_length}

@@ -3,7 +3,7 @@ use Rattle.xml_names.specs.contracts.text.Text.{the_view}
 use Rattle.std.specs.Borrow.{Bor}
 use Rattle.http_wire.specs.declared.request.Field.{Field}
 use Rattle.http_wire.specs.declared.request.Request.{Request}
-use Rattle.edit_journal.specs.inner.Reading.{Reads, Block, Rest, Content}
+use Rattle.edit_journal.specs.inner.PartReaders.{Reads, Block, Rest, Content}
 use Rattle.edit_journal.proofs.Blocks.{behind}
 use Rattle.edit_journal.proofs.Lengths.{block_length}
 use Rattle.edit_journal.proofs.Fields.{stops_with}

@@ -1,5 +1,5 @@
 use Rattle.std.proofs.Common.{◌≡◌, List, [], ℕ, Ok, Err, ap, sym, ◌∙◌, subst, arith}
-use Rattle.edit_journal.specs.inner.Reading.{Reads, Method}
+use Rattle.edit_journal.specs.inner.PartReaders.{Reads, Method}
 use Rattle.edit_journal.specs.declared.field_parsers.FieldError.TheVariants.{Open, Wrong}
 use Rattle.edit_journal.specs.Records.{method_number}
 use Rattle.edit_journal.proofs.Contents.{first_none, first_some, method_open, method_whole, method_wrong, put_number, delete_number}

@@ -1,6 +1,6 @@
 use Rattle.std.proofs.Common.{◌≡◌, List, ℕ, length, ap, ◌∙◌, subst}
 use Rattle.http_wire.specs.declared.request.Request.{Request}
-use Rattle.edit_journal.specs.inner.Reading.{Reads, Content, Record}
+use Rattle.edit_journal.specs.inner.PartReaders.{Reads, Content, Record}
 use Rattle.edit_journal.proofs.Blocks.{behind}
 use Rattle.edit_journal.proofs.Fields.{stops_with}
 use Rattle.edit_journal.proofs.Contents.{record_no_number, record_on}

@@ -1,6 +1,6 @@
 use Rattle.std.proofs.Common.{◌≡◌, ◌-◌, List, ℕ, length, drop, Ok, Err, ap, ◌∙◌, subst}
 use Rattle.http_wire.specs.declared.request.Field.{Field}
-use Rattle.edit_journal.specs.inner.Reading.{Reads, FieldsAndBody, Rest}
+use Rattle.edit_journal.specs.inner.PartReaders.{Reads, FieldsAndBody, Rest}
 use Rattle.edit_journal.proofs.Blocks.{behind}
 use Rattle.edit_journal.proofs.Fields.{stops_with}
 use Rattle.edit_journal.proofs.Rests.{rest_no_count, rest_stops, bounds_are}

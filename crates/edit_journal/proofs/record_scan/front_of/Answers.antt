@@ -1,7 +1,7 @@
 use Rattle.std.proofs.Common.{Err, subst, ◌∙◌}
 use Rattle.http_wire.specs.declared.request.Request.{Request}
 use Rattle.edit_journal.specs.declared.field_parsers.FieldError.{FieldError}
-use Rattle.edit_journal.specs.inner.Reading.{Reads, Record}
+use Rattle.edit_journal.specs.inner.PartReaders.{Reads, Record}
 use Rattle.edit_journal.proofs.Fronts.{front_whole, front_torn, front_damaged}
 use Rattle.edit_journal.proofs.record_scan.front_of.Goals as goal
 

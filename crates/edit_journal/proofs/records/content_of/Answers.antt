@@ -1,6 +1,6 @@
 use Rattle.std.proofs.Common.{All, List, length, sym, ap, subst, arith}
 use Rattle.http_wire.specs.declared.request.Field.{Field}
-use Rattle.edit_journal.specs.inner.Writing.{IsWritable}
+use Rattle.edit_journal.specs.inner.WritableParts.{IsWritable}
 use Rattle.edit_journal.proofs.Lengths.{content_length, fields_writable}
 use Rattle.edit_journal.proofs.records.content_of.Goals as goal
 

@@ -1,4 +1,4 @@
-use Rattle.edit_journal.proofs.Copied.{copies, more_shows}
+use Rattle.edit_journal.proofs.RestartCopies.{copies, more_shows}
 use Rattle.edit_journal.proofs.recovery_laws.new_journals_are_told_from_old_ones.Goals as goal
 
 pub returns-clause-copies_prefix : goal.returns-clause-copies_prefix

@@ -1,4 +1,4 @@
-use Rattle.edit_journal.proofs.Restored.{ends_behind}
+use Rattle.edit_journal.proofs.RestartLemmas.{ends_behind}
 use Rattle.edit_journal.proofs.recovery_laws.restarts_do_the_first_requests.Goals as goal
 
 pub returns : goal.returns

@@ -2,7 +2,7 @@ use Rattle.std.proofs.Common.{inl, inr, List, remove, refl, ap, subst, Err, IsTr
 use Rattle.xml_tree.specs.Tree.{Tree, child_elements_of}
 use Rattle.edit_rules.specs.Tags.{AttrsFormed}
 use Rattle.edit_plans.specs.inner.ChildChanges.{IsJudgedIn}
-use Rattle.edit_plans.proofs.Judging.{judged_by, true_false}
+use Rattle.edit_plans.proofs.ParentAnswers.{judged_by, true_false}
 use Rattle.edit_plans.proofs.SiblingLemmas.{clean_by, gap_without, others_without}
 use Rattle.edit_plans.proofs.child_attributes.attribute_change_in_parent.Goals as goal
 

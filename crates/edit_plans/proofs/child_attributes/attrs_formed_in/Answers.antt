@@ -1,6 +1,6 @@
 use Rattle.std.proofs.Common.{IsTrue, rules}
 use Rattle.usage_docs.specs.Kinds.{kind_of_child}
-use Rattle.edit_rules.specs.Tags.{attrs_formed}
+use Rattle.edit_rules.specs.Tags.{are_attrs_formed}
 use Rattle.edit_plans.proofs.TagLemmas.{by_kind}
 use Rattle.edit_plans.proofs.child_attributes.attrs_formed_in.Goals as goal
 
@@ -9,6 +9,6 @@ returns c = record {
   exact =
       let scope = c.args.scope.now in
       let tag = c.args.tag.now in
-      by_kind (λ own. IsTrue (attrs_formed own tag.attrs)) (IsTrue c.attrs_formed.result) c.args.row (λ kind. kind_of_child kind scope tag) c.in-Some.row c.in-Some-kind_of.kind c.in-Some.is
+      by_kind (λ own. IsTrue (are_attrs_formed own tag.attrs)) (IsTrue c.are_attrs_formed.result) c.args.row (λ kind. kind_of_child kind scope tag) c.in-Some.row c.in-Some-kind_of.kind c.in-Some.is
       (search rules) (search rules);
 }

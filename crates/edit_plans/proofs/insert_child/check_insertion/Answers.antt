@@ -4,7 +4,7 @@ use Rattle.usage_docs.specs.declared.keys.Clash.{Clash}
 use Rattle.usage_docs.specs.readers.Siblings.{IsFirst}
 use Rattle.edit_rules.specs.NewElements.{ClashesBeside}
 use Rattle.edit_plans.specs.inner.ChildChanges.{others}
-use Rattle.edit_plans.proofs.Judging.{judged_clash, judged_foreign, judged_ok, judged_unformed, true_false}
+use Rattle.edit_plans.proofs.ParentAnswers.{judged_clash, judged_foreign, judged_ok, judged_unformed, true_false}
 use Rattle.edit_plans.proofs.TwinLemmas.{clean_others}
 use Rattle.edit_plans.proofs.insert_child.check_insertion.Goals as goal
 

@@ -1,7 +1,7 @@
 use Rattle.std.proofs.Common.{IsTrue}
 use Rattle.xml_tree.specs.Tree.{child_elements_of}
 use Rattle.edit_plans.specs.inner.ChildChanges.{FormedIn, others}
-use Rattle.edit_plans.proofs.Judging.{judged_by}
+use Rattle.edit_plans.proofs.ParentAnswers.{judged_by}
 use Rattle.edit_plans.proofs.insert_child.check_new_child.Goals as goal
 
 pub returns : goal.returns

@@ -2,7 +2,7 @@ use Rattle.std.proofs.Common.{◌∙◌, ap, ℕ, List, Result, Err, subst}
 use Rattle.xml_tree.specs.Tree.{Tree}
 use Rattle.edit_plans.specs.inner.ChildChanges.{FormedIn, IsJudgedIn}
 use Rattle.edit_plans.specs.declared.insertion_points.NoInsertionPoint.{NoInsertionPoint}
-use Rattle.edit_plans.proofs.Judging.{Chosen, placed_invalid, placed_ok, placed_unlawful}
+use Rattle.edit_plans.proofs.ParentAnswers.{Chosen, placed_invalid, placed_ok, placed_unlawful}
 use Rattle.edit_plans.proofs.SiblingLemmas.{others_all}
 use Rattle.edit_plans.proofs.insert_child.insertion_in_parent.Goals as goal
 

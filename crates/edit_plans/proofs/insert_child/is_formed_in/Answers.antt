@@ -1,4 +1,4 @@
-use Rattle.edit_plans.proofs.Judging.{formed_by_row}
+use Rattle.edit_plans.proofs.ParentAnswers.{formed_by_row}
 use Rattle.edit_plans.proofs.insert_child.is_formed_in.Goals as goal
 
 pub returns-in-Some : goal.returns-in-Some

@@ -2,7 +2,7 @@ use Rattle.xml_tree.specs.Tree.{child_elements_of}
 use Rattle.node_select.specs.Selection.{is_named, is_tested}
 use Rattle.edit_plans.specs.inner.Neighbours.{FitsIn}
 use Rattle.edit_plans.specs.declared.insertion_points.NoInsertionPoint.TheVariants.{Unlawful, Invalid}
-use Rattle.edit_plans.proofs.Judging.{true_false}
+use Rattle.edit_plans.proofs.ParentAnswers.{true_false}
 use Rattle.edit_plans.proofs.SideLemmas.{not_free}
 use Rattle.edit_plans.proofs.insertion_points.choose_gap.Goals as goal
 

@@ -1,6 +1,6 @@
 use Rattle.std.proofs.Common.{add-one, arith}
 use Rattle.xml_tree.specs.Tree.{child_elements_of}
-use Rattle.node_select.proofs.Walked.{at_elem, at_other, at_end, no_element}
+use Rattle.node_select.proofs.NodeWalks.{at_elem, at_other, at_end, no_element}
 use Rattle.edit_plans.proofs.insertion_points.count_children.Goals as goal
 use Rattle.edit_plans.proofs.insertion_points.count_children.Goals.{in-Elem, in_default}
 

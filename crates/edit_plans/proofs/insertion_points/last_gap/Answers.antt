@@ -1,9 +1,9 @@
 use Rattle.std.proofs.Common.{◌≡◌, ◌+◌, ℕ, Bool, suc, cond, sym, ap, ◌∙◌, add-one, arith}
 use Rattle.node_select.specs.InsertionPoints.{IsLawfulInsertion, plan_with}
-use Rattle.node_select.proofs.Planned.{plan_more}
+use Rattle.node_select.proofs.GapPlans.{plan_more}
 use Rattle.xml_tree.specs.Tree.{child_elements_of}
 use Rattle.node_select.specs.Selection.{is_named, is_tested}
-use Rattle.node_select.proofs.Walked.{at_elem, at_other, at_end, count_next, at_most_one, no_element}
+use Rattle.node_select.proofs.NodeWalks.{at_elem, at_other, at_end, count_next, at_most_one, no_element}
 use Rattle.usage_docs.specs.readers.Parts.{end}
 use Rattle.edit_plans.specs.inner.Neighbours.{FitsIn}
 use Rattle.edit_plans.specs.declared.insertion_points.NoInsertionPoint.TheVariants.{Unlawful, Invalid}

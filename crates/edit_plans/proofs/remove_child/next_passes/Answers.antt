@@ -1,8 +1,8 @@
 use Rattle.std.proofs.Common.{false, refl, sym, ◌∙◌, add-one, arith}
 use Rattle.xml_tree.specs.Tree.{child_elements_of}
 use Rattle.node_select.specs.Selection.{is_named, is_tested}
-use Rattle.node_select.proofs.Walked.{at_elem, at_other, at_end, no_element}
-use Rattle.edit_plans.proofs.Judging.{true_false}
+use Rattle.node_select.proofs.NodeWalks.{at_elem, at_other, at_end, no_element}
+use Rattle.edit_plans.proofs.ParentAnswers.{true_false}
 use Rattle.edit_plans.proofs.RemovalLemmas.{next_is, next_tested, no_next, none_more_named}
 use Rattle.edit_plans.proofs.remove_child.next_passes.Goals as goal
 use Rattle.edit_plans.proofs.remove_child.next_passes.Goals.{in-Elem+else-is_next, in_default}

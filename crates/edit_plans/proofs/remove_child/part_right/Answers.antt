@@ -1,6 +1,6 @@
 use Rattle.std.proofs.Common.{◌≡◌, suc, add-one, arith}
 use Rattle.xml_tree.specs.Tree.{child_elements_of}
-use Rattle.node_select.proofs.Walked.{at_elem, at_other, at_end, no_element}
+use Rattle.node_select.proofs.NodeWalks.{at_elem, at_other, at_end, no_element}
 use Rattle.edit_plans.proofs.RemovalLemmas.{right_end, right_kid}
 use Rattle.edit_plans.proofs.remove_child.part_right.Goals as goal
 use Rattle.edit_plans.proofs.remove_child.part_right.Goals.{in-Elem+else-child-i, in_default}

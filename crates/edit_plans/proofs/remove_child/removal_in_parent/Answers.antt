@@ -1,5 +1,5 @@
 use Rattle.std.proofs.Common.{inl, inr, refl}
-use Rattle.edit_plans.proofs.Judging.{true_false}
+use Rattle.edit_plans.proofs.ParentAnswers.{true_false}
 use Rattle.edit_plans.proofs.remove_child.removal_in_parent.Goals as goal
 
 pub returns-then-still_selects : goal.returns-then-still_selects

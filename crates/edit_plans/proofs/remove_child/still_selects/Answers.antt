@@ -1,6 +1,6 @@
 use Rattle.std.proofs.Common.{false, refl}
 use Rattle.xml_tree.specs.Tree.{child_elements_of}
-use Rattle.edit_plans.proofs.Judging.{true_false}
+use Rattle.edit_plans.proofs.ParentAnswers.{true_false}
 use Rattle.edit_plans.proofs.RemovalLemmas.{none_still, still_by_next}
 use Rattle.edit_plans.proofs.remove_child.still_selects.Goals as goal
 

@@ -1,7 +1,7 @@
 use Rattle.std.proofs.Common.{inl, inr, List, refl, subst}
 use Rattle.xml_tree.specs.Tree.{Tree}
 use Rattle.edit_plans.specs.inner.ChildChanges.{FormedIn, IsJudgedIn}
-use Rattle.edit_plans.proofs.Judging.{true_false}
+use Rattle.edit_plans.proofs.ParentAnswers.{true_false}
 use Rattle.edit_plans.proofs.SiblingLemmas.{clean_by, gap_without, others_without}
 use Rattle.edit_plans.proofs.replace_child.replacement_in_parent.Goals as goal
 

@@ -2,7 +2,7 @@ use Rattle.std.specs.Prelude.{chars}
 use Rattle.std.proofs.Common.{false, refl, sym, ◌∙◌}
 use Rattle.std.proofs.lemmas.Option.{none-some}
 use Rattle.usage_docs.specs.UniqueKeys.{mark}
-use Rattle.edit_plans.proofs.Judging.{true_false}
+use Rattle.edit_plans.proofs.ParentAnswers.{true_false}
 use Rattle.edit_plans.proofs.TwinLemmas.{marked_by_kind, other_value, unmarked_kind}
 use Rattle.edit_plans.proofs.siblings.has_mark.Goals as goal
 

@@ -1,9 +1,9 @@
 use Rattle.std.specs.Prelude.{chars}
 use Rattle.std.proofs.Common.{ap, ◌∙◌, option_and_then, add-one, arith}
 use Rattle.xml_tree.specs.Tree.{child_elements_of}
-use Rattle.node_select.proofs.Walked.{at_elem, at_other, at_end, no_element}
+use Rattle.node_select.proofs.NodeWalks.{at_elem, at_other, at_end, no_element}
 use Rattle.usage_docs.specs.UniqueKeys.{mark, mark_of}
-use Rattle.edit_plans.proofs.Judging.{true_false}
+use Rattle.edit_plans.proofs.ParentAnswers.{true_false}
 use Rattle.edit_plans.proofs.TwinLemmas.{no_more_marked, none_marked}
 use Rattle.edit_plans.proofs.siblings.marked_child.Goals as goal
 use Rattle.edit_plans.proofs.siblings.marked_child.Goals.{in-Elem+else-is_marked, in_default}

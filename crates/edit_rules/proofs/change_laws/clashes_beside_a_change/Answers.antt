@@ -1,6 +1,6 @@
-use Rattle.edit_rules.proofs.Exchanged.{first_over, unique_over}
+use Rattle.edit_rules.proofs.ReplacedElements.{first_over, unique_over}
 use Rattle.edit_rules.proofs.FirstBeside.{first_put, unique_put}
-use Rattle.edit_rules.proofs.Removed.{unique_without}
+use Rattle.edit_rules.proofs.RemovedElements.{unique_without}
 use Rattle.edit_rules.proofs.change_laws.clashes_beside_a_change.Goals as goal
 
 pub returns : goal.returns

@@ -1,4 +1,4 @@
-use Rattle.edit_rules.proofs.Retagged.{first_retag, formed_retag, valid_retag}
+use Rattle.edit_rules.proofs.TagChanges.{first_retag, formed_retag, valid_retag}
 use Rattle.edit_rules.proofs.change_laws.new_attributes_beside_a_change.Goals as goal
 
 pub returns : goal.returns

@@ -1,4 +1,4 @@
-use Rattle.edit_rules.proofs.Removed.{still_selected}
+use Rattle.edit_rules.proofs.RemovedElements.{still_selected}
 use Rattle.edit_rules.proofs.change_laws.selection_after_a_removal.Goals as goal
 
 pub returns : goal.returns

@@ -1,7 +1,7 @@
 use Rattle.std.proofs.Common.{sym, ap, ◌∙◌}
-use Rattle.edit_ops.specs.Recorded.{all_notes}
+use Rattle.edit_ops.specs.RecordParts.{all_notes}
 use Rattle.store_core.specs.ChangesSince.{changes_since_in}
-use Rattle.element_watch.proofs.Telling.{few_of_all}
+use Rattle.element_watch.proofs.ElementFindings.{few_of_all}
 use Rattle.element_watch.proofs.element_diffs.element_notice.Goals as goal
 
 pub notice_since-requires-clause-within_max : goal.notice_since-requires-clause-within_max

@@ -1,5 +1,5 @@
-use Rattle.edit_ops.specs.Recorded.{all_notes}
-use Rattle.element_watch.proofs.Telling.{not_keyed, when_keyed}
+use Rattle.edit_ops.specs.RecordParts.{all_notes}
+use Rattle.element_watch.proofs.ElementFindings.{not_keyed, when_keyed}
 use Rattle.element_watch.proofs.element_diffs.is_untouched.Goals as goal
 
 pub returns-then-key_address : goal.returns-then-key_address

@@ -1,6 +1,6 @@
 use Rattle.std.proofs.Common.{sym, ◌∙◌}
-use Rattle.edit_ops.specs.Recorded.{all_notes}
-use Rattle.element_watch.proofs.Telling.{notice_text}
+use Rattle.edit_ops.specs.RecordParts.{all_notes}
+use Rattle.element_watch.proofs.ElementFindings.{notice_text}
 use Rattle.element_watch.proofs.element_diffs.notice_since.Goals as goal
 
 pub returns : goal.returns

@@ -1,4 +1,4 @@
-use Rattle.element_watch.proofs.Coming.{one_start}
+use Rattle.element_watch.proofs.EarlierPlaces.{one_start}
 use Rattle.element_watch.proofs.laws.one_place_passes_to_another.Goals as goal
 
 pub returns : goal.returns

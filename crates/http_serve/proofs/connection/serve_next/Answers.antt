@@ -1,6 +1,6 @@
 use Rattle.std.proofs.Common.{ℕ, sym, ◌∙◌}
 use Rattle.http_serve.specs.ReplyBytes.{InBytes}
-use Rattle.http_serve.proofs.Answering.{asks_read, gives_on, turn_of_end, turn_of_fault, turn_of_failed_write, turn_of_close, turn_of_request}
+use Rattle.http_serve.proofs.TurnAnswers.{asks_read, gives_on, turn_of_end, turn_of_fault, turn_of_failed_write, turn_of_close, turn_of_request}
 use Rattle.http_serve.proofs.connection.serve_next.Goals as goal
 
 pub answer_to-requires-clause-request_read : goal.answer_to-requires-clause-request_read

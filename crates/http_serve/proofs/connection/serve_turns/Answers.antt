@@ -1,7 +1,7 @@
 use Rattle.std.proofs.Common.{ap, arith}
-use Rattle.http_wire.specs.Asking.{RequestReaderState}
+use Rattle.http_wire.specs.NextRequests.{RequestReaderState}
 use Rattle.http_serve.proofs.Rooms.{last_answered, none_answered, one_answered, room_for_one}
-use Rattle.http_serve.proofs.Turning.{another, at_end, at_first}
+use Rattle.http_serve.proofs.TurnLemmas.{another, at_end, at_first}
 use Rattle.http_serve.proofs.connection.serve_turns.Goals as goal
 
 pub turns-init : goal.turns-init

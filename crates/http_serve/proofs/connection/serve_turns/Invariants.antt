@@ -1,6 +1,6 @@
 use Rattle.std.proofs.Common.{◌≡◌, ℕ, ◌+◌, ◌<◌, ◌-◌, false}
 use Rattle.http_serve.specs.ReplyBytes.{InBytes}
-use Rattle.http_serve.proofs.Turning.{SoFar}
+use Rattle.http_serve.proofs.TurnLemmas.{SoFar}
 use Rattle.http_serve.proofs.connection.serve_turns.Given as goal
 
 abbrev pub invariant-turns : goal.invariant-turns

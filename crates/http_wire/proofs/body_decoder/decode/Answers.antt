@@ -2,7 +2,7 @@ use Rattle.std.proofs.Common.{◌≡◌, ◌-◌, ◌≤◌, ℕ, List, true, fa
 use Rattle.std.proofs.lemmas.List.{take_rest, length-take-le}
 use Rattle.std.proofs.lemmas.Result.{err_from_is_err_and}
 use Rattle.xcap_io.proofs.Lines.{reads_none, reads_on}
-use Rattle.http_wire.specs.inner.Decoding.{Decoding, is_settled, ReadsOn}
+use Rattle.http_wire.specs.inner.ChunkDecoder.{Decoding, is_settled, ReadsOn}
 use Rattle.http_wire.proofs.DecodingLemmas.{so_far_first, so_far_next, fewer_so_far, decodes_done, decodes_long, decodes_bad, decodes_cut, decodes_failed}
 use Rattle.http_wire.proofs.BodyFacts.{other_is_bad}
 use Rattle.http_wire.proofs.body_decoder.decode.Goals as goal

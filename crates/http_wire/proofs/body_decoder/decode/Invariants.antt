@@ -1,6 +1,6 @@
 use Rattle.std.proofs.Common.{◌≡◌, length}
 use Rattle.xcap_io.specs.Causes.{Reads}
-use Rattle.http_wire.specs.inner.Decoding.{bytes_left}
+use Rattle.http_wire.specs.inner.ChunkDecoder.{bytes_left}
 use Rattle.http_wire.specs.inner.ReadBuffer.{DecodesSoFar}
 use Rattle.http_wire.proofs.body_decoder.decode.Given as goal
 

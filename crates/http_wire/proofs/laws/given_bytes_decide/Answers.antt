@@ -1,4 +1,4 @@
-use Rattle.http_wire.proofs.Counting.{all_give_first, first_by_all, first_of_all}
+use Rattle.http_wire.proofs.KnownTraffic.{all_give_first, first_by_all, first_of_all}
 use Rattle.http_wire.proofs.laws.given_bytes_decide.Goals as goal
 
 pub returns-clause-of_all : goal.returns-clause-of_all

@@ -3,7 +3,7 @@ use Rattle.std.specs.Prelude.{Ok, Err}
 use Rattle.std.proofs.lemmas.List.{append-nil}
 use Rattle.std.proofs.lemmas.Result.{err_from_is_err_and}
 use Rattle.xcap_io.specs.Streams.{WritesAll}
-use Rattle.xcap_io.proofs.Adding.{adds_both, all_written}
+use Rattle.xcap_io.proofs.BufferPieces.{adds_both, all_written}
 use Rattle.http_wire.proofs.reply_writer.hand_over.Goals as goal
 
 -- the two parts, as they were borrowed

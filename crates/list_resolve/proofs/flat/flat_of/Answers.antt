@@ -1,6 +1,6 @@
 use Rattle.std.proofs.Common.{◌≡◌, [], Ok, sym, ap, ◌∙◌, subst}
 use Rattle.list_resolve.specs.Walks.{walk_after, walk, walked}
-use Rattle.list_resolve.specs.inner.Gathering.{Fails, Gathered, no_items, with_items}
+use Rattle.list_resolve.specs.inner.WalkStates.{Fails, Gathered, no_items, with_items}
 use Rattle.list_resolve.specs.inner.SkippedElements.{reference_resolved_in}
 use Rattle.list_resolve.specs.inner.Views.{context_in, scoped_element_in}
 use Rattle.list_resolve.proofs.Flats.{fails_are, flat_is}

@@ -1,6 +1,6 @@
 use Rattle.std.proofs.Common.{chars, ap, ◌∙◌}
 use Rattle.xml_tree.specs.Tree.{child_elements_of}
-use Rattle.list_resolve.specs.Flat.{first_service}
+use Rattle.list_resolve.specs.FlatLists.{first_service}
 use Rattle.list_resolve.specs.inner.Views.{scoped_element_in}
 use Rattle.list_resolve.proofs.Services.{all_services}
 use Rattle.list_resolve.proofs.flat.service_of.Goals as goal

@@ -1,5 +1,5 @@
 use Rattle.std.proofs.Common.{◌≡◌, chars, drop}
-use Rattle.list_resolve.specs.Flat.{service_of}
+use Rattle.list_resolve.specs.FlatLists.{service_of}
 use Rattle.list_resolve.specs.inner.Views.{scoped_element_in}
 use Rattle.list_resolve.proofs.Services.{first_among}
 use Rattle.list_resolve.proofs.flat.service_of.Given as goal

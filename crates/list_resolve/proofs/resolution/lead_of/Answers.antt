@@ -1,5 +1,5 @@
 use Rattle.list_resolve.specs.inner.Views.{context_in}
-use Rattle.list_resolve.proofs.Leading.{leads_nowhere}
+use Rattle.list_resolve.proofs.ReferenceTargets.{leads_nowhere}
 use Rattle.list_resolve.proofs.resolution.lead_of.Goals as goal
 
 pub returns-in_default-clause-exact : goal.returns-in_default-clause-exact

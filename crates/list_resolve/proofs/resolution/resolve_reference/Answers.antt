@@ -1,6 +1,6 @@
 use Rattle.std.proofs.Common.{◌∙◌}
 use Rattle.list_resolve.specs.inner.Views.{context_in}
-use Rattle.list_resolve.proofs.Leading.{fault_led, found_there, target_led}
+use Rattle.list_resolve.proofs.ReferenceTargets.{fault_led, found_there, target_led}
 use Rattle.list_resolve.proofs.resolution.resolve_reference.Goals as goal
 
 pub returns-in-Ok-clause-exact : goal.returns-in-Ok-clause-exact

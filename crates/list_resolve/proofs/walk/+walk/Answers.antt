@@ -1,11 +1,11 @@
 use Rattle.std.proofs.Common.{◌≡◌, ◌+◌, ◌-◌, [], ◌∷◌, ◌++◌, List, drop, Some, sym, ap, subst, ◌∙◌, option_map, arith}
 use Rattle.list_resolve.specs.References.{reference_of}
 use Rattle.list_resolve.specs.Walks.{Item, mark, walk_after, walked}
-use Rattle.list_resolve.specs.inner.Gathering.{Fails, with_items}
+use Rattle.list_resolve.specs.inner.WalkStates.{Fails, with_items}
 use Rattle.list_resolve.specs.inner.Kids.{child_items}
 use Rattle.list_resolve.specs.inner.SkippedElements.{Gathers, reference_resolved_in}
 use Rattle.list_resolve.specs.inner.Views.{context_in, lead_in, scoped_element_in}
-use Rattle.list_resolve.proofs.Passing.{is_passed, once_passed}
+use Rattle.list_resolve.proofs.SkippedElements.{is_passed, once_passed}
 use Rattle.list_resolve.proofs.Walks.{all_nodes, at_elem, behind_left, fails_before, fails_in_part, hands_on, lead_items, led_items, nodes_items, reference_items}
 use Rattle.list_resolve.proofs.walk.+walk.Goals as goal
 

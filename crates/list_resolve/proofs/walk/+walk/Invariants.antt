@@ -1,7 +1,7 @@
 use Rattle.std.proofs.Common.{◌≡◌, ◌*◌, ◌+◌, drop}
 use Rattle.xml_tree.specs.Tree.{height}
 use Rattle.list_resolve.specs.Walks.{walk_after, walked}
-use Rattle.list_resolve.specs.inner.Gathering.{with_items}
+use Rattle.list_resolve.specs.inner.WalkStates.{with_items}
 use Rattle.list_resolve.specs.inner.SkippedElements.{IsSound, reference_resolved_in}
 use Rattle.list_resolve.specs.inner.Views.{context_in}
 use Rattle.list_resolve.proofs.Walks.{nodes_items}

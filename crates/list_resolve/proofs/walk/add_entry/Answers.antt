@@ -2,7 +2,7 @@ use Rattle.std.proofs.Common.{chars, ap, sym, ◌∙◌, option_map}
 use Rattle.usage_docs.specs.declared.schema_table.Key.TheVariants.{Uri}
 use Rattle.usage_docs.specs.Keys.{value_of}
 use Rattle.list_resolve.specs.inner.Views.{context_in}
-use Rattle.list_resolve.proofs.Passing.{entry_gathered}
+use Rattle.list_resolve.proofs.SkippedElements.{entry_gathered}
 use Rattle.list_resolve.proofs.walk.add_entry.Goals as goal
 
 pub returns-in_ok-add_uri-in-Some : goal.returns-in_ok-add_uri-in-Some

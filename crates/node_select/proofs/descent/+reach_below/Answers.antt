@@ -8,8 +8,8 @@ use Rattle.node_select.specs.declared.selector.Step.{Step}
 use Rattle.node_select.specs.inner.LongestMatches.{ReachesBelow}
 use Rattle.node_select.specs.Selection.{selected_child}
 use Rattle.node_select.proofs.LongestWays.{first_and_rest, goes_on}
-use Rattle.node_select.proofs.Reaching.{among_missing, depth_within, length-take-le}
-use Rattle.node_select.proofs.Walked.{kid_lower}
+use Rattle.node_select.proofs.ReachLemmas.{among_missing, depth_within, length-take-le}
+use Rattle.node_select.proofs.NodeWalks.{kid_lower}
 use Rattle.node_select.proofs.descent.+reach_below.Goals as goal
 
 pub unreachable-requires : goal.unreachable-requires

@@ -6,7 +6,7 @@ use Rattle.node_select.specs.declared.descent.Reached.{Reached}
 use Rattle.node_select.specs.declared.selector.Step.{Step}
 use Rattle.node_select.specs.Selection.{IsLongestMatch, SelectsPath, is_named, is_tested}
 use Rattle.node_select.proofs.LongestWays.{first_and_rest, onwards}
-use Rattle.node_select.proofs.Reaching.{depth_within, length-take-le}
+use Rattle.node_select.proofs.ReachLemmas.{depth_within, length-take-le}
 use Rattle.node_select.proofs.descent.reach.Goals as goal
 
 pub overflow_add-result : goal.overflow_add-result

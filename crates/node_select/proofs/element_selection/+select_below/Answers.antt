@@ -6,7 +6,7 @@ use Rattle.xml_tree.specs.Tree.{Tree, child_elements_of}
 use Rattle.xml_names.specs.declared.names.Decl.{Decl}
 use Rattle.node_select.specs.Selection.{selected_among, selected_child}
 use Rattle.node_select.specs.declared.selector.Step.{Step}
-use Rattle.node_select.proofs.Walked.{kid_lower}
+use Rattle.node_select.proofs.NodeWalks.{kid_lower}
 use Rattle.node_select.proofs.element_selection.+select_below.Goals as goal
 
 pub select_below-requires : goal.select_below-requires

@@ -1,6 +1,6 @@
 use Rattle.std.proofs.Common.{sym, ◌∙◌, ap, subst}
 use Rattle.node_select.specs.Selection.{IsLongestMatch, longest_in}
-use Rattle.node_select.proofs.Reaching.{longest_is}
+use Rattle.node_select.proofs.ReachLemmas.{longest_is}
 use Rattle.node_select.proofs.element_selection.longest_match.Goals as goal
 
 pub returns-clause-longest_selecting : goal.returns-clause-longest_selecting

@@ -1,6 +1,6 @@
 use Rattle.std.proofs.Common.{◌-◌, ◌∷◌, [], length, drop, take, arith}
 use Rattle.xml_tree.specs.Tree.{child_elements_of}
-use Rattle.node_select.proofs.Reaching.{depth_within, length-take-le}
+use Rattle.node_select.proofs.ReachLemmas.{depth_within, length-take-le}
 use Rattle.node_select.proofs.element_selection.matched_steps.Goals as goal
 
 pub overflow_add-result : goal.overflow_add-result

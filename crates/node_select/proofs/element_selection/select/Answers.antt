@@ -1,6 +1,6 @@
 use Rattle.std.proofs.Common.{◌≡◌, ◌↔◌, List, ℕ, Option, Some, sym, ◌∙◌, ap, subst}
 use Rattle.node_select.specs.Selection.{SelectsPath, selected_in}
-use Rattle.node_select.proofs.Reaching.{path_is}
+use Rattle.node_select.proofs.ReachLemmas.{path_is}
 use Rattle.node_select.proofs.element_selection.select.Goals as goal
 
 pub returns-clause-selected_path : goal.returns-clause-selected_path

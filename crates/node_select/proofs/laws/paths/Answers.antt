@@ -1,5 +1,5 @@
 use Rattle.node_select.proofs.Along.{one_path, path_there, last_step_to, last_step_from}
-use Rattle.node_select.proofs.Reaching.{path_is}
+use Rattle.node_select.proofs.ReachLemmas.{path_is}
 use Rattle.node_select.proofs.laws.paths.Goals as goal
 
 pub returns : goal.returns

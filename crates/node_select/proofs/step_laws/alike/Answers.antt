@@ -1,4 +1,4 @@
-use Rattle.node_select.proofs.Selecting.{match_alike, select_alike}
+use Rattle.node_select.proofs.SelectionAgreement.{match_alike, select_alike}
 use Rattle.node_select.proofs.step_laws.alike.Goals as goal
 
 pub returns : goal.returns

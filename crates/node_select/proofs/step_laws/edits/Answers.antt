@@ -1,4 +1,4 @@
-use Rattle.node_select.proofs.Edited.{select_shifted, select_remove_over, replaced, removed_none, removed_next}
+use Rattle.node_select.proofs.EditedSelection.{select_shifted, select_remove_over, replaced, removed_none, removed_next}
 use Rattle.node_select.proofs.step_laws.edits.Goals as goal
 
 pub returns : goal.returns

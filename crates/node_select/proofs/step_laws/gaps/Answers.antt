@@ -1,4 +1,4 @@
-use Rattle.node_select.proofs.Inserted.{set-insert}
+use Rattle.node_select.proofs.ListEdits.{set-insert}
 use Rattle.node_select.proofs.GapLaws.{lawful_is, lawful_between, lawful_anywhere}
 use Rattle.node_select.proofs.step_laws.gaps.Goals as goal
 

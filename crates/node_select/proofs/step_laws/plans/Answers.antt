@@ -1,5 +1,5 @@
 use Rattle.std.proofs.Common.{IsTrue}
-use Rattle.node_select.proofs.Planned.{one_plan, plan_of_is}
+use Rattle.node_select.proofs.GapPlans.{one_plan, plan_of_is}
 use Rattle.node_select.proofs.step_laws.plans.Goals as goal
 
 pub returns : goal.returns

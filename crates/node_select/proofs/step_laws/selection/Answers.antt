@@ -1,4 +1,4 @@
-use Rattle.node_select.proofs.Selecting.{one_selected, selected_is, no_zeroth}
+use Rattle.node_select.proofs.SelectionAgreement.{one_selected, selected_is, no_zeroth}
 use Rattle.node_select.proofs.step_laws.selection.Goals as goal
 
 pub returns : goal.returns

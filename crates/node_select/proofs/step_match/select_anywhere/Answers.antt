@@ -3,7 +3,7 @@ use Rattle.xml_tree.specs.Tree.{child_elements_of}
 use Rattle.node_select.proofs.OnePass.{only_is_selected, second_is_none}
 use Rattle.node_select.specs.Selection.{is_named, is_tested}
 use Rattle.node_select.specs.inner.Selection.{MatchesChild}
-use Rattle.node_select.proofs.Walked.{at_elem, at_other, at_end, here, only_hit, only_miss, no_element}
+use Rattle.node_select.proofs.NodeWalks.{at_elem, at_other, at_end, here, only_hit, only_miss, no_element}
 use Rattle.node_select.proofs.step_match.select_anywhere.Goals as goal
 use Rattle.node_select.proofs.step_match.select_anywhere.Goals.{in-Elem, then-is_match_anywhere+else-is_some, else-is_match_anywhere, in_default}
 

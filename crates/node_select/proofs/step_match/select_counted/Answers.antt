@@ -6,7 +6,7 @@ use Rattle.node_select.specs.StepSelection.{child_matches}
 use Rattle.node_select.proofs.OnePass.{only_is_selected, second_is_none}
 use Rattle.node_select.specs.Selection.{is_named, is_tested}
 use Rattle.node_select.specs.inner.Selection.{MatchesChild}
-use Rattle.node_select.proofs.Walked.{at_elem, at_other, at_end, count_next, here, only_hit, only_miss, at_most_one, no_element}
+use Rattle.node_select.proofs.NodeWalks.{at_elem, at_other, at_end, count_next, here, only_hit, only_miss, at_most_one, no_element}
 use Rattle.node_select.proofs.step_match.select_counted.Goals as goal
 use Rattle.node_select.proofs.step_match.select_counted.Goals.{in-Elem, then-is_match_if+else-is_some, else-is_match_if, in_default}
 

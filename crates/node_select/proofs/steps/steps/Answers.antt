@@ -2,7 +2,7 @@ use Rattle.std.proofs.Common.{rules, ◌≡◌, ℕ, ◌-◌, Bool, List, [], �
 use denote.Text.{Utf8}
 use denote.Shadow.{shadow}
 use Rattle.std.proofs.lemmas.Str.{encodes-chars}
-use Rattle.xml_grammar.specs.Reading.{Stop, ◌>>=◌}
+use Rattle.xml_grammar.specs.TextReading.{Stop, ◌>>=◌}
 use Rattle.xml_grammar.specs.readers.Functions.{read_many}
 use Rattle.xml_tokens.specs.declared.fault_kind.FaultKind.{FaultKind}
 use Rattle.node_select.specs.readers.SelectorValues.{first_step_of}

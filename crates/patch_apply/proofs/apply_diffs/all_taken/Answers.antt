@@ -6,7 +6,7 @@ use Rattle.patch_rules.specs.readers.Replay.{all_taken}
 use Rattle.patch_apply.specs.Views.{stored_in}
 use Rattle.patch_apply.specs.inner.PrivateTypes.{contents_in, turn_in}
 use Rattle.patch_apply.specs.declared.document_outcomes.DocumentOutcome.{DocumentOutcome}
-use Rattle.patch_apply.proofs.Turning.{item_now, so_many, taken_next, turn_fault}
+use Rattle.patch_apply.proofs.OperationOrder.{item_now, so_many, taken_next, turn_fault}
 use Rattle.patch_apply.proofs.apply_diffs.all_taken.Goals as goal
 
 pub loop-document-init : goal.loop-document-init

@@ -1,9 +1,9 @@
 use Rattle.std.proofs.Common.{subst}
 use Rattle.xml_tree.specs.Tree.{Tree}
-use Rattle.xcap_uri.specs.Naming.{is_name_of}
+use Rattle.xcap_uri.specs.PrintedNames.{is_name_of}
 use Rattle.patch_apply.specs.ApplyAnswers.{Applies}
 use Rattle.patch_apply.specs.Views.{stored_in}
-use Rattle.patch_apply.proofs.Replaying.{applies, stays_sound}
+use Rattle.patch_apply.proofs.WholeNotices.{applies, stays_sound}
 use Rattle.patch_apply.proofs.apply_diffs.apply_notice.Goals as goal
 
 pub returns-clause-as_specified : goal.returns-clause-as_specified

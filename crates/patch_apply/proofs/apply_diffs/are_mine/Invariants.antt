@@ -1,6 +1,6 @@
 use Rattle.std.proofs.Common.{◌≡◌, drop, map}
 use Rattle.patch_rules.specs.Replay.{is_all_mine}
-use Rattle.xcap_uri.specs.Naming.{is_name_of}
+use Rattle.xcap_uri.specs.PrintedNames.{is_name_of}
 use Rattle.patch_apply.proofs.apply_diffs.are_mine.Given as goal
 
 abbrev pub invariant-loop-document : goal.invariant-loop-document

@@ -2,7 +2,7 @@ use Rattle.std.proofs.Common.{[], List, ℕ, ◌+◌, drop, map, unwrap_or, sym,
 use Rattle.std.specs.Option.{option_copied}
 use Rattle.xml_tree.specs.Tree.{Tree}
 use Rattle.patch_rules.specs.Replay.{last_new}
-use Rattle.patch_apply.proofs.Turning.{item_now}
+use Rattle.patch_apply.proofs.OperationOrder.{item_now}
 use Rattle.patch_apply.proofs.apply_diffs.last_new.Goals as goal
 
 pub loop-document-preserved : goal.loop-document-preserved

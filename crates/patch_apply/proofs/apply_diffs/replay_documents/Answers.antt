@@ -2,12 +2,12 @@ use Rattle.std.proofs.Common.{◌≡◌, ◌<◌, ℕ, zero, suc, eqb, true, fal
 use Rattle.xml_tree.specs.Tree.{Tree}
 use Rattle.patch_rules.specs.Replay.{CopyAnswer, documents, is_all_mine}
 use Rattle.patch_rules.specs.readers.Replay.{all_taken}
-use Rattle.xcap_uri.specs.Naming.{is_name_of}
+use Rattle.xcap_uri.specs.PrintedNames.{is_name_of}
 use Rattle.patch_apply.specs.Views.{stored_in}
 use Rattle.patch_apply.specs.inner.PrivateTypes.{contents_in}
 use Rattle.patch_apply.specs.declared.document_outcomes.DocumentOutcome.{DocumentOutcome}
-use Rattle.patch_apply.proofs.Replaying.{done_with}
-use Rattle.patch_apply.proofs.Turning.{some_item}
+use Rattle.patch_apply.proofs.WholeNotices.{done_with}
+use Rattle.patch_apply.proofs.OperationOrder.{some_item}
 use Rattle.patch_apply.proofs.apply_diffs.replay_documents.Goals as goal
 
 some_if : (n : ℕ) → eqb n 0 ≡ false → 0 < n

@@ -6,7 +6,7 @@ use Rattle.patch_parse.specs.Operations.{ours_in}
 use Rattle.patch_apply.specs.Views.{stored_in}
 use Rattle.patch_apply.specs.inner.PrivateTypes.{turn_in}
 use Rattle.patch_apply.specs.declared.document_outcomes.DocumentOutcome.{DocumentOutcome}
-use Rattle.patch_apply.proofs.Turning.{error_alike}
+use Rattle.patch_apply.proofs.OperationOrder.{error_alike}
 use Rattle.patch_apply.proofs.apply_diffs.turn_of.Goals as goal
 
 pub returns-in_err-turn-clause-as_specified : goal.returns-in_err-turn-clause-as_specified

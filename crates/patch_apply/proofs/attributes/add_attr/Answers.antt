@@ -1,6 +1,6 @@
 use Rattle.std.proofs.Common.{Ok, sym, ap, ◌∙◌}
-use Rattle.patch_apply.proofs.Done.{attr_no_value, attr_twice}
-use Rattle.patch_apply.proofs.Making.{attr_made, attr_unlike}
+use Rattle.patch_apply.proofs.ActionResults.{attr_no_value, attr_twice}
+use Rattle.patch_apply.proofs.ActionTrees.{attr_made, attr_unlike}
 use Rattle.patch_apply.proofs.attributes.add_attr.Goals as goal
 
 pub returns-in_default : goal.returns-in_default

@@ -1,8 +1,8 @@
 use Rattle.std.proofs.Common.{Ok, sym, ap, ◌∙◌}
 use Rattle.xml_tree.specs.Tree.{at}
 use Rattle.patch_apply.proofs.Depths.{some_if}
-use Rattle.patch_apply.proofs.Done.{take_not}
-use Rattle.patch_apply.proofs.Making.{take_made}
+use Rattle.patch_apply.proofs.ActionResults.{take_not}
+use Rattle.patch_apply.proofs.ActionTrees.{take_made}
 use Rattle.patch_apply.proofs.attributes.remove_attr.Goals as goal
 
 pub returns-then-not-is_bare : goal.returns-then-not-is_bare

@@ -4,8 +4,8 @@ use Rattle.xml_tree.specs.Nodes.{exchange_nodes}
 use Rattle.xml_tree.specs.Tree.{at}
 use Rattle.xml_tree.specs.declared.tree.Node.{Node}
 use Rattle.patch_apply.proofs.Depths.{some_if}
-use Rattle.patch_apply.proofs.Done.{cut_not}
-use Rattle.patch_apply.proofs.Making.{cut_made}
+use Rattle.patch_apply.proofs.ActionResults.{cut_not}
+use Rattle.patch_apply.proofs.ActionTrees.{cut_made}
 use Rattle.patch_apply.proofs.attributes.remove_text.Goals as goal
 
 pub returns-then-not-is_bare : goal.returns-then-not-is_bare

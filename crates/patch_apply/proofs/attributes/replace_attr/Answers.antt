@@ -1,8 +1,8 @@
 use Rattle.std.proofs.Common.{Ok, sym, ap, ◌∙◌}
 use Rattle.xml_tree.specs.Tree.{at}
 use Rattle.patch_apply.proofs.Depths.{some_if}
-use Rattle.patch_apply.proofs.Done.{value_none}
-use Rattle.patch_apply.proofs.Making.{value_made}
+use Rattle.patch_apply.proofs.ActionResults.{value_none}
+use Rattle.patch_apply.proofs.ActionTrees.{value_made}
 use Rattle.patch_apply.proofs.attributes.replace_attr.Goals as goal
 
 pub returns-in_default : goal.returns-in_default

@@ -4,8 +4,8 @@ use Rattle.xml_tree.specs.Nodes.{exchange_nodes}
 use Rattle.xml_tree.specs.Tree.{at}
 use Rattle.xml_tree.specs.declared.tree.Node.{Node}
 use Rattle.patch_apply.proofs.Depths.{some_if}
-use Rattle.patch_apply.proofs.Done.{text_none}
-use Rattle.patch_apply.proofs.Making.{text_made}
+use Rattle.patch_apply.proofs.ActionResults.{text_none}
+use Rattle.patch_apply.proofs.ActionTrees.{text_made}
 use Rattle.patch_apply.proofs.attributes.replace_text.Goals as goal
 
 pub returns-in_default : goal.returns-in_default

@@ -1,5 +1,5 @@
 use Rattle.std.proofs.Common.{◌≡◌, Bor, ℕ, zero, suc, ◌<◌, false, List, [], ◌∷◌, length, drop, map, Option, None, option_map, refl, sym, ap, ◌∙◌, arith}
-use Rattle.xcap_uri.specs.Naming.{are_parts}
+use Rattle.xcap_uri.specs.PrintedNames.{are_parts}
 use Rattle.patch_apply.proofs.document_ids.are_parts.Goals as goal
 
 -- no address is left for a text

@@ -1,5 +1,5 @@
 use Rattle.std.proofs.Common.{◌≡◌, Some, drop, map, option_map}
-use Rattle.xcap_uri.specs.Naming.{are_parts}
+use Rattle.xcap_uri.specs.PrintedNames.{are_parts}
 use Rattle.patch_apply.proofs.document_ids.are_parts.Given as goal
 
 abbrev pub invariant-loop-text : goal.invariant-loop-text

@@ -4,7 +4,7 @@ use Rattle.xml_names.specs.declared.read_error.ReadError.{ReadError}
 use Rattle.patch_apply.specs.inner.Results.{EditsAs}
 use Rattle.patch_apply.specs.inner.PrivateTypes.{fault_at}
 use Rattle.patch_parse.specs.declared.operation_error.OperationError.{OperationError}
-use Rattle.patch_apply.proofs.Turning.{wrong_told}
+use Rattle.patch_apply.proofs.OperationOrder.{wrong_told}
 use Rattle.patch_apply.proofs.document_outcomes.error_at.Goals as goal
 
 pub returns-in-Fault : goal.returns-in-Fault

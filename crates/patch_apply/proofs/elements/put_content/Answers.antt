@@ -1,8 +1,8 @@
 use Rattle.std.proofs.Common.{sym, ◌∙◌}
 use Rattle.patch_apply.specs.inner.Stages.{gap_done}
 use Rattle.patch_parse.specs.Views.{position_in}
-use Rattle.patch_apply.proofs.Done.{put_beside_root, put_nothing, put_somewhere}
-use Rattle.patch_apply.proofs.Operating.{edits_same}
+use Rattle.patch_apply.proofs.ActionResults.{put_beside_root, put_nothing, put_somewhere}
+use Rattle.patch_apply.proofs.OperationStages.{edits_same}
 use Rattle.patch_apply.proofs.elements.put_content.Goals as goal
 
 pub returns-then-not-is_off_root : goal.returns-then-not-is_off_root

@@ -6,7 +6,7 @@ use Rattle.xml_tree.specs.Tree.{at}
 use Rattle.xml_tree.specs.declared.tree.Node.{Node}
 use Rattle.patch_apply.specs.inner.ByNodes.{nodes_height}
 use Rattle.patch_apply.proofs.Depths.{some_if}
-use Rattle.patch_apply.proofs.Making.{gap_deep, gap_made, gap_unlike}
+use Rattle.patch_apply.proofs.ActionTrees.{gap_deep, gap_made, gap_unlike}
 use Rattle.patch_apply.proofs.elements.put_in_gap.Goals as goal
 
 pub means_alike_at-requires : goal.means_alike_at-requires

@@ -4,8 +4,8 @@ use Rattle.xml_tree.specs.Tree.{at}
 use Rattle.patch_rules.specs.PatchOperations.{cut_nodes}
 use Rattle.patch_apply.specs.inner.Stages.{has_space_beside}
 use Rattle.patch_apply.proofs.Depths.{some_if}
-use Rattle.patch_apply.proofs.Done.{remove_no_space, remove_not, remove_root}
-use Rattle.patch_apply.proofs.Making.{remove_made}
+use Rattle.patch_apply.proofs.ActionResults.{remove_no_space, remove_not, remove_root}
+use Rattle.patch_apply.proofs.ActionTrees.{remove_made}
 use Rattle.patch_apply.proofs.elements.remove_element.Goals as goal
 
 pub returns-then-not-is_below : goal.returns-then-not-is_below

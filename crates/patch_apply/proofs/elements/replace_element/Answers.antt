@@ -1,8 +1,8 @@
 use Rattle.std.proofs.Common.{Ok, sym, ap, ◌∙◌}
 use Rattle.xml_tree.specs.Edits.{put_over}
 use Rattle.xml_tree.specs.Tree.{Tree}
-use Rattle.patch_apply.proofs.Done.{replace_none}
-use Rattle.patch_apply.proofs.Making.{element_deep, element_made, element_unlike}
+use Rattle.patch_apply.proofs.ActionResults.{replace_none}
+use Rattle.patch_apply.proofs.ActionTrees.{element_deep, element_made, element_unlike}
 use Rattle.patch_apply.proofs.elements.replace_element.Goals as goal
 
 pub returns-in_default : goal.returns-in_default

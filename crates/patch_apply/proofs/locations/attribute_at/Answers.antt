@@ -2,7 +2,7 @@ use Rattle.std.proofs.Common.{◌≡◌, None, Some, sym, ◌∙◌}
 use Rattle.std.specs.List.{position}
 use Rattle.xml_tree.specs.TreeScopes.{scope_at}
 use Rattle.node_select.specs.Selection.{is_attr}
-use Rattle.patch_apply.proofs.Located.{attr_spot, no_attr, scope_is}
+use Rattle.patch_apply.proofs.LocationLemmas.{attr_spot, no_attr, scope_is}
 use Rattle.patch_apply.proofs.locations.attribute_at.Goals as goal
 
 pub returns-in_err-place : goal.returns-in_err-place

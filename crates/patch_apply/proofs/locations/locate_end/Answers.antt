@@ -2,9 +2,9 @@ use Rattle.std.proofs.Common.{Some, sym, subst}
 use Rattle.xml_tree.specs.TreeScopes.{scope_at}
 use Rattle.node_select.specs.declared.selector.PatchEnd.{PatchEnd}
 use Rattle.patch_rules.specs.PatchOperations.{locate_end}
-use Rattle.patch_apply.specs.inner.Locating.{Spots}
+use Rattle.patch_apply.specs.inner.LocationViews.{Spots}
 use Rattle.patch_apply.specs.declared.locations.Location.TheVariants.{AtElement, AtText}
-use Rattle.patch_apply.proofs.Located.{element_target, text_spot}
+use Rattle.patch_apply.proofs.LocationLemmas.{element_target, text_spot}
 use Rattle.patch_apply.proofs.locations.locate_end.Goals as goal
 
 pub returns-in-Element : goal.returns-in-Element

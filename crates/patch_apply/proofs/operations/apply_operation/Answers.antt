@@ -3,7 +3,7 @@ use Rattle.std.specs.List.{list_all}
 use Rattle.xml_names.specs.declared.names.Decl.{Decl}
 use Rattle.patch_rules.specs.PatchOperations.{is_known}
 use Rattle.patch_apply.specs.inner.Stages.{said_done}
-use Rattle.patch_apply.proofs.Operating.{edits_same, known_attrs, plain_is, unknown_attrs, without_selector}
+use Rattle.patch_apply.proofs.OperationStages.{edits_same, known_attrs, plain_is, unknown_attrs, without_selector}
 use Rattle.patch_parse.proofs.Words.{sel}
 use Rattle.patch_apply.proofs.operations.apply_operation.Goals as goal
 

@@ -1,7 +1,7 @@
 use Rattle.std.proofs.Common.{option_map, sym, ap, ◌∙◌}
 use Rattle.patch_parse.specs.Operations.{task_said}
 use Rattle.patch_parse.specs.Views.{task_in}
-use Rattle.patch_apply.proofs.Operating.{edits_same, said_error, said_next, said_nothing}
+use Rattle.patch_apply.proofs.OperationStages.{edits_same, said_error, said_next, said_nothing}
 use Rattle.patch_apply.proofs.operations.apply_selected.Goals as goal
 
 pub returns-in_default : goal.returns-in_default
@@ -25,7 +25,7 @@ pub returns-in-Ok : goal.returns-in-Ok
 returns-in-Ok c = record {
   as_specified =
       let o = c.args.operation.now in
-      edits_same _ _ c.done_where.new.tree c.done_where.result
+      edits_same _ _ c.locate_and_apply.new.tree c.locate_and_apply.result
       (
       sym (
       said_next c.args.here.now c.args.sel.now o c.args.tree.now (task_in c.in-Some.task) c.in-Ok.selector
@@ -33,5 +33,5 @@ returns-in-Ok c = record {
       c.in-Ok.ensures.grammar_answer
       )
       )
-      c.done_where.ensures.as_specified;
+      c.locate_and_apply.ensures.as_specified;
 }

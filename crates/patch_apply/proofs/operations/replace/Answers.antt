@@ -1,7 +1,7 @@
 use Rattle.std.proofs.Common.{subst}
-use Rattle.patch_apply.specs.inner.Locating.{IsSpot}
+use Rattle.patch_apply.specs.inner.LocationViews.{IsSpot}
 use Rattle.patch_apply.specs.declared.locations.Location.{Location}
-use Rattle.patch_apply.proofs.Spotted.{replace_attr_at, replace_element_at, replace_text_at}
+use Rattle.patch_apply.proofs.LocationActions.{replace_attr_at, replace_element_at, replace_text_at}
 use Rattle.patch_apply.proofs.operations.replace.Goals as goal
 
 pub returns-in-AtElement : goal.returns-in-AtElement

@@ -1,5 +1,5 @@
 use Rattle.std.proofs.Common.{◌∙◌, sym}
-use Rattle.xml_names.specs.Expanded.{same_uri}
+use Rattle.xml_names.specs.ExpandedNames.{same_uri}
 use Rattle.patch_parse.proofs.SameNames.{same_attrs}
 use Rattle.patch_parse.proofs.name_meanings.attr_alike.Goals as goal
 

@@ -1,9 +1,9 @@
 use Rattle.std.proofs.Common.{subst}
 use Rattle.node_select.specs.declared.fault.SelectorFault.{SelectorFault}
-use Rattle.patch_rules.specs.readers.Applied.{reading_in}
+use Rattle.patch_rules.specs.readers.AppliedOperations.{reading_in}
 use Rattle.patch_parse.specs.inner.Forms.{IsRefused}
 use Rattle.patch_parse.specs.Views.{task_in}
-use Rattle.patch_parse.proofs.Selecting.{formless}
+use Rattle.patch_parse.proofs.SelectorReading.{formless}
 use Rattle.patch_parse.proofs.selectors.selector_error.Goals as goal
 
 pub returns-in-BadSelector : goal.returns-in-BadSelector

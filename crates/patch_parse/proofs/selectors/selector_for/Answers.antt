@@ -3,7 +3,7 @@ use Rattle.node_select.specs.Faults.{IsPatchSelectorAnswer}
 use Rattle.patch_rules.specs.PatchOperations.{suits}
 use Rattle.patch_parse.specs.inner.Forms.{is_type_bound}
 use Rattle.patch_parse.specs.Views.{task_in}
-use Rattle.patch_parse.proofs.Selecting.{fault_answered, found, refused_so, selecting, type_is_bound, unsuited, untyped}
+use Rattle.patch_parse.proofs.SelectorReading.{fault_answered, found, refused_so, selecting, type_is_bound, unsuited, untyped}
 use Rattle.patch_parse.proofs.selectors.selector_for.Goals as goal
 
 pub returns-then-not-suits : goal.returns-then-not-suits

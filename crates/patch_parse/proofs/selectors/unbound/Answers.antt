@@ -2,7 +2,7 @@ use Rattle.std.proofs.Common.{Err, sym, ap, ◌∙◌}
 use Rattle.xml_grammar.specs.readers.Functions.{read_whole}
 use Rattle.node_select.specs.readers.Selectors.{read_patch_selector}
 use Rattle.patch_parse.specs.Views.{task_in}
-use Rattle.patch_parse.proofs.Selecting.{meaningless_so, named_form, no_named_form}
+use Rattle.patch_parse.proofs.SelectorReading.{meaningless_so, named_form, no_named_form}
 use Rattle.patch_parse.proofs.selectors.unbound.Goals as goal
 
 pub returns-in-Ok-None : goal.returns-in-Ok-None

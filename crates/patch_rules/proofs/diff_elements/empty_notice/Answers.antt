@@ -1,5 +1,5 @@
 use Rattle.std.proofs.Common.{[], ◌∷◌, ◌++◌, chars, codes, ap, ◌∙◌}
-use Rattle.xml_names.specs.Expanded.{name_of}
+use Rattle.xml_names.specs.ExpandedNames.{name_of}
 use Rattle.xml_names.specs.Scopes.{decl_of}
 use Rattle.xml_tree.specs.Tree.{Tree, last, tree_of}
 use Rattle.edit_ops.specs.Operations.{plain_attr}

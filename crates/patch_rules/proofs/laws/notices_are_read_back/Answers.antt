@@ -1,4 +1,4 @@
-use Rattle.patch_rules.proofs.Stated.{aggregate_read, patching_read}
+use Rattle.patch_rules.proofs.LawStatements.{aggregate_read, patching_read}
 use Rattle.patch_rules.proofs.laws.notices_are_read_back.Goals as goal
 
 pub returns : goal.returns

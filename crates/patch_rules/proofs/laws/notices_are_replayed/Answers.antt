@@ -1,4 +1,4 @@
-use Rattle.patch_rules.proofs.Stated.{aggregate_replayed, patching_replayed}
+use Rattle.patch_rules.proofs.LawStatements.{aggregate_replayed, patching_replayed}
 use Rattle.patch_rules.proofs.laws.notices_are_replayed.Goals as goal
 
 pub returns : goal.returns

@@ -1,4 +1,4 @@
-use Rattle.patch_rules.proofs.Stated.{all_made, one_made}
+use Rattle.patch_rules.proofs.LawStatements.{all_made, one_made}
 use Rattle.patch_rules.proofs.laws.operations_make_changes.Goals as goal
 
 pub returns : goal.returns

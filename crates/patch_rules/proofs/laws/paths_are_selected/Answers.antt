@@ -1,4 +1,4 @@
-use Rattle.patch_rules.proofs.Stated.{attribute_selected, element_selected}
+use Rattle.patch_rules.proofs.LawStatements.{attribute_selected, element_selected}
 use Rattle.patch_rules.proofs.laws.paths_are_selected.Goals as goal
 
 pub returns : goal.returns

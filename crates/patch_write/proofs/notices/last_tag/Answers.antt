@@ -1,5 +1,5 @@
 use Rattle.std.proofs.Common.{sym, ◌∙◌}
-use Rattle.patch_write.proofs.Listing.{last-tag}
+use Rattle.patch_write.proofs.ElementLists.{last-tag}
 use Rattle.patch_write.proofs.notices.last_tag.Goals as goal
 
 pub returns-in-Some : goal.returns-in-Some

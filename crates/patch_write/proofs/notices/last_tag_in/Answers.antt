@@ -1,6 +1,6 @@
 use Rattle.std.proofs.Common.{ℕ, ap, ◌∙◌}
 use Rattle.edit_ops.specs.Notes.{tag_after}
-use Rattle.patch_write.proofs.Listing.{tag-joined}
+use Rattle.patch_write.proofs.ElementLists.{tag-joined}
 use Rattle.patch_write.proofs.notices.last_tag_in.Goals as goal
 
 pub returns : goal.returns

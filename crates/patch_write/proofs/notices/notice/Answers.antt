@@ -1,5 +1,5 @@
 use Rattle.std.proofs.Common.{◌≡◌, [], IfOk, encode_utf8_all, refl, subst}
-use Rattle.edit_ops.specs.Recorded.{all_notes}
+use Rattle.edit_ops.specs.RecordParts.{all_notes}
 use Rattle.xml_tree.specs.Tree.{Tree}
 use Rattle.doc_names.specs.Ids.{id_text}
 use Rattle.xml_tree.specs.Print.{document_print}

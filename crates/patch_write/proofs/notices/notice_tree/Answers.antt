@@ -1,6 +1,6 @@
 use Rattle.std.proofs.Common.{ℕ, List, [], ap, ◌∙◌}
 use Rattle.xml_tree.specs.Tree.{Tree}
-use Rattle.edit_ops.specs.Recorded.{all_notes}
+use Rattle.edit_ops.specs.RecordParts.{all_notes}
 use Rattle.patch_rules.specs.Notices.{diff}
 use Rattle.patch_rules.specs.inner.Lists.{with_all}
 use Rattle.patch_write.specs.inner.Modes.{documents_of}

@@ -1,7 +1,7 @@
 use Rattle.std.proofs.Common.{[], ◌∷◌, codes, decimal}
-use Rattle.xml_names.specs.Expanded.{name_of as in_diff}
+use Rattle.xml_names.specs.ExpandedNames.{name_of as in_diff}
 use Rattle.edit_ops.specs.Operations.{operation, plain_attr as plain}
-use Rattle.patch_write.proofs.Listing.{two-put}
+use Rattle.patch_write.proofs.ElementLists.{two-put}
 use Rattle.patch_write.proofs.notices.of_all.Goals as goal
 
 pub returns : goal.returns

@@ -1,5 +1,5 @@
 use Rattle.std.proofs.Common.{ℕ, ap, ◌∙◌}
-use Rattle.edit_ops.specs.Recorded.{all_notes as joined}
+use Rattle.edit_ops.specs.RecordParts.{all_notes as joined}
 use Rattle.patch_rules.specs.Notices.{document, operations}
 use Rattle.patch_write.proofs.Built.{all_told}
 use Rattle.patch_write.proofs.notices.push_all.Goals as goal

@@ -1,5 +1,5 @@
 use Rattle.std.proofs.Common.{sym, ◌∙◌}
-use Rattle.edit_ops.specs.Recorded.{all_notes as joined}
+use Rattle.edit_ops.specs.RecordParts.{all_notes as joined}
 use Rattle.patch_write.proofs.Built.{none_told}
 use Rattle.patch_write.proofs.notices.push_documents.Goals as goal
 

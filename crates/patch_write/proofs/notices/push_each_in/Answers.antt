@@ -3,7 +3,7 @@ use Rattle.edit_ops.specs.Notes.{Note}
 use Rattle.edit_ops.specs.Operations.{operation}
 use Rattle.xml_tree.specs.Tree.{Tree}
 use Rattle.patch_rules.specs.Notices.{document}
-use Rattle.patch_write.proofs.Listing.{two-behind}
+use Rattle.patch_write.proofs.ElementLists.{two-behind}
 use Rattle.patch_write.proofs.notices.push_each_in.Goals as goal
 
 pub returns : goal.returns

@@ -6,7 +6,7 @@ use Rattle.edit_ops.specs.Operations.{operation}
 use Rattle.edit_ops.specs.Notes.{Note}
 use Rattle.patch_rules.specs.Notices.{operations}
 use Rattle.patch_rules.specs.inner.Lists.{with_all}
-use Rattle.patch_write.proofs.Listing.{next-put}
+use Rattle.patch_write.proofs.ElementLists.{next-put}
 use Rattle.patch_write.proofs.notices.push_operations.Goals as goal
 
 pub loop-note-preserved : goal.loop-note-preserved

@@ -1,5 +1,5 @@
 use Rattle.std.proofs.Common.{[], ◌∷◌, ◌++◌, chars, codes, decimal, ap, ◌∙◌}
-use Rattle.xml_names.specs.Expanded.{name_of}
+use Rattle.xml_names.specs.ExpandedNames.{name_of}
 use Rattle.xml_tree.specs.Tree.{Tree, last, tree_of}
 use Rattle.edit_ops.specs.Operations.{plain_attr, sel_attr}
 use Rattle.patch_write.proofs.Words.{former_tag}

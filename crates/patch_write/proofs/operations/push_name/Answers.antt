@@ -1,5 +1,5 @@
 use Rattle.std.proofs.Common.{ℕ, List, ◌++◌, true≢false, sym, ap, ◌∙◌}
-use Rattle.patch_write.proofs.Named.{in_three}
+use Rattle.patch_write.proofs.WrittenNames.{in_three}
 use Rattle.patch_write.proofs.operations.push_name.Goals as goal
 
 pub returns : goal.returns

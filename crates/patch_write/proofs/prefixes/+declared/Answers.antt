@@ -1,6 +1,6 @@
-use Rattle.patch_rules.specs.inner.Declaring.{prefixes}
-use Rattle.patch_write.specs.inner.Declaring.{prefixes_at}
-use Rattle.patch_write.proofs.Gaining.{gains-decls, gains-end, gains-next, gains-nodes}
+use Rattle.patch_rules.specs.inner.DeclaredPrefixes.{prefixes}
+use Rattle.patch_write.specs.inner.DeclaredPrefixes.{prefixes_at}
+use Rattle.patch_write.proofs.PrefixSets.{gains-decls, gains-end, gains-next, gains-nodes}
 use Rattle.patch_write.proofs.prefixes.+declared.Goals as goal
 
 pub add_element-loop-node-init : goal.add_element-loop-node-init

@@ -1,6 +1,6 @@
 use Rattle.std.proofs.Common.{◌++◌, flat_map, take}
-use Rattle.patch_rules.specs.inner.Declaring.{prefixes}
-use Rattle.patch_write.specs.inner.Declaring.{Gains, prefixes_at}
+use Rattle.patch_rules.specs.inner.DeclaredPrefixes.{prefixes}
+use Rattle.patch_write.specs.inner.DeclaredPrefixes.{Gains, prefixes_at}
 use Rattle.patch_write.proofs.prefixes.+declared.Given as goal
 
 abbrev pub invariant-add_element-loop-node : goal.invariant-add_element-loop-node

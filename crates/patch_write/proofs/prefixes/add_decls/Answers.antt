@@ -1,6 +1,6 @@
 use Rattle.std.proofs.Common.{List, ℕ, [], ◌∷◌, subst}
-use Rattle.patch_write.specs.inner.Declaring.{Gains}
-use Rattle.patch_write.proofs.Gaining.{gains-end, gains-next, gains-none, gains-one, prefix_alone, prefixes-each}
+use Rattle.patch_write.specs.inner.DeclaredPrefixes.{Gains}
+use Rattle.patch_write.proofs.PrefixSets.{gains-end, gains-next, gains-none, gains-one, prefix_alone, prefixes-each}
 use Rattle.patch_write.proofs.prefixes.add_decls.Goals as goal
 
 pub loop-decl-init : goal.loop-decl-init

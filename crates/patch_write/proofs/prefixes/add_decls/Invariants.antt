@@ -1,6 +1,6 @@
 use Rattle.std.proofs.Common.{flat_map, take}
-use Rattle.patch_write.specs.inner.Declaring.{Gains}
-use Rattle.patch_write.proofs.Gaining.{prefix_alone}
+use Rattle.patch_write.specs.inner.DeclaredPrefixes.{Gains}
+use Rattle.patch_write.proofs.PrefixSets.{prefix_alone}
 use Rattle.patch_write.proofs.prefixes.add_decls.Given as goal
 
 abbrev pub invariant-loop-decl : goal.invariant-loop-decl

@@ -1,7 +1,7 @@
 use Rattle.std.proofs.Common.{[]}
-use Rattle.patch_rules.specs.inner.Declaring.{prefixes}
-use Rattle.patch_write.specs.inner.Declaring.{prefixes_put, prefixes_of_record}
-use Rattle.patch_write.proofs.Gaining.{gains-end, gains-next, gains-none, gains-then}
+use Rattle.patch_rules.specs.inner.DeclaredPrefixes.{prefixes}
+use Rattle.patch_write.specs.inner.DeclaredPrefixes.{prefixes_put, prefixes_of_record}
+use Rattle.patch_write.proofs.PrefixSets.{gains-end, gains-next, gains-none, gains-then}
 use Rattle.patch_write.proofs.prefixes.add_notes.Goals as goal
 
 pub loop-note-init : goal.loop-note-init

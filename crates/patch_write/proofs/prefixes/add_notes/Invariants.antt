@@ -1,5 +1,5 @@
 use Rattle.std.proofs.Common.{flat_map, take}
-use Rattle.patch_write.specs.inner.Declaring.{Gains, prefixes_of_record}
+use Rattle.patch_write.specs.inner.DeclaredPrefixes.{Gains, prefixes_of_record}
 use Rattle.patch_write.proofs.prefixes.add_notes.Given as goal
 
 abbrev pub invariant-loop-note : goal.invariant-loop-note

@@ -1,7 +1,7 @@
 use Rattle.std.proofs.Common.{◌≡◌, false, ◌∙◌, arith, rules}
 use Rattle.patch_rules.specs.Notices.{candidate}
 use Rattle.patch_write.proofs.FreePrefix.{found_first}
-use Rattle.patch_write.proofs.Gaining.{free-of}
+use Rattle.patch_write.proofs.PrefixSets.{free-of}
 use Rattle.patch_write.proofs.prefixes.first_free.Goals as goal
 
 pub returns-then-not-contains : goal.returns-then-not-contains

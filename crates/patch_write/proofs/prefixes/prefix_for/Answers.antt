@@ -2,11 +2,11 @@ use Rattle.std.proofs.Common.{◌≡◌, ℕ, List, ◌++◌, flat_map, length, 
 use Rattle.std.proofs.lemmas.Grind.{flat_map-append}
 use Rattle.std.proofs.lemmas.Result.{IfOk-weaker}
 use Rattle.std.specs.Set.{is_member}
-use Rattle.edit_ops.specs.Recorded.{all_notes as joined}
+use Rattle.edit_ops.specs.RecordParts.{all_notes as joined}
 use Rattle.patch_rules.specs.Notices.{candidate, first_free, prefix_for}
-use Rattle.patch_write.specs.inner.Declaring.{Gains, prefixes_of_record}
+use Rattle.patch_write.specs.inner.DeclaredPrefixes.{Gains, prefixes_of_record}
 use Rattle.patch_write.proofs.FreePrefix.{prefix-listed}
-use Rattle.patch_write.proofs.Gaining.{gains-then, holds-gained}
+use Rattle.patch_write.proofs.PrefixSets.{gains-then, holds-gained}
 use Rattle.patch_write.proofs.prefixes.prefix_for.Goals as goal
 
 pub returns : goal.returns

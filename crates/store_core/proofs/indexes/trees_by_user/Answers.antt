@@ -4,7 +4,7 @@ use Rattle.std.specs.Str.{bytes_eq}
 use Rattle.xml_tree.specs.Tree.{Tree}
 use Rattle.store_core.specs.Indexes.{index, indexed_by}
 use Rattle.store_core.specs.inner.ServiceListing.{entered, listed, pairs_in}
-use Rattle.store_core.proofs.Listing.{pairs-insert}
+use Rattle.store_core.proofs.IndexedTrees.{pairs-insert}
 use Rattle.store_core.proofs.indexes.trees_by_user.Goals as goal
 
 pub loop-doc-preserved-in_ok-insert : goal.loop-doc-preserved-in_ok-insert

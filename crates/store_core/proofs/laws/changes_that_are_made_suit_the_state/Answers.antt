@@ -1,4 +1,4 @@
-use Rattle.store_core.proofs.Accepted.{accepted-suits}
+use Rattle.store_core.proofs.AcceptedChanges.{accepted-suits}
 use Rattle.store_core.proofs.laws.changes_that_are_made_suit_the_state.Goals as goal
 
 pub returns : goal.returns

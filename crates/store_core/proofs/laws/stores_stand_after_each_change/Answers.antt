@@ -1,4 +1,4 @@
-use Rattle.store_core.proofs.Standing.{stands-after}
+use Rattle.store_core.proofs.StateContents.{stands-after}
 use Rattle.store_core.proofs.laws.stores_stand_after_each_change.Goals as goal
 
 pub returns : goal.returns

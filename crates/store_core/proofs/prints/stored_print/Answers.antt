@@ -5,7 +5,7 @@ use Rattle.doc_names.specs.Equality.{same_id}
 use Rattle.doc_names.specs.contracts.doc_id.DocIdPartialEq.TheImpl.{eq-value}
 use Rattle.xml_tree.specs.Print.{document_print}
 use Rattle.store_core.specs.declared.entry.Entry.{Entry}
-use Rattle.store_core.proofs.Keyed.{looked-up, same-set}
+use Rattle.store_core.proofs.DocumentMaps.{looked-up, same-set}
 use Rattle.store_core.proofs.prints.stored_print.Goals as goal
 
 pub returns-in-Some-clause-prints_document : goal.returns-in-Some-clause-prints_document

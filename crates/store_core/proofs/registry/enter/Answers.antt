@@ -3,8 +3,8 @@ use Rattle.std.specs.HashMap.{Updates}
 use Rattle.std.specs.Option.{option_to_list}
 use Rattle.std.specs.Set.{is_member}
 use Rattle.std.specs.Str.{bytes_eq}
-use Rattle.store_core.specs.inner.Storing.{registered}
-use Rattle.store_core.proofs.Registering.{more-first, succeeded}
+use Rattle.store_core.specs.inner.StoreMemory.{registered}
+use Rattle.store_core.proofs.RegistryLemmas.{more-first, succeeded}
 use Rattle.store_core.proofs.registry.enter.Goals as goal
 
 pub each-preserved : goal.each-preserved

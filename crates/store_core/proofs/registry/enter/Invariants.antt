@@ -2,7 +2,7 @@ use Rattle.std.proofs.Common.{◌≡◌, ℕ, ◌≤◌, List, Some, vec_len, if
 use Rattle.std.specs.Set.{is_member}
 use Rattle.std.specs.Str.{bytes_eq}
 use Rattle.indexmap.specs.IndexMap.{spare}
-use Rattle.store_core.specs.inner.Storing.{registered}
+use Rattle.store_core.specs.inner.StoreMemory.{registered}
 use Rattle.store_core.proofs.registry.enter.Given as goal
 
 abbrev pub invariant-each : goal.invariant-each

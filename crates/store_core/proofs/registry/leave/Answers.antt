@@ -1,7 +1,7 @@
 use Rattle.std.proofs.Common.{ℕ, ◌+◌, cond, take, Option, None, ap, ◌∙◌, arith}
 use Rattle.std.specs.Str.{bytes_eq}
-use Rattle.store_core.specs.inner.Storing.{registered}
-use Rattle.store_core.proofs.Registering.{more-last, taken-more}
+use Rattle.store_core.specs.inner.StoreMemory.{registered}
+use Rattle.store_core.proofs.RegistryLemmas.{more-last, taken-more}
 use Rattle.store_core.proofs.registry.leave.Goals as goal
 
 pub loop-uri-preserved : goal.loop-uri-preserved

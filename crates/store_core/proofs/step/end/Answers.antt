@@ -1,5 +1,5 @@
 use Rattle.std.proofs.Common.{◌∙◌}
-use Rattle.store_core.proofs.Keyed.{taken-out}
+use Rattle.store_core.proofs.DocumentMaps.{taken-out}
 use Rattle.store_core.proofs.step.end.Goals as goal
 
 pub returns : goal.returns

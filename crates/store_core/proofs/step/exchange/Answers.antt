@@ -4,7 +4,7 @@ use Rattle.doc_names.specs.Equality.{same_id}
 use Rattle.edit_ops.specs.Changes.{Fits}
 use Rattle.store_core.specs.declared.entry.Entry.{Entry}
 use Rattle.store_core.specs.TreeChanges.{IsOwnWhere, IsStagedIn}
-use Rattle.store_core.proofs.Keyed.{exchanged-in, looked-up, one-value}
+use Rattle.store_core.proofs.DocumentMaps.{exchanged-in, looked-up, one-value}
 use Rattle.store_core.proofs.step.exchange.Goals as goal
 
 pub update_entry-requires-clause-fits : goal.update_entry-requires-clause-fits

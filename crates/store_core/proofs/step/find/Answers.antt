@@ -1,5 +1,5 @@
 use Rattle.std.proofs.Common.{◌∙◌}
-use Rattle.store_core.proofs.Keyed.{looked-up}
+use Rattle.store_core.proofs.DocumentMaps.{looked-up}
 use Rattle.store_core.proofs.step.find.Goals as goal
 
 pub returns : goal.returns

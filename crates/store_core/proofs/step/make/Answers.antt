@@ -1,7 +1,7 @@
 use Rattle.std.proofs.Common.{◌∙◌}
 use Rattle.indexmap.proofs.CallerLemmas.{insert_entry-new}
 use Rattle.doc_names.specs.contracts.doc_id.DocIdPartialEq.TheImpl.{eq-value}
-use Rattle.store_core.proofs.Keyed.{looked-up}
+use Rattle.store_core.proofs.DocumentMaps.{looked-up}
 use Rattle.store_core.proofs.step.make.Goals as goal
 
 pub returns : goal.returns

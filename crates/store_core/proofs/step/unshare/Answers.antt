@@ -1,8 +1,8 @@
 use Rattle.std.proofs.Common.{sym, subst}
 use Rattle.std.proofs.lemmas.Result.{on_ok_weaker}
-use Rattle.store_core.specs.inner.Making.{IsOwn}
-use Rattle.store_core.specs.inner.Storing.{trees_in}
-use Rattle.store_core.proofs.Owning.{own-missing, own-written, same-written}
+use Rattle.store_core.specs.inner.UnsharedTrees.{IsOwn}
+use Rattle.store_core.specs.inner.StoreMemory.{trees_in}
+use Rattle.store_core.proofs.SharedTrees.{own-missing, own-written, same-written}
 use Rattle.store_core.proofs.step.unshare.Goals as goal
 
 pub returns-in-Some-clause-contents_unchanged : goal.returns-in-Some-clause-contents_unchanged

@@ -1,5 +1,5 @@
 use Rattle.std.proofs.Common.{chars, refl, sym}
-use Rattle.tree_text.proofs.Told.{not_read, ok_told, fault_told}
+use Rattle.tree_text.proofs.ByteResults.{not_read, ok_told, fault_told}
 use Rattle.tree_text.proofs.document_reader.read.Goals as goal
 
 pub returns-in_default : goal.returns-in_default

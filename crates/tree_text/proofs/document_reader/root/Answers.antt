@@ -1,5 +1,5 @@
 use Rattle.std.proofs.Common.{◌≡◌, ℕ, ◌==◌, false, List, [], ◌∷◌, length, chars, Ok, Err, refl, sym, subst}
-use Rattle.xml_grammar.specs.Reading.{Reader, Syntax}
+use Rattle.xml_grammar.specs.TextReading.{Reader, Syntax}
 use Rattle.xml_grammar.specs.readers.Functions.{read_whole}
 use Rattle.xml_names.specs.declared.names.Decl.{Decl}
 use Rattle.xml_tokens.specs.declared.fault_kind.FaultKind.{FaultKind}

@@ -3,7 +3,7 @@ use denote.Text.{Utf8}
 use denote.Shadow.{shadow}
 use Rattle.std.proofs.lemmas.Str.{encodes-chars}
 use Rattle.std.proofs.lemmas.Result.{err_from_is_err_and}
-use Rattle.xml_grammar.specs.Reading.{read_sequence}
+use Rattle.xml_grammar.specs.TextReading.{read_sequence}
 use Rattle.tree_text.specs.readers.Members.{nothing_with}
 use Rattle.xml_tokens.specs.readers.Tokens.{read_dropped, read_spaces}
 use Rattle.tree_text.specs.readers.Texts.{less_follows, read_misc, read_epilog}

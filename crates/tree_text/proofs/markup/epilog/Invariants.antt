@@ -1,7 +1,7 @@
 use Rattle.std.proofs.Common.{◌≡◌, ◌-◌, chars}
 use denote.Text.{Utf8}
 use denote.Shadow.{shadow}
-use Rattle.xml_grammar.specs.Reading.{read_sequence}
+use Rattle.xml_grammar.specs.TextReading.{read_sequence}
 use Rattle.xml_grammar.specs.readers.Functions.{read_at_most}
 use Rattle.tree_text.specs.readers.Members.{nothing_with}
 use Rattle.xml_tokens.specs.readers.Tokens.{read_dropped, read_spaces}

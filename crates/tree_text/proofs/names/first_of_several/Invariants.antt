@@ -2,7 +2,7 @@ use Rattle.std.proofs.Common.{◌≡◌, ◌+◌, [], take, drop}
 use Rattle.tree_text.specs.readers.Bindings.{lists}
 use Rattle.tree_text.specs.readers.Meanings.{Holds}
 use Rattle.tree_text.specs.Names.{widths}
-use Rattle.tree_text.specs.readers.Judging.{first_wrong}
+use Rattle.tree_text.specs.readers.TagNameFaults.{first_wrong}
 use Rattle.tree_text.proofs.names.first_of_several.Given as goal
 
 abbrev pub invariant-loop-raw_attribute : goal.invariant-loop-raw_attribute

@@ -1,7 +1,7 @@
 use Rattle.std.proofs.Common.{ℕ, List, ◌++◌, flat_map, sym, ap, ◌∙◌, map-id}
 use Rattle.std.proofs.lemmas.Iterator.{YieldsList-from_chars}
 use Rattle.std.proofs.lemmas.Iterator.Consumers.{YieldsList-end}
-use Rattle.tree_text.specs.Printing.{body_escape}
+use Rattle.tree_text.specs.AttributeBodyPrints.{body_escape}
 use Rattle.tree_text.proofs.printing.push_body.Goals as goal
 
 pub returns : goal.returns

@@ -1,5 +1,5 @@
 use Rattle.std.proofs.Common.{◌≡◌, ◌++◌, flat_map}
-use Rattle.tree_text.specs.Printing.{body_escape}
+use Rattle.tree_text.specs.AttributeBodyPrints.{body_escape}
 use Rattle.tree_text.proofs.printing.push_body.Given as goal
 
 abbrev pub invariant-loop-c : goal.invariant-loop-c

@@ -1,6 +1,6 @@
 use Rattle.std.proofs.Common.{chars, length, encode_utf8_all, sym}
 use Rattle.std.proofs.lemmas.Bool.{and_left}
-use Rattle.xml_grammar.specs.Reading.{head_is, after_front}
+use Rattle.xml_grammar.specs.TextReading.{head_is, after_front}
 use Rattle.xml_names.specs.Characters.{is_space, is_name_start}
 use Rattle.tree_text.specs.readers.Texts.{said_follows, read_said}
 use Rattle.xml_tokens.proofs.Loops.{none_read}

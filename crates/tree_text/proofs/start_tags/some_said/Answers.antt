@@ -1,6 +1,6 @@
 use Rattle.std.proofs.Common.{rules, ◌≡◌, ℕ, ◌-◌, List, [], ◌∷◌, ◌++◌, length, chars, encode_utf8_all, Result, Ok, Err, refl, sym, ap, subst, ◌∙◌, append_assoc, arith}
 use Rattle.std.proofs.lemmas.Str.{encodes-chars}
-use Rattle.xml_grammar.specs.Reading.{Stop, ◌>>=◌, read_valued}
+use Rattle.xml_grammar.specs.TextReading.{Stop, ◌>>=◌, read_valued}
 use Rattle.xml_grammar.specs.readers.Functions.{read_sized}
 use Rattle.xml_names.specs.declared.names.Name.{Name}
 use Rattle.xml_tokens.specs.declared.fault_kind.FaultKind.{FaultKind}

@@ -1,6 +1,6 @@
 use Rattle.std.proofs.Common.{List, [], ◌∷◌, ◌++◌, ◌+◌, ◌≡◌, ◌∙◌, true, false, is_some, take, min, ap, sym, subst}
 use Rattle.std.proofs.lemmas.List.{take_more, take_all}
-use Rattle.xml_names.specs.Scopes.{declared}
+use Rattle.xml_names.specs.Scopes.{declared_uri}
 use Rattle.xml_names.specs.declared.names.Decl.{Decl}
 use Rattle.usage_docs.specs.readers.Lengths.{binding_of, decls_len, hidden}
 use Rattle.usage_docs.proofs.HiddenLemmas.{HasSeen, hides_more, hides_same, lent, none_hidden, none_seen, seen_more, was_new, was_not_new}
@@ -28,12 +28,12 @@ loop-decl-preserved c =
       seen = subst (λ (ds : List Decl). HasSeen ds c.insert.new.self) (sym next) (seen_more xs d c.loop-decl.seen c.insert.new.self inv.seen c.in_ok-insert.ensures.updates);
       counted = elim c.if-branch.branch [
         | then-branch w ↦ (
-            let new : is_some (declared xs d.prefix) ≡ false = was_new _ _ _ c.in_ok-insert.ensures.added (inv.seen (lent d.prefix)) w.if-branch.true in
+            let new : is_some (declared_uri xs d.prefix) ≡ false = was_new _ _ _ c.in_ok-insert.ensures.added (inv.seen (lent d.prefix)) w.if-branch.true in
             let more : decls_len (hidden (take (i + 1) own) bs) ≡ decls_len (hidden xs bs) + decls_len (binding_of d.prefix bs) =
             ap (λ (ds : List Decl). decls_len (hidden ds bs)) next ∙ hides_more xs d new bs in
             two_capped 18446744073709551615 _ _ _ _ _ _ inv.counted w.binding_len.ensures.exact (w.total-is ∙ w.saturating_add-total.ensures) more)
         | else-branch w ↦ (
-            let old : is_some (declared xs d.prefix) ≡ true = was_not_new _ _ _ c.in_ok-insert.ensures.added (inv.seen (lent d.prefix)) w.if-branch.false in
+            let old : is_some (declared_uri xs d.prefix) ≡ true = was_not_new _ _ _ c.in_ok-insert.ensures.added (inv.seen (lent d.prefix)) w.if-branch.false in
             let same : hidden (take (i + 1) own) bs ≡ hidden xs bs = ap (λ (ds : List Decl). hidden ds bs) next ∙ hides_same xs d old bs in
             w.total-is ∙ inv.counted ∙ sym (ap (λ (ds : List Decl). min (decls_len ds) 18446744073709551615) same))
       ];

@@ -3,7 +3,7 @@ use Rattle.xml_names.specs.declared.names.Decl.{Decl}
 use Rattle.xml_tree.specs.declared.tree.Node.TheVariants.{Elem}
 use Rattle.usage_docs.specs.SchemaTable.{Scope}
 use Rattle.usage_docs.specs.Services.{service_elements}
-use Rattle.usage_docs.specs.readers.Listing.{elems_len, listed_nodes}
+use Rattle.usage_docs.specs.readers.ServiceNodes.{elems_len, listed_nodes}
 use Rattle.usage_docs.proofs.ListingLemmas.{all_listed}
 use Rattle.usage_docs.proofs.LengthLemmas.{next_listed, next_capped}
 use Rattle.usage_docs.proofs.lengths.nodes_len.Goals as goal

@@ -1,6 +1,6 @@
 use Rattle.std.proofs.Common.{◌∷◌, [], ◌++◌, ap, ◌∙◌}
 use Rattle.usage_docs.specs.SchemaTable.{Scope}
-use Rattle.usage_docs.specs.readers.Listing.{listed_nodes}
+use Rattle.usage_docs.specs.readers.ServiceNodes.{listed_nodes}
 use Rattle.usage_docs.proofs.ListingLemmas.{all_listed}
 use Rattle.usage_docs.proofs.service_index.listed_in.Goals as goal
 

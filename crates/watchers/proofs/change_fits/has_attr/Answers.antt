@@ -1,7 +1,7 @@
 use Rattle.std.proofs.Common.{sym, ap, ◌∙◌}
 use Rattle.std.specs.List.{list_any}
 use Rattle.xml_names.specs.Attributes.{is_written_so as is_named}
-use Rattle.watchers.proofs.Found.{names_there}
+use Rattle.watchers.proofs.AttributeLemmas.{names_there}
 use Rattle.watchers.proofs.change_fits.has_attr.Goals as goal
 
 pub returns-in-Some : goal.returns-in-Some

@@ -1,5 +1,5 @@
 use Rattle.std.proofs.Common.{◌++◌, List, ℕ, true≢false, string_bytes, ap, sym, ◌∙◌}
-use Rattle.watchers.proofs.Spelling.{in_three}
+use Rattle.watchers.proofs.LineBytes.{in_three}
 use Rattle.watchers.proofs.line.push_name.Goals as goal
 
 pub returns : goal.returns

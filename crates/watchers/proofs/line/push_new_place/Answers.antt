@@ -1,5 +1,5 @@
 use Rattle.std.proofs.Common.{◌++◌, List, ℕ, string_bytes, ap, ◌∙◌}
-use Rattle.watchers.proofs.Spelling.{one_step_more}
+use Rattle.watchers.proofs.LineBytes.{one_step_more}
 use Rattle.watchers.proofs.line.push_new_place.Goals as goal
 
 pub returns : goal.returns

@@ -5,9 +5,9 @@ use Rattle.edit_journal.specs.Logs.{LogState}
 use Rattle.edit_journal.specs.Texts.{text}
 use Rattle.edit_journal.specs.Journals.{JournalState}
 use Rattle.edit_journal.specs.Streams.{stream_state}
-use Rattle.edit_journal.proofs.Going.{goes_on}
+use Rattle.edit_journal.proofs.JournalCalls.{goes_on}
 use Rattle.xcap_app.specs.KeepCommand.{KeepsOn, OldJournal, keeps_on, no_journal}
-use Rattle.xcap_app.proofs.Keeping.{breaks_off, journal_read, keeps_so, short_text}
+use Rattle.xcap_app.proofs.KeepEndings.{breaks_off, journal_read, keeps_so, short_text}
 use Rattle.xcap_app.proofs.Streams.{wrote}
 use Rattle.xcap_app.proofs.keep.keep_over.Goals as goal
 

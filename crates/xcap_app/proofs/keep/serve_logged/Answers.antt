@@ -2,7 +2,7 @@ use Rattle.std.proofs.Common.{rules, inl, refl, sym, ◌∙◌, arith}
 use Rattle.edit_journal.specs.Streams.{stream_state}
 use Rattle.edit_journal.specs.LoggedRequests.{Accepts}
 use Rattle.xcap_machine.specs.SubscriberVersions.{FollowedStep}
-use Rattle.xcap_app.proofs.Keeping.{fits_whole, holds_whole, kept_done, kept_failed, kept_port_failed}
+use Rattle.xcap_app.proofs.KeepEndings.{fits_whole, holds_whole, kept_done, kept_failed, kept_port_failed}
 use Rattle.xcap_app.proofs.keep.serve_logged.Goals as goal
 
 pub serve_port_logged-served-requires-clause-fits : goal.serve_port_logged-served-requires-clause-fits

@@ -1,4 +1,4 @@
-use Rattle.xcap_app.proofs.Serving.{replayed}
+use Rattle.xcap_app.proofs.ServeEndings.{replayed}
 use Rattle.xcap_app.proofs.replay.replay_by.Goals as goal
 
 pub returns : goal.returns

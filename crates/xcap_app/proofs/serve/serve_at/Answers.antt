@@ -1,6 +1,6 @@
 use Rattle.std.proofs.Common.{refl, rules}
 use Rattle.xcap_app.specs.Serves.{IsComplete, ServesAddress, ServiceArguments}
-use Rattle.xcap_app.proofs.Serving.{ended_so, failed_so, served_address}
+use Rattle.xcap_app.proofs.ServeEndings.{ended_so, failed_so, served_address}
 use Rattle.xcap_app.proofs.serve.serve_at.Goals as goal
 
 pub returns-in-PortFailed : goal.returns-in-PortFailed

@@ -3,7 +3,7 @@ use Rattle.std.specs.Prelude.{codes, decimal, Ok, Err}
 use Rattle.std.proofs.lemmas.List.{append-nil}
 use Rattle.std.proofs.lemmas.Result.{err_from_is_err_and}
 use Rattle.xcap_io.specs.Streams.{WritesAll}
-use Rattle.xcap_io.proofs.Adding.{adds_both, adds_stop, all_written}
+use Rattle.xcap_io.proofs.BufferPieces.{adds_both, adds_stop, all_written}
 use Rattle.xcap_app.specs.Serves.{served_line}
 use Rattle.xcap_app.proofs.serve.write_served.Goals as goal
 

@@ -1,4 +1,4 @@
-use Rattle.xcap_client.proofs.Naming.{named, unnamed}
+use Rattle.xcap_client.proofs.ErrorNames.{named, unnamed}
 use Rattle.xcap_client.proofs.conflicts.error_document_of.Goals as goal
 
 pub returns-in-Ok : goal.returns-in-Ok

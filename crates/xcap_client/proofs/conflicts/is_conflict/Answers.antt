@@ -1,6 +1,6 @@
 use Rattle.std.proofs.Common.{◌≡◌, bytes_eq, codes, List, ℕ, Bool, true, ◌&&◌, Option, Some, sym, ap, ◌∙◌}
 use Rattle.std.specs.Str.{chars}
-use Rattle.xml_names.specs.Expanded.{same_uri}
+use Rattle.xml_names.specs.ExpandedNames.{same_uri}
 use Rattle.xml_names.specs.declared.names.Name.{Name}
 use Rattle.xcap_client.specs.Conflicts.{error_uri}
 use Rattle.xcap_client.proofs.Words.{xcap_error}

@@ -1,6 +1,6 @@
 use Rattle.std.proofs.Common.{sym, ◌∙◌, subst}
 use Rattle.xcap_client.specs.Tags.{IsTagWith}
-use Rattle.xcap_client.proofs.Quoting.{one_value}
+use Rattle.xcap_client.proofs.QuoteLemmas.{one_value}
 use Rattle.xcap_client.proofs.etags.read_tag.Goals as goal
 
 pub returns-in_default-opaque_of : goal.returns-in_default-opaque_of

@@ -1,6 +1,6 @@
 use Rattle.std.proofs.Common.{sym, ◌∙◌}
 use Rattle.request_checks.specs.Tags.{is_tag_byte}
-use Rattle.xcap_client.proofs.Quoting.{all_pass, not_quoted}
+use Rattle.xcap_client.proofs.QuoteLemmas.{all_pass, not_quoted}
 use Rattle.xcap_client.proofs.etags.unquote.Goals as goal
 use Rattle.xcap_client.proofs.etags.unquote.Goals.{in_default-via-in-Some+else-are_tag_bytes, in_default-via-in_default}
 

@@ -1,6 +1,6 @@
 use Rattle.std.proofs.Common.{refl}
 use Rattle.xcap_uri.specs.Roots.{authority_of, path_of}
-use Rattle.xcap_client.proofs.Understanding.{understood}
+use Rattle.xcap_client.proofs.RequestParsing.{understood}
 use Rattle.xcap_client.proofs.exchange_laws.requests_are_understood.Goals as goal
 
 pub returns : goal.returns

@@ -1,7 +1,7 @@
 use Rattle.std.proofs.Common.{List, ℕ, ◌++◌, [], flat_map, subst}
 use Rattle.std.proofs.lemmas.List.{append-nil}
 use Rattle.xcap_io.specs.Streams.{WritesAll}
-use Rattle.xcap_io.proofs.Adding.{adds_both, all_written}
+use Rattle.xcap_io.proofs.BufferPieces.{adds_both, all_written}
 use Rattle.xcap_client.proofs.request.hand_over.Goals as goal
 
 pub returns-clause-all_or_prefix : goal.returns-clause-all_or_prefix

@@ -1,7 +1,7 @@
 use Rattle.std.proofs.Common.{flat_map, ap}
 use Rattle.std.proofs.lemmas.List.{drop_all}
 use Rattle.std.proofs.lemmas.Result.{err_from_is_err_and}
-use Rattle.xcap_io.proofs.Adding.{owes_less, owes_stop, owes_none}
+use Rattle.xcap_io.proofs.BufferPieces.{owes_less, owes_stop, owes_none}
 use Rattle.xcap_client.proofs.Lines.{flat_map_more}
 use Rattle.xcap_client.proofs.request.write_pieces.Goals as goal
 

@@ -1,6 +1,6 @@
 use Rattle.std.proofs.Common.{drop, flat_map}
 use Rattle.xcap_io.specs.declared.streams.Failed.{Failed}
-use Rattle.xcap_io.proofs.Adding.{Owes}
+use Rattle.xcap_io.proofs.BufferPieces.{Owes}
 use Rattle.xcap_client.proofs.request.write_pieces.Given as goal
 
 abbrev pub invariant-pieces : goal.invariant-pieces

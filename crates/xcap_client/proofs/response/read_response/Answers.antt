@@ -2,7 +2,7 @@ use Rattle.std.proofs.Common.{ℕ, List, sym, ap, subst, ◌∙◌}
 use Rattle.std.specs.Prelude.{Err}
 use Rattle.std.proofs.lemmas.Result.{err_from_is_err_and}
 use Rattle.xcap_client.specs.Responses.{AnswersRead}
-use Rattle.xcap_client.proofs.Answering.{extent_at, answers_refused, answers_body_fault, answers_response}
+use Rattle.xcap_client.proofs.CallResults.{extent_at, answers_refused, answers_body_fault, answers_response}
 use Rattle.xcap_client.proofs.response.read_response.Goals as goal
 
 pub returns-in_err-extent-clause-answers_read : goal.returns-in_err-extent-clause-answers_read

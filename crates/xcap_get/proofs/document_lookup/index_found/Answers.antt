@@ -3,7 +3,7 @@ use Rattle.xml_names.specs.Memory.{OfFault}
 use Rattle.xml_names.specs.declared.read_error.ReadError.{ReadError}
 use Rattle.usage_docs.specs.declared.service_index.IndexFault.{IndexFault}
 use Rattle.xcap_get.specs.inner.FoundResources.{HasLongIndex}
-use Rattle.xcap_get.proofs.Leading.{leads_beyond, leads_index}
+use Rattle.xcap_get.proofs.IndexResources.{leads_beyond, leads_index}
 use Rattle.xcap_get.proofs.document_lookup.index_found.Goals as goal
 
 pub returns-in-Ok-clause-leads_there : goal.returns-in-Ok-clause-leads_there

@@ -1,5 +1,5 @@
 use Rattle.std.proofs.Common.{chars}
-use Rattle.xcap_get.proofs.Showing.{with_document, without_document, without_list}
+use Rattle.xcap_get.proofs.FlatDocuments.{with_document, without_document, without_list}
 use Rattle.xcap_get.proofs.lists.document.Goals as goal
 
 pub returns-in_err-uris : goal.returns-in_err-uris

@@ -1,4 +1,4 @@
-use Rattle.xcap_get.proofs.Sending.{refused, sent}
+use Rattle.xcap_get.proofs.FlatReplies.{refused, sent}
 use Rattle.xcap_get.proofs.lists.get_flat.Goals as goal
 
 pub returns-in-Ok : goal.returns-in-Ok

@@ -2,8 +2,8 @@ use Rattle.std.proofs.Common.{Bor, List, refl, sym, subst}
 use Rattle.std.proofs.lemmas.Result.{err_from_is_err_and}
 use Rattle.xml_tree.specs.Tree.{Tree}
 use Rattle.usage_docs.specs.Services.{index_of_documents}
-use Rattle.xcap_get.proofs.Gathering.{Gathered, beyond, gathered_more, gathered_none, shown}
-use Rattle.xcap_get.proofs.Leading.{refused_so}
+use Rattle.xcap_get.proofs.IndexSteps.{Gathered, beyond, gathered_more, gathered_none, shown}
+use Rattle.xcap_get.proofs.IndexResources.{refused_so}
 use Rattle.xcap_get.proofs.service_index.index_of_services.Goals as goal
 
 pub loop-root-init : goal.loop-root-init

@@ -1,7 +1,7 @@
 use Rattle.std.proofs.Common.{List}
 use Rattle.xml_tree.specs.Tree.{Tree}
 use Rattle.store_core.specs.Indexes.{AreIndexTrees}
-use Rattle.xcap_get.proofs.Gathering.{Gathered, shown}
+use Rattle.xcap_get.proofs.IndexSteps.{Gathered, shown}
 use Rattle.xcap_get.proofs.service_index.index_of_services.Given as goal
 
 abbrev pub invariant-loop-root : goal.invariant-loop-root

@@ -1,6 +1,6 @@
 use Rattle.std.proofs.Common.{[], ◌++◌, sym, subst}
 use Rattle.xcap_io.specs.Streams.{WritesAll}
-use Rattle.xcap_io.proofs.Adding.{adds_both, adds_written}
+use Rattle.xcap_io.proofs.BufferPieces.{adds_both, adds_written}
 use Rattle.xcap_io.proofs.write_buffer.put.Goals as goal
 
 pub returns : goal.returns

@@ -1,4 +1,4 @@
-use Rattle.element_watch.specs.Finding.{notes_behind}
+use Rattle.element_watch.specs.SelectionHistory.{notes_behind}
 use Rattle.store_core.specs.State.{versions}
 use Rattle.xcap_laws.proofs.FeedStatuses.{known_is_answered}
 use Rattle.xcap_laws.proofs.KnownChanges as changes

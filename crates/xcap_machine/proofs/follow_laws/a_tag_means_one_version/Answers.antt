@@ -1,4 +1,4 @@
-use Rattle.xcap_machine.proofs.Following.{one_of_a_tag}
+use Rattle.xcap_machine.proofs.SubscriberLemmas.{one_of_a_tag}
 use Rattle.xcap_machine.proofs.follow_laws.a_tag_means_one_version.Goals as goal
 
 pub returns : goal.returns

@@ -1,6 +1,6 @@
 use Rattle.std.proofs.Common.{refl}
 use Rattle.xcap_uri.specs.Roots.{authority_of, path_of}
-use Rattle.xcap_machine.proofs.Following.{in_order}
+use Rattle.xcap_machine.proofs.SubscriberLemmas.{in_order}
 use Rattle.xcap_machine.proofs.follow_laws.notices_are_applied_in_order.Goals as goal
 
 pub returns : goal.returns

@@ -2,7 +2,7 @@ use Rattle.std.proofs.Common.{refl}
 use Rattle.xcap_uri.specs.Roots.{authority_of, path_of}
 use Rattle.xcap_machine.specs.Machine.{answer_as}
 use Rattle.store_core.specs.Contents.{stock_of}
-use Rattle.xcap_machine.proofs.Answered.{holds}
+use Rattle.xcap_machine.proofs.FeedAnswers.{holds}
 use Rattle.xcap_machine.proofs.follow_laws.subscribers_hold_the_document.Goals as goal
 
 pub returns : goal.returns

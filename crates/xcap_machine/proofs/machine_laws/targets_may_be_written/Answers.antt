@@ -1,4 +1,4 @@
-use Rattle.xcap_machine.proofs.Named.{writable}
+use Rattle.xcap_machine.proofs.AttributeAddresses.{writable}
 use Rattle.xcap_machine.proofs.machine_laws.targets_may_be_written.Goals as goal
 
 pub returns : goal.returns

@@ -1,7 +1,7 @@
 use Rattle.std.proofs.Common.{ap, ◌∙◌}
 use Rattle.edit_ops.specs.Notes.{Note}
 use Rattle.xcap_machine.specs.DocumentWrites.{put_reply}
-use Rattle.xcap_put.proofs.Doing.{makes, refuses}
+use Rattle.xcap_put.proofs.DecisionAnswers.{makes, refuses}
 use Rattle.xcap_put.proofs.decisions.decide_change.Goals as goal
 
 pub returns-in-Ok-clause-decides_change : goal.returns-in-Ok-clause-decides_change

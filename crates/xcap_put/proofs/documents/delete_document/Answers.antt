@@ -1,6 +1,6 @@
 use Rattle.xcap_machine.specs.DocumentWrites.{DeletesDocument}
 use Rattle.xcap_put.proofs.Conditions.{delete_absent}
-use Rattle.xcap_put.proofs.Doing.{stays}
+use Rattle.xcap_put.proofs.DecisionAnswers.{stays}
 use Rattle.xcap_put.proofs.documents.delete_document.Goals as goal
 
 pub returns-in-None-clause-decides_removal : goal.returns-in-None-clause-decides_removal

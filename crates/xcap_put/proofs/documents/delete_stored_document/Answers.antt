@@ -2,9 +2,9 @@ use Rattle.std.proofs.Common.{◌≡◌}
 use Rattle.edit_ops.specs.declared.change.Change.TheVariants.{RemoveDocument}
 use Rattle.store_core.specs.Queries.{Asks}
 use Rattle.xcap_machine.specs.DocumentWrites.{DeletesDocument, change_answer, deleted_reply}
-use Rattle.xcap_machine.proofs.Asked.{asks_to_delete}
+use Rattle.xcap_machine.proofs.PutPremises.{asks_to_delete}
 use Rattle.xcap_put.proofs.Conditions.{asked_to_delete, delete_goes_on, delete_stops}
-use Rattle.xcap_put.proofs.Doing.{all_so, stays}
+use Rattle.xcap_put.proofs.DecisionAnswers.{all_so, stays}
 use Rattle.xcap_put.proofs.documents.delete_stored_document.Goals as goal
 
 pub returns-in-Some-clause-decides_removal : goal.returns-in-Some-clause-decides_removal

@@ -2,8 +2,8 @@ use Rattle.std.proofs.Common.{◌≡◌, sym, subst}
 use Rattle.xcap_machine.specs.Answers.{Answer}
 use Rattle.xcap_machine.specs.DocumentWrites.{PutsBody, put_answer}
 use Rattle.request_checks.specs.MediaTypes.{document_media}
-use Rattle.xcap_put.proofs.Coming.{body_comes}
-use Rattle.xcap_put.proofs.Doing.{all_so, stays}
+use Rattle.xcap_put.proofs.BodyReading.{body_comes}
+use Rattle.xcap_put.proofs.DecisionAnswers.{all_so, stays}
 use Rattle.xcap_put.proofs.documents.put_body.Goals as goal
 
 pub returns-in-Refused-clause-decides_by_body : goal.returns-in-Refused-clause-decides_by_body

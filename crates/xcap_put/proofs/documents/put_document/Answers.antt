@@ -3,7 +3,7 @@ use Rattle.xcap_machine.specs.Answers.{unchanged}
 use Rattle.xcap_machine.specs.Resources.{version_of}
 use Rattle.xcap_machine.specs.DocumentWrites.{PutsBody, PutsDocument, put_answer}
 use Rattle.xcap_put.proofs.Conditions.{put_goes_on, put_stops}
-use Rattle.xcap_put.proofs.Doing.{all_so, stays}
+use Rattle.xcap_put.proofs.DecisionAnswers.{all_so, stays}
 use Rattle.xcap_put.proofs.documents.put_document.Goals as goal
 
 pub returns-in-Some-clause-decides_put : goal.returns-in-Some-clause-decides_put

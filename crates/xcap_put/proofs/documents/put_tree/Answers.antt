@@ -1,4 +1,4 @@
-use Rattle.xcap_put.proofs.Putting.{asks_put, put_so}
+use Rattle.xcap_put.proofs.PutTrees.{asks_put, put_so}
 use Rattle.xcap_put.proofs.documents.put_tree.Goals as goal
 
 pub decide_change-requires : goal.decide_change-requires

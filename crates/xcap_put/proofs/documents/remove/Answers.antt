@@ -1,6 +1,6 @@
 use Rattle.edit_ops.specs.declared.change.Change.TheVariants.{RemoveDocument}
 use Rattle.xcap_machine.specs.DocumentWrites.{deleted_reply}
-use Rattle.xcap_put.proofs.Doing.{makes, refuses}
+use Rattle.xcap_put.proofs.DecisionAnswers.{makes, refuses}
 use Rattle.xcap_put.proofs.documents.remove.Goals as goal
 
 pub returns-in-Ok-clause-decides_removal : goal.returns-in-Ok-clause-decides_removal

@@ -1,4 +1,4 @@
-use Rattle.xcap_put.proofs.Spelled.{at_beside, at_over, at_under, at_value}
+use Rattle.xcap_put.proofs.BodyPlans.{at_beside, at_over, at_under, at_value}
 use Rattle.xcap_put.proofs.fragment_puts.put_body.Goals as goal
 
 pub returns-in-Value : goal.returns-in-Value

@@ -1,6 +1,6 @@
-use Rattle.xcap_put.proofs.Planning.{put_may}
-use Rattle.xcap_put.proofs.Spelled.{element_puts, element_refused}
-use Rattle.xcap_put.proofs.Spotted.{leads}
+use Rattle.xcap_put.proofs.PlanAnswers.{put_may}
+use Rattle.xcap_put.proofs.BodyPlans.{element_puts, element_refused}
+use Rattle.xcap_put.proofs.TargetLemmas.{leads}
 use Rattle.xcap_put.proofs.fragment_puts.put_element.Goals as goal
 
 pub read_element-requires-clause-valid_spot : goal.read_element-requires-clause-valid_spot

@@ -2,7 +2,7 @@ use Rattle.std.proofs.Common.{◌≡◌, true, sym, ap, ◌∙◌}
 use Rattle.reply_bodies.specs.Nodes.{node_media}
 use Rattle.reply_text.specs.declared.media_types.MediaType.{MediaType}
 use Rattle.request_checks.specs.MediaTypes.{has_type}
-use Rattle.xcap_put.proofs.Spelled.{of_type}
+use Rattle.xcap_put.proofs.BodyPlans.{of_type}
 use Rattle.xcap_put.proofs.fragment_puts.put_fragment.Goals as goal
 
 pub returns : goal.returns

@@ -1,5 +1,5 @@
-use Rattle.xcap_put.proofs.Planning.{attr_may}
-use Rattle.xcap_put.proofs.Spelled.{value_puts, value_refused}
+use Rattle.xcap_put.proofs.PlanAnswers.{attr_may}
+use Rattle.xcap_put.proofs.BodyPlans.{value_puts, value_refused}
 use Rattle.xcap_put.proofs.fragment_puts.put_value.Goals as goal
 
 pub returns-in_ok-planned-in-Ok : goal.returns-in_ok-planned-in-Ok

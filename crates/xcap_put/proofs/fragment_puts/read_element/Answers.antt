@@ -1,7 +1,7 @@
 use Rattle.std.proofs.Common.{◌+◌, ◌≤◌, List, ℕ, length, sym, subst}
 use Rattle.xml_names.specs.declared.names.Decl.{Decl}
 use Rattle.xcap_machine.specs.NodeWrites.{levels_for}
-use Rattle.xcap_put.proofs.Spotted.{scope_fits}
+use Rattle.xcap_put.proofs.TargetLemmas.{scope_fits}
 use Rattle.xcap_put.proofs.fragment_puts.read_element.Goals as goal
 
 pub read_fragment-requires : goal.read_fragment-requires

@@ -1,5 +1,5 @@
 use Rattle.std.proofs.Common.{◌∙◌}
-use Rattle.xcap_put.proofs.Spotted.{around_is, parent_there}
+use Rattle.xcap_put.proofs.TargetLemmas.{around_is, parent_there}
 use Rattle.xcap_put.proofs.fragment_puts.scope_around.Goals as goal
 
 pub scope_at-requires : goal.scope_at-requires

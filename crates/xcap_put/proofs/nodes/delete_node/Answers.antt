@@ -4,10 +4,10 @@ use Rattle.xcap_machine.specs.Answers.{Answer, unchanged}
 use Rattle.xcap_machine.specs.NodeWrites.{DeletesNode}
 use Rattle.xcap_machine.specs.inner.Cases.{DeletesNodeIn, DeletesNodeOf}
 use Rattle.xcap_machine.specs.inner.Records.{write_of}
-use Rattle.xcap_put.proofs.Decided.{decides_planned}
-use Rattle.xcap_put.proofs.Doing.{stays}
-use Rattle.xcap_put.proofs.Held.{of_version}
-use Rattle.xcap_put.proofs.Planning.{asks_for}
+use Rattle.xcap_put.proofs.NodeRequests.{decides_planned}
+use Rattle.xcap_put.proofs.DecisionAnswers.{stays}
+use Rattle.xcap_put.proofs.StoredAnswers.{of_version}
+use Rattle.xcap_put.proofs.PlanAnswers.{asks_for}
 use Rattle.xcap_put.proofs.nodes.delete_node.Goals as goal
 
 pub decide_plan-requires : goal.decide_plan-requires

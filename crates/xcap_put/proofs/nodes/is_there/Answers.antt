@@ -1,5 +1,5 @@
 use Rattle.std.proofs.Common.{◌∙◌}
-use Rattle.xcap_put.proofs.Spotted.{new_beside, new_under, there_as_value, there_over}
+use Rattle.xcap_put.proofs.TargetLemmas.{new_beside, new_under, there_as_value, there_over}
 use Rattle.xcap_put.proofs.nodes.is_there.Goals as goal
 
 pub returns-in-Over : goal.returns-in-Over

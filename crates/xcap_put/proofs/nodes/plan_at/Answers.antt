@@ -1,6 +1,6 @@
 use Rattle.xcap_machine.specs.NodeWrites.{PutsFragment, is_there}
 use Rattle.xcap_machine.specs.inner.Records.{write_of}
-use Rattle.xcap_put.proofs.Decided.{plan_stopped, plan_unstopped}
+use Rattle.xcap_put.proofs.NodeRequests.{plan_stopped, plan_unstopped}
 use Rattle.xcap_put.proofs.nodes.plan_at.Goals as goal
 
 pub returns-in-Some : goal.returns-in-Some

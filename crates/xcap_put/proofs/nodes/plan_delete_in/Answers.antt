@@ -1,9 +1,9 @@
 use Rattle.std.proofs.Common.{Option, Some, Ok, true, refl, subst}
 use Rattle.xcap_machine.specs.NodeWrites.{CutsNode}
 use Rattle.xcap_machine.specs.inner.Records.{write_of}
-use Rattle.xcap_put.specs.inner.Planning.{IsRemovalPlan}
+use Rattle.xcap_put.specs.inner.RequestPlans.{IsRemovalPlan}
 use Rattle.xcap_put.specs.declared.plan.Plan.{Plan}
-use Rattle.xcap_put.proofs.Decided.{plan_unstopped, there}
+use Rattle.xcap_put.proofs.NodeRequests.{plan_unstopped, there}
 use Rattle.xcap_put.proofs.nodes.plan_delete_in.Goals as goal
 
 pub returns-in-Ok-None : goal.returns-in-Ok-None

@@ -1,4 +1,4 @@
-use Rattle.xcap_put.proofs.Decided.{put_at_spot}
+use Rattle.xcap_put.proofs.NodeRequests.{put_at_spot}
 use Rattle.xcap_put.proofs.nodes.plan_put_in.Goals as goal
 
 pub returns-in-Ok : goal.returns-in-Ok

@@ -1,5 +1,5 @@
 use Rattle.doc_names.specs.Usages.{usage_of}
-use Rattle.xcap_put.proofs.Held.{sound_one}
+use Rattle.xcap_put.proofs.StoredAnswers.{sound_one}
 use Rattle.xcap_put.proofs.nodes.version_of.Goals as goal
 
 pub returns-clause-stored_sound : goal.returns-clause-stored_sound

@@ -1,4 +1,4 @@
-use Rattle.xcap_put.proofs.Coming.{text_comes}
+use Rattle.xcap_put.proofs.BodyReading.{text_comes}
 use Rattle.xcap_put.proofs.request_bodies.body_read.Goals as goal
 
 pub returns-in-Ok : goal.returns-in-Ok

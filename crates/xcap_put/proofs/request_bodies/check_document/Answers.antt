@@ -1,7 +1,7 @@
 use Rattle.std.proofs.Common.{Option, subst}
 use Rattle.usage_docs.specs.Validation.{HasFirstFault}
 use Rattle.usage_docs.specs.declared.validation.Fault.{Fault}
-use Rattle.xcap_put.proofs.Coming.{tree_comes}
+use Rattle.xcap_put.proofs.BodyReading.{tree_comes}
 use Rattle.xcap_put.proofs.request_bodies.check_document.Goals as goal
 
 pub returns-in-None : goal.returns-in-None

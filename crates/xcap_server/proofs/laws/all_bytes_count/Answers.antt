@@ -1,4 +1,4 @@
-use Rattle.xcap_server.proofs.Counting.{line_counts, port_counts}
+use Rattle.xcap_server.proofs.KnownBytes.{line_counts, port_counts}
 use Rattle.xcap_server.proofs.laws.all_bytes_count.Goals as goal
 
 pub returns-clause-one_stream_bytes : goal.returns-clause-one_stream_bytes

@@ -3,7 +3,7 @@ use Rattle.reply_text.specs.ReplyHeads.{plain}
 use Rattle.xcap_uri.specs.declared.fault.UriFault.{UriFault}
 use Rattle.xcap_machine.specs.Requests.{fault_status}
 use Rattle.xcap_put.specs.declared.decision.Decision.TheVariants.{Stays}
-use Rattle.xcap_machine.proofs.Named.{writable}
+use Rattle.xcap_machine.proofs.AttributeAddresses.{writable}
 use Rattle.xcap_server.proofs.Dispatch.{fault_decided, target_decided}
 use Rattle.xcap_server.proofs.requests.decide.Goals as goal
 

@@ -1,4 +1,4 @@
-use Rattle.xcap_server.proofs.Recorded.{comes_to_a_state}
+use Rattle.xcap_server.proofs.RecordedChanges.{comes_to_a_state}
 use Rattle.xcap_server.proofs.restart_laws.journals_of_servers_come_to_a_state.Goals as goal
 
 pub returns : goal.returns

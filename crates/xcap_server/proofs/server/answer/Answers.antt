@@ -1,4 +1,4 @@
-use Rattle.xcap_server.proofs.Standing.{answered_addresses, answered_closes, answered_delete, answered_feed, answered_put, answered_second, answered_step}
+use Rattle.xcap_server.proofs.ServerStates.{answered_addresses, answered_closes, answered_delete, answered_feed, answered_put, answered_second, answered_step}
 use Rattle.xcap_server.proofs.server.answer.Goals as goal
 
 pub returns-clause-machine_step : goal.returns-clause-machine_step

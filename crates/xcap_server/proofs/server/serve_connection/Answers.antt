@@ -1,4 +1,4 @@
-use Rattle.xcap_server.proofs.Standing.{line_root, line_stands}
+use Rattle.xcap_server.proofs.ServerStates.{line_root, line_stands}
 use Rattle.xcap_server.proofs.server.serve_connection.Goals as goal
 
 pub returns-clause-machine_session : goal.returns-clause-machine_session

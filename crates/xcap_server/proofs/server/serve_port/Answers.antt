@@ -1,4 +1,4 @@
-use Rattle.xcap_server.proofs.Standing.{port_root, port_stands}
+use Rattle.xcap_server.proofs.ServerStates.{port_root, port_stands}
 use Rattle.xcap_server.proofs.server.serve_port.Goals as goal
 
 pub returns-clause-machine_session : goal.returns-clause-machine_session

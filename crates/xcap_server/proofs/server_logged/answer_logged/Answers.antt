@@ -1,4 +1,4 @@
-use Rattle.xcap_server.proofs.Logged.{answered_logged, records_logged, states_too}
+use Rattle.xcap_server.proofs.LoggedServers.{answered_logged, records_logged, states_too}
 use Rattle.xcap_server.proofs.server_logged.answer_logged.Goals as goal
 
 pub returns-clause-machine_reply : goal.returns-clause-machine_reply

@@ -1,4 +1,4 @@
-use Rattle.xcap_server.proofs.Logged.{port_logged}
+use Rattle.xcap_server.proofs.LoggedServers.{port_logged}
 use Rattle.xcap_server.proofs.server_logged.serve_port_logged.Goals as goal
 
 pub returns-clause-machine_session : goal.returns-clause-machine_session

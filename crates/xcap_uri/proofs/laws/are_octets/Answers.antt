@@ -1,6 +1,6 @@
 use Rattle.std.proofs.Common.{arith}
 use Rattle.std.proofs.lemmas.List.Elements.{All-from_get_or}
-use Rattle.xcap_uri.specs.inner.Spelled.{IsOctet}
+use Rattle.xcap_uri.specs.inner.OctetTexts.{IsOctet}
 use Rattle.xcap_uri.proofs.laws.are_octets.Goals as goal
 
 pub returns : goal.returns

@@ -1,6 +1,6 @@
 use Rattle.std.proofs.Common.{All, ap, sym, ◌∙◌, subst}
 use Rattle.std.specs.Str.{IsUtf8, chars}
-use Rattle.xcap_uri.specs.inner.Spelled.{IsOctet}
+use Rattle.xcap_uri.specs.inner.OctetTexts.{IsOctet}
 use Rattle.xcap_uri.proofs.laws.is_spelled.Goals as goal
 
 pub returns : goal.returns

@@ -1,6 +1,6 @@
 use Rattle.std.proofs.Common.{◌≡◌, ℕ, Bool, true, List, Ok, Err, take, drop, sym, ap, ◌∙◌, if◌then◌else◌, arith}
 use Rattle.std.proofs.lemmas.Bool.{cond-true}
-use Rattle.xml_grammar.specs.Reading.{head_is, front_of, after_front}
+use Rattle.xml_grammar.specs.TextReading.{head_is, front_of, after_front}
 use Rattle.xml_tokens.specs.readers.Runs.{run_len}
 use Rattle.xml_tokens.proofs.RunLemmas.{take_run, drop_run, run_len_le}
 use Rattle.xml_names.specs.Characters.{is_name_start, is_name_char}

@@ -3,7 +3,7 @@ use Rattle.std.proofs.lemmas.Result.{err_from_is_err_and}
 use Rattle.xcap_uri.specs.Roots.{slash}
 use Rattle.xcap_uri.specs.readers.Targets.{path_read}
 use Rattle.xcap_uri.proofs.Pieces.{behind_shorter}
-use Rattle.xcap_uri.proofs.Separated.{fails, at_separator, at_last, at_next}
+use Rattle.xcap_uri.proofs.SegmentLemmas.{fails, at_separator, at_last, at_next}
 use Rattle.xcap_uri.proofs.segments.read_path.Goals as goal
 
 pub returns-in_err-segment : goal.returns-in_err-segment

@@ -1,6 +1,6 @@
 use Rattle.std.proofs.Common.{◌≡◌, length}
 use Rattle.xcap_uri.specs.readers.Targets.{path_read}
-use Rattle.xcap_uri.proofs.Separated.{with_segments}
+use Rattle.xcap_uri.proofs.SegmentLemmas.{with_segments}
 use Rattle.xcap_uri.proofs.segments.read_path.Given as goal
 
 abbrev pub invariant-segments : goal.invariant-segments

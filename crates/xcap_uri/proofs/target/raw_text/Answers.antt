@@ -2,7 +2,7 @@ use Rattle.std.proofs.Common.{List, ℕ, ◌++◌, option_map, ap, ◌∙◌}
 use Rattle.std.specs.Str.{chars}
 use Rattle.doc_names.specs.Escapes.{escaped, is_visible}
 use Rattle.xcap_uri.specs.Targets.{with_query}
-use Rattle.doc_names.proofs.Printed.{visible_letters}
+use Rattle.doc_names.proofs.AsciiPrints.{visible_letters}
 use Rattle.xcap_uri.proofs.target.raw_text.Goals as goal
 
 pub returns-in_ok-push_raw-in-Some : goal.returns-in_ok-push_raw-in-Some

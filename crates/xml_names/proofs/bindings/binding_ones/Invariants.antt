@@ -1,6 +1,6 @@
 use Rattle.std.proofs.Common.{◌≡◌, ◌++◌, map, filter}
 use Rattle.xml_names.specs.Scopes.{binds}
-use Rattle.xml_names.specs.inner.Gathering.{values_in}
+use Rattle.xml_names.specs.inner.DeclarationMaps.{values_in}
 use Rattle.xml_names.proofs.bindings.binding_ones.Given as goal
 
 abbrev pub invariant-loop-decl : goal.invariant-loop-decl

@@ -1,6 +1,6 @@
 use Rattle.std.proofs.Common.{◌+◌, drop, map, sym, ap, ◌∙◌}
 use Rattle.xml_names.specs.Scopes.{joined}
-use Rattle.xml_names.specs.inner.Gathering.{gathered, values_in}
+use Rattle.xml_names.specs.inner.DeclarationMaps.{gathered, values_in}
 use Rattle.xml_names.proofs.ScopeLemmas.{drop_item}
 use Rattle.xml_names.proofs.GatheringLemmas.{gathered-append}
 use Rattle.xml_names.proofs.bindings.bindings.Goals as goal

@@ -1,6 +1,6 @@
 use Rattle.std.proofs.Common.{◌≡◌, drop, map, []}
 use Rattle.xml_names.specs.Scopes.{joined}
-use Rattle.xml_names.specs.inner.Gathering.{AreKeyed, gathered, values_in}
+use Rattle.xml_names.specs.inner.DeclarationMaps.{AreKeyed, gathered, values_in}
 use Rattle.xml_names.proofs.bindings.bindings.Given as goal
 
 abbrev pub invariant-loop-list : goal.invariant-loop-list

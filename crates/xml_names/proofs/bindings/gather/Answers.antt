@@ -1,5 +1,5 @@
 use Rattle.std.proofs.Common.{◌+◌, drop, sym, ap, ◌∙◌}
-use Rattle.xml_names.specs.inner.Gathering.{gathered, values_in}
+use Rattle.xml_names.specs.inner.DeclarationMaps.{gathered, values_in}
 use Rattle.xml_names.proofs.ScopeLemmas.{drop_item}
 use Rattle.xml_names.proofs.GatheringLemmas.{values-insert, AreKeyed-insert}
 use Rattle.xml_names.proofs.bindings.gather.Goals as goal

@@ -1,5 +1,5 @@
 use Rattle.std.proofs.Common.{◌≡◌, drop}
-use Rattle.xml_names.specs.inner.Gathering.{AreKeyed, gathered, values_in}
+use Rattle.xml_names.specs.inner.DeclarationMaps.{AreKeyed, gathered, values_in}
 use Rattle.xml_names.proofs.bindings.gather.Given as goal
 
 abbrev pub invariant-loop-decl : goal.invariant-loop-decl

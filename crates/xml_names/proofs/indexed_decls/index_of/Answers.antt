@@ -1,6 +1,6 @@
 use Rattle.std.proofs.Common.{List, Bor, ◌++◌, ap, ◌∙◌}
 use Rattle.xml_names.specs.declared.names.Decl.{Decl}
-use Rattle.xml_names.specs.inner.Gathering.{gathered, values_in}
+use Rattle.xml_names.specs.inner.DeclarationMaps.{gathered, values_in}
 use Rattle.xml_names.proofs.GatheringLemmas.{values_in-values_of}
 use Rattle.xml_names.proofs.IndexLemmas.{seen}
 use Rattle.xml_names.proofs.indexed_decls.index_of.Goals as goal

@@ -1,5 +1,5 @@
 use Rattle.std.proofs.Common.{◌≡◌, ◌++◌, [], map}
-use Rattle.xml_names.specs.inner.Gathering.{gathered}
+use Rattle.xml_names.specs.inner.DeclarationMaps.{gathered}
 use Rattle.xml_names.proofs.indexed_decls.index_of.Given as goal
 
 abbrev pub invariant-loop-decl : goal.invariant-loop-decl

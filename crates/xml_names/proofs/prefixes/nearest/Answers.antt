@@ -8,7 +8,7 @@ pub loop-list-preserved : goal.loop-list-preserved
 loop-list-preserved c =
     let found = option_copied c.loop-list.found in
     nearer (chars c.args.prefix.now) c.args.lists.now c.loop-list.list-index c.list-item.result found _ _ c.loop-list-test.true c.list-item.is c.loop-list.invariant
-    (elim c.match-declared.branch [
-      | in-Some w ↦ ap option_copied w.found-is ∙ ap (λ o. option_or (option_copied o) found) (sym w.in-Some.is) ∙ ap (λ o. option_or o found) c.declared.ensures.exact
-      | in_default w ↦ ap option_copied w.found-is ∙ ap (λ o. option_or (option_copied o) found) (sym w.in_default.is) ∙ ap (λ o. option_or o found) c.declared.ensures.exact
+    (elim c.match-declared_uri.branch [
+      | in-Some w ↦ ap option_copied w.found-is ∙ ap (λ o. option_or (option_copied o) found) (sym w.in-Some.is) ∙ ap (λ o. option_or o found) c.declared_uri.ensures.exact
+      | in_default w ↦ ap option_copied w.found-is ∙ ap (λ o. option_or (option_copied o) found) (sym w.in_default.is) ∙ ap (λ o. option_or o found) c.declared_uri.ensures.exact
     ])

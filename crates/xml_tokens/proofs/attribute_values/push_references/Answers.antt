@@ -2,7 +2,7 @@ use Rattle.std.proofs.Common.{rules, ◌≡◌, ℕ, ◌-◌, List, [], ◌∷�
 use Rattle.std.proofs.lemmas.Str.{encodes-chars}
 use Rattle.std.proofs.lemmas.List.{append-nil}
 use Rattle.std.proofs.lemmas.Result.{err_from_is_err_and}
-use Rattle.xml_grammar.specs.Reading.{read_valued}
+use Rattle.xml_grammar.specs.TextReading.{read_valued}
 use Rattle.xml_grammar.specs.readers.Functions.{read_many}
 use Rattle.xml_tokens.specs.Values.{raw, more_value}
 use Rattle.xml_tokens.specs.readers.ValueParts.{read_piece, value_with}

@@ -1,7 +1,7 @@
 use Rattle.std.proofs.Common.{◌≡◌, ◌-◌, chars}
 use denote.Text.{Utf8}
 use denote.Shadow.{shadow}
-use Rattle.xml_grammar.specs.Reading.{read_valued}
+use Rattle.xml_grammar.specs.TextReading.{read_valued}
 use Rattle.xml_grammar.specs.readers.Functions.{read_at_most, read_many}
 use Rattle.xml_tokens.specs.readers.ValueParts.{read_piece, value_with}
 use Rattle.xml_tokens.specs.readers.Tokens.{reference_follows}

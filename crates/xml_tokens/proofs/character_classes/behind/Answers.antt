@@ -1,5 +1,5 @@
 use Rattle.std.proofs.Common.{◌≡◌, false, sym, ap, ◌∙◌}
-use Rattle.xml_grammar.specs.Reading.{head_is}
+use Rattle.xml_grammar.specs.TextReading.{head_is}
 use Rattle.xml_tokens.specs.readers.Classes.{passes, in_ascii, is_wide}
 use Rattle.xml_tokens.specs.readers.Runs.{run_len}
 use Rattle.xml_tokens.proofs.TextBytes.{ascii_cut, behind_ascii, behind_run}

@@ -1,7 +1,7 @@
 use Rattle.std.proofs.Common.{◌≡◌, chars, length}
 use denote.Text.{Utf8}
 use denote.Shadow.{shadow}
-use Rattle.xml_grammar.specs.Reading.{after_front}
+use Rattle.xml_grammar.specs.TextReading.{after_front}
 use Rattle.xml_tokens.specs.readers.Classes.{passes}
 use Rattle.xml_tokens.proofs.character_classes.behind_wide.Given as goal
 

@@ -1,5 +1,5 @@
 use Rattle.std.proofs.Common.{◌≡◌, ◌++◌, ℕ, Bool, List, chars, sym, ap, ◌∙◌}
-use Rattle.xml_grammar.specs.Reading.{front_of, after_front}
+use Rattle.xml_grammar.specs.TextReading.{front_of, after_front}
 use Rattle.xml_tokens.specs.readers.Classes.{passes}
 use Rattle.xml_tokens.proofs.TextBytes.{front_whole, front_by_rest}
 use Rattle.xml_tokens.proofs.character_classes.run.Goals as goal

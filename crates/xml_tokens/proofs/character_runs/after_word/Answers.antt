@@ -1,6 +1,6 @@
 use Rattle.std.proofs.Common.{rules, chars, sym}
 use Rattle.std.proofs.lemmas.Bool.{ne_eqb}
-use Rattle.xml_grammar.specs.Reading.{starts}
+use Rattle.xml_grammar.specs.TextReading.{starts}
 use Rattle.xml_tokens.proofs.WordLoops.{starts_more, starts_stops, starts_cut, passed_more, passed_over}
 use Rattle.xml_tokens.proofs.character_runs.after_word.Goals as goal
 

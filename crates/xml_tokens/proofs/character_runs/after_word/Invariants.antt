@@ -1,7 +1,7 @@
 use Rattle.std.proofs.Common.{◌≡◌, ◌++◌, chars, drop, take}
 use denote.Text.{Utf8}
 use denote.Shadow.{shadow}
-use Rattle.xml_grammar.specs.Reading.{starts}
+use Rattle.xml_grammar.specs.TextReading.{starts}
 use Rattle.xml_tokens.proofs.character_runs.after_word.Given as goal
 
 abbrev pub invariant-loop-expected : goal.invariant-loop-expected

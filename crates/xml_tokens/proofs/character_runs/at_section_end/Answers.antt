@@ -1,5 +1,5 @@
 use Rattle.std.proofs.Common.{◌≡◌, ℕ, Bool, true, false, List, [], ◌∷◌, chars, drop, refl, sym, ap, ◌∙◌}
-use Rattle.xml_grammar.specs.Reading.{starts}
+use Rattle.xml_grammar.specs.TextReading.{starts}
 use Rattle.xml_tokens.specs.readers.Words.{section_end}
 use Rattle.xml_tokens.proofs.RunLemmas.{starts_then}
 use Rattle.xml_tokens.proofs.character_runs.at_section_end.Goals as goal

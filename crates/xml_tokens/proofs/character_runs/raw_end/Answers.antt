@@ -1,6 +1,6 @@
 use Rattle.std.proofs.Common.{◌≡◌, ℕ, false, List, ◌∷◌, chars, refl, sym, ap, ◌∙◌}
 use Rattle.std.specs.Prelude.{◌==◌}
-use Rattle.xml_grammar.specs.Reading.{starts}
+use Rattle.xml_grammar.specs.TextReading.{starts}
 use Rattle.xml_tokens.specs.Tokens.{is_raw}
 use Rattle.xml_tokens.specs.readers.Words.{section_end}
 use Rattle.xml_tokens.proofs.RunLemmas.{without_more, without_found, without_stops}

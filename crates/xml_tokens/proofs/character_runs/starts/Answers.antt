@@ -1,5 +1,5 @@
 use Rattle.std.proofs.Common.{chars, sym, ap, ◌∙◌}
-use Rattle.xml_grammar.specs.Reading.{starts}
+use Rattle.xml_grammar.specs.TextReading.{starts}
 use Rattle.xml_tokens.proofs.RunLemmas.{starts_before}
 use Rattle.xml_tokens.proofs.character_runs.starts.Goals as goal
 

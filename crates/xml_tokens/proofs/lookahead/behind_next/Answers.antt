@@ -1,6 +1,6 @@
 use Rattle.std.proofs.Common.{◌≡◌, ℕ, true, List, ◌∷◌, chars, sym, ap, ◌∙◌}
 use Rattle.std.specs.Prelude.{nat_eq}
-use Rattle.xml_grammar.specs.Reading.{head_is}
+use Rattle.xml_grammar.specs.TextReading.{head_is}
 use Rattle.xml_tokens.proofs.AheadLemmas.{letter_by_bytes, cut_behind, letter_first}
 use Rattle.xml_tokens.proofs.lookahead.behind_next.Goals as goal
 

@@ -1,6 +1,6 @@
 use Rattle.std.proofs.Common.{ap, ◌∙◌}
 use Rattle.std.specs.Int.{is_in_range as within}
-use Rattle.xml_grammar.specs.Reading.{head_is}
+use Rattle.xml_grammar.specs.TextReading.{head_is}
 use Rattle.xml_tokens.proofs.AheadLemmas.{small_by_bytes}
 use Rattle.xml_tokens.proofs.lookahead.is_small_next.Goals as goal
 

@@ -1,5 +1,5 @@
 use Rattle.std.proofs.Common.{ap, ◌∙◌}
-use Rattle.xml_grammar.specs.Reading.{head_is}
+use Rattle.xml_grammar.specs.TextReading.{head_is}
 use Rattle.xml_names.specs.Characters.{is_space}
 use Rattle.xml_tokens.proofs.AheadLemmas.{space_by_bytes}
 use Rattle.xml_tokens.proofs.lookahead.is_space_next.Goals as goal

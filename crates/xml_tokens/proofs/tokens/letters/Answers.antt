@@ -1,6 +1,6 @@
 use Rattle.std.proofs.Common.{rules, chars, sym}
 use Rattle.std.proofs.lemmas.Bool.{ne_eqb}
-use Rattle.xml_grammar.specs.Reading.{read_word}
+use Rattle.xml_grammar.specs.TextReading.{read_word}
 use Rattle.xml_tokens.proofs.WordLoops.{word_more, word_stops, word_cut, word_over}
 use Rattle.xml_tokens.proofs.tokens.letters.Goals as goal
 

@@ -1,7 +1,7 @@
 use Rattle.std.proofs.Common.{◌≡◌, chars, drop}
 use denote.Text.{Utf8}
 use denote.Shadow.{shadow}
-use Rattle.xml_grammar.specs.Reading.{read_word}
+use Rattle.xml_grammar.specs.TextReading.{read_word}
 use Rattle.xml_tokens.specs.declared.fault_kind.FaultKind.{FaultKind}
 use Rattle.xml_tokens.proofs.tokens.letters.Given as goal
 

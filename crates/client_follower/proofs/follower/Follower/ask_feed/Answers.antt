@@ -6,7 +6,7 @@ use Rattle.patch_apply.specs.Views.{stored_in}
 use Rattle.xcap_client.specs.declared.fault.ClientFault.TheVariants as clients
 use Rattle.client_follower.specs.Rounds.{AsksFeed}
 use Rattle.client_follower.specs.States.{Following}
-use Rattle.client_follower.proofs.Asking.{called_as, feed_asked, not_called}
+use Rattle.client_follower.proofs.FollowerRequests.{called_as, feed_asked, not_called}
 use Rattle.client_follower.proofs.follower.Follower.ask_feed.Goals as goal
 
 pub returns-in_err-path-clause-asks_feed : goal.returns-in_err-path-clause-asks_feed

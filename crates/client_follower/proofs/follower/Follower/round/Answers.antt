@@ -2,7 +2,7 @@ use Rattle.std.proofs.Common.{ap, ◌∙◌}
 use Rattle.std.specs.Prelude.{Err}
 use Rattle.std.proofs.lemmas.Result.{err_from_is_err_and}
 use Rattle.client_follower.specs.Rounds.{failed}
-use Rattle.client_follower.proofs.Asking.{sent_back, told_round}
+use Rattle.client_follower.proofs.FollowerRequests.{sent_back, told_round}
 use Rattle.client_follower.proofs.follower.Follower.round.Goals as goal
 
 pub returns-in_err-round-clause-follows_document : goal.returns-in_err-round-clause-follows_document

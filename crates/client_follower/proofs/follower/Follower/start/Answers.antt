@@ -1,7 +1,7 @@
 use Rattle.std.proofs.Common.{ap, ◌∙◌}
 use Rattle.std.specs.Prelude.{Err}
 use Rattle.std.proofs.lemmas.Result.{err_from_is_err_and}
-use Rattle.client_follower.proofs.Asking.{not_started}
+use Rattle.client_follower.proofs.FollowerRequests.{not_started}
 use Rattle.client_follower.proofs.follower.Follower.start.Goals as goal
 
 pub returns-in_err-kept_root : goal.returns-in_err-kept_root

@@ -1,7 +1,7 @@
 use Rattle.std.proofs.Common.{refl}
 use Rattle.edit_journal.specs.inner.JournaledMachines.{Wrapped}
 use Rattle.edit_journal.proofs.Loggable.{loggable}
-use Rattle.edit_journal.proofs.Wrapping.{step_after, takes_after}
+use Rattle.edit_journal.proofs.LoggedMachines.{step_after, takes_after}
 use Rattle.edit_journal.proofs.journaled_machine.MachineWithJournalMachine.answer.Goals as goal
 
 pub answer_logged-requires-clause-loggable : goal.answer_logged-requires-clause-loggable

@@ -3,7 +3,7 @@ use Rattle.std.specs.Vec.{with_items}
 use Rattle.std.proofs.lemmas.List.{length-take-le, places, with_items_is}
 use Rattle.std.proofs.lemmas.Result.{err_from_is_err_and}
 use Rattle.xcap_io.specs.StreamTraffic.{Gave}
-use Rattle.xcap_io.proofs.Passing.{found_end}
+use Rattle.xcap_io.proofs.TrafficSums.{found_end}
 use Rattle.http_wire.proofs.Buffers.{filled, unfilled}
 use Rattle.edit_journal.specs.inner.ReadBuffer.{InflowState}
 use Rattle.edit_journal.proofs.read_buffer.ReadBuffer.read_more.Goals as goal

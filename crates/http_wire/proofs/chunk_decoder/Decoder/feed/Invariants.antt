@@ -1,5 +1,5 @@
 use Rattle.std.proofs.Common.{length, ◌-◌, ◌≤◌, take}
-use Rattle.http_wire.specs.inner.Decoding.{ReadsOn}
+use Rattle.http_wire.specs.inner.ChunkDecoder.{ReadsOn}
 use Rattle.http_wire.proofs.chunk_decoder.Decoder.feed.Given as goal
 
 abbrev pub invariant-loop-used : goal.invariant-loop-used

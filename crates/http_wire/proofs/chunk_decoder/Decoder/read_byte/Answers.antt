@@ -1,6 +1,6 @@
 use Rattle.std.proofs.Common.{◌≡◌, sym, subst, ap, ◌∙◌}
 use Rattle.http_wire.specs.declared.chunk_decoder.ChunkState.{ChunkState}
-use Rattle.http_wire.specs.inner.Decoding.{Decoding, Fits, is_data}
+use Rattle.http_wire.specs.inner.ChunkDecoder.{Decoding, Fits, is_data}
 use Rattle.http_wire.proofs.Steps.{fits_next}
 use Rattle.http_wire.proofs.chunk_decoder.Decoder.read_byte.Goals as goal
 

@@ -1,6 +1,6 @@
 use Rattle.std.proofs.Common.{rules, ℕ, List, take, ap, ◌∙◌, arith}
 use Rattle.std.proofs.lemmas.List.{places, with_items_is}
-use Rattle.http_wire.specs.inner.Decoding.{Decoding}
+use Rattle.http_wire.specs.inner.ChunkDecoder.{Decoding}
 use Rattle.http_wire.proofs.Steps.{data_taken}
 use Rattle.http_wire.proofs.chunk_decoder.Decoder.take_data.Goals as goal
 

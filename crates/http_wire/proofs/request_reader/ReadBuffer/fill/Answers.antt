@@ -3,7 +3,7 @@ use Rattle.std.specs.Vec.{with_items}
 use Rattle.std.proofs.lemmas.List.{append-nil, length-take-le, places, with_items_is}
 use Rattle.xcap_io.specs.Causes.{InputState}
 use Rattle.xcap_io.specs.StreamTraffic.{Gave}
-use Rattle.xcap_io.proofs.Passing.{found_end, gave_none}
+use Rattle.xcap_io.proofs.TrafficSums.{found_end, gave_none}
 use Rattle.http_wire.proofs.Buffers.{filled, unfilled, gained}
 use Rattle.http_wire.proofs.request_reader.ReadBuffer.fill.Goals as goal
 

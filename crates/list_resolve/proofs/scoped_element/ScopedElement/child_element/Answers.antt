@@ -1,7 +1,7 @@
 use Rattle.std.proofs.Common.{◌≡◌, Some, slice_get, sym, ap, ◌∙◌}
 use Rattle.std.specs.Option.{option_copied}
 use Rattle.xml_tree.specs.Tree.{child_elements_of}
-use Rattle.node_select.proofs.Walked.{kid_lower}
+use Rattle.node_select.proofs.NodeWalks.{kid_lower}
 use Rattle.list_resolve.proofs.Spots.{low_of}
 use Rattle.list_resolve.proofs.scoped_element.ScopedElement.child_element.Goals as goal
 

@@ -18,8 +18,8 @@ invariant_of-self-2 c =
     let left : length c.behind-left.result.now ≡ length bytes - given = ap length c.behind-left.ensures.exact ∙ length-drop given bytes in
     let fits : given + count ≤ length bytes = omega (arith, left, c.min-count.ensures, c.self.invariant.3) in
     let front : c.copy_from_slice.new.self ≡ take count (drop given bytes) = c.copy_from_slice.ensures.after ∙ ap (λ (l : List ℕ). take count l) c.behind-left.ensures.exact in (
-      ap (λ (h : ConnectionHistory). h.is_present) c.gave.ensures.given_is_logged ∙ c.self.invariant.0,
-      ap (λ (h : ConnectionHistory). h.now.taken) c.gave.ensures.given_is_logged ∙ c.self.invariant.1,
-      ap (λ (h : ConnectionHistory). h.now.given) c.gave.ensures.given_is_logged ∙ gives_on bytes c.copy_from_slice.new.self _ c.self.inside.log.history.now.given given count fits front c.self.invariant.2,
+      ap (λ (h : ConnectionHistory). h.is_present) c.record_read.ensures.given_is_logged ∙ c.self.invariant.0,
+      ap (λ (h : ConnectionHistory). h.now.taken) c.record_read.ensures.given_is_logged ∙ c.self.invariant.1,
+      ap (λ (h : ConnectionHistory). h.now.given) c.record_read.ensures.given_is_logged ∙ gives_on bytes c.copy_from_slice.new.self _ c.self.inside.log.history.now.given given count fits front c.self.invariant.2,
       fits,
     )

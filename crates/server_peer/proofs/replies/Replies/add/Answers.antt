@@ -1,7 +1,7 @@
 use Rattle.std.proofs.Common.{◌≡◌, ℕ, ◌+◌, ◌-◌, ◌≤◌, Bool, true, ◌||◌, List, length, take, drop, sym, ap, subst, ◌∙◌, arith, length-drop}
 use Rattle.std.proofs.lemmas.List.{length-take}
 use Rattle.server_peer.specs.Rooms.{RepliesState, with_replies}
-use Rattle.server_peer.proofs.Keeping.{full_then, held_within, kept_both, over_both, replies_are, room_stays, written_behind}
+use Rattle.server_peer.proofs.ReplyFronts.{full_then, held_within, kept_both, over_both, replies_are, room_stays, written_behind}
 use Rattle.server_peer.proofs.replies.Replies.add.Goals as goal
 
 pub invariant_of-self : goal.invariant_of-self

@@ -1,9 +1,9 @@
 use Rattle.std.proofs.Common.{refl}
 use Rattle.indexmap.specs.IndexMap.{spare}
 use Rattle.store_core.specs.PreparedChanges.{Readied}
-use Rattle.store_core.specs.Stored.{Room}
-use Rattle.store_core.specs.inner.Storing.{trees_in}
-use Rattle.store_core.proofs.Committed.{holds-next, may-step, still-storing}
+use Rattle.store_core.specs.StoreViews.{Room}
+use Rattle.store_core.specs.inner.StoreMemory.{trees_in}
+use Rattle.store_core.proofs.CommitLemmas.{holds-next, may-step, still-storing}
 use Rattle.store_core.proofs.store.Store.commit.Goals as goal
 
 pub take-created-requires-clause-fits : goal.take-created-requires-clause-fits

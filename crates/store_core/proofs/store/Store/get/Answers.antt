@@ -8,9 +8,9 @@ use Rattle.store_core.specs.declared.entry.Entry.{Entry}
 use Rattle.store_core.specs.DocumentChanges.{document_in, stored_name}
 use Rattle.store_core.specs.Contents.{StoredDocument}
 use Rattle.store_core.specs.ValidStates.{IsSoundFor}
-use Rattle.store_core.specs.Stored.{Stored}
+use Rattle.store_core.specs.StoreViews.{Stored}
 use Rattle.store_core.proofs.Entries.{tree-and-tag}
-use Rattle.store_core.proofs.Stored.{low-entry, sound-entry}
+use Rattle.store_core.proofs.ChangeSteps.{low-entry, sound-entry}
 use Rattle.store_core.proofs.store.Store.get.Goals as goal
 
 pub returns-in_err-entry-clause-stored_version : goal.returns-in_err-entry-clause-stored_version

@@ -1,5 +1,5 @@
 use Rattle.std.proofs.Common.{◌-◌, arith}
-use Rattle.store_core.proofs.Stored.{first-storing}
+use Rattle.store_core.proofs.ChangeSteps.{first-storing}
 use Rattle.store_core.proofs.store.Store.new.Goals as goal
 
 pub invariant_of-result : goal.invariant_of-result

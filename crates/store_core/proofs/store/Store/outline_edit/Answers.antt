@@ -8,7 +8,7 @@ use Rattle.store_core.specs.declared.refusal.StoreRefusal.TheVariants.{NoNumber}
 use Rattle.store_core.specs.ValidStates.{addresses_in}
 use Rattle.store_core.specs.inner.Addresses.{AreExchanged, leave_in}
 use Rattle.store_core.specs.PreparedChanges.{total_of}
-use Rattle.store_core.proofs.Asked.{asked}
+use Rattle.store_core.proofs.ChangePremises.{asked}
 use Rattle.store_core.proofs.PlanAnswers.{edit-exchanged, exchanged-between, edit-refused, edit-room, edit-unnumbered, some-held}
 use Rattle.store_core.proofs.store.Store.outline_edit.Goals as goal
 

@@ -1,9 +1,9 @@
 use Rattle.std.proofs.Common.{IfErr, IfOk, Err, Ok, Result, sym, subst}
 use Rattle.edit_ops.specs.declared.change.Change.TheVariants.{CreateDocument}
 use Rattle.store_core.specs.PreparedChanges.{Readied}
-use Rattle.store_core.specs.declared.outlines.Outline.{Outline}
+use Rattle.store_core.specs.declared.change_builder.Outline.{Outline}
 use Rattle.store_core.specs.declared.refusal.StoreRefusal.{StoreRefusal}
-use Rattle.store_core.specs.inner.Planning.{IsNewOutline, Plans}
+use Rattle.store_core.specs.inner.ChangePlans.{IsNewOutline, Plans}
 use Rattle.store_core.proofs.PlanAnswers.{creation-planned}
 use Rattle.store_core.proofs.store.Store.plan_creation.Goals as goal
 

@@ -1,10 +1,10 @@
 use Rattle.std.proofs.Common.{Err, IfErr, IfOk, Result, subst}
 use Rattle.xml_tree.specs.Tree.{Tree}
 use Rattle.edit_ops.specs.Changes.{Fits}
-use Rattle.store_core.specs.declared.outlines.Outline.{Outline}
+use Rattle.store_core.specs.declared.change_builder.Outline.{Outline}
 use Rattle.store_core.specs.declared.refusal.StoreRefusal.{StoreRefusal}
-use Rattle.store_core.specs.inner.Planning.{IsOutline, Plans}
-use Rattle.store_core.proofs.Asked.{asked, asks-held}
+use Rattle.store_core.specs.inner.ChangePlans.{IsOutline, Plans}
+use Rattle.store_core.proofs.ChangePremises.{asked, asks-held}
 use Rattle.store_core.proofs.PlanAnswers.{edit-planned}
 use Rattle.store_core.proofs.store.Store.plan_edit.Goals as goal
 

@@ -8,7 +8,7 @@ use Rattle.store_core.specs.DocumentChanges.{document_in, stored_name}
 use Rattle.store_core.specs.declared.refusal.StoreRefusal.TheVariants.{NoNumber}
 use Rattle.store_core.specs.PreparedChanges.{Readied, total_of}
 use Rattle.store_core.proofs.PlanAnswers.{held-of, nothing-read, removal-planned, removal-unnumbered}
-use Rattle.store_core.specs.inner.Planning.{Plans}
+use Rattle.store_core.specs.inner.ChangePlans.{Plans}
 use Rattle.store_core.proofs.store.Store.plan_removal.Goals as goal
 
 pub unreachable-requires : goal.unreachable-requires

@@ -1,7 +1,7 @@
 use Rattle.std.proofs.Common.{Result, subst}
 use Rattle.store_core.specs.PreparedChanges.{Readied}
 use Rattle.store_core.specs.declared.refusal.StoreRefusal.{StoreRefusal}
-use Rattle.store_core.specs.inner.Planning.{Plans}
+use Rattle.store_core.specs.inner.ChangePlans.{Plans}
 use Rattle.store_core.proofs.PlanAnswers.{prepared-ok, prepared-ready, reason-of}
 use Rattle.store_core.proofs.store.Store.prepare.Goals as goal
 

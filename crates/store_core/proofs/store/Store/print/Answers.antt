@@ -6,8 +6,8 @@ use Rattle.xml_tree.specs.Print.{document_print}
 use Rattle.store_core.specs.declared.entry.Entry.{Entry}
 use Rattle.store_core.specs.DocumentChanges.{document_in, stored_name}
 use Rattle.store_core.specs.Contents.{StoredDocument}
-use Rattle.store_core.specs.Stored.{Stored}
-use Rattle.store_core.specs.inner.Storing.{stored_in}
+use Rattle.store_core.specs.StoreViews.{Stored}
+use Rattle.store_core.specs.inner.StoreMemory.{stored_in}
 use Rattle.store_core.proofs.Entries.{read-as}
 use Rattle.store_core.proofs.store.Store.print.Goals as goal
 

@@ -1,10 +1,10 @@
 use Rattle.std.proofs.Common.{option_map, ap, ◌∙◌, arith}
 use Rattle.std.specs.Prelude.{max}
 use Rattle.indexmap.specs.IndexMap.{spare}
-use Rattle.store_core.specs.Stored.{Room}
-use Rattle.store_core.specs.inner.Storing.{trees_in}
-use Rattle.store_core.proofs.Planning.{edit-answer, no-longer, total-small}
-use Rattle.store_core.proofs.Stored.{no-entry}
+use Rattle.store_core.specs.StoreViews.{Room}
+use Rattle.store_core.specs.inner.StoreMemory.{trees_in}
+use Rattle.store_core.proofs.ChangeReasons.{edit-answer, no-longer, total-small}
+use Rattle.store_core.proofs.ChangeSteps.{no-entry}
 use Rattle.store_core.proofs.store.Store.refusal_of_edit.Goals as goal
 
 pub unreachable-requires : goal.unreachable-requires

@@ -1,9 +1,9 @@
 use Rattle.std.proofs.Common.{ℕ, nat_le, ap, ◌∙◌}
 use Rattle.indexmap.specs.IndexMap.{spare}
-use Rattle.store_core.specs.inner.Planning.{refused_for}
-use Rattle.store_core.specs.Stored.{Room}
-use Rattle.store_core.specs.inner.Storing.{trees_in}
-use Rattle.store_core.proofs.Planning.{new-answer, total-small}
+use Rattle.store_core.specs.inner.ChangePlans.{refused_for}
+use Rattle.store_core.specs.StoreViews.{Room}
+use Rattle.store_core.specs.inner.StoreMemory.{trees_in}
+use Rattle.store_core.proofs.ChangeReasons.{new-answer, total-small}
 use Rattle.store_core.proofs.store.Store.refusal_of_new.Goals as goal
 
 pub refused_for-requires : goal.refused_for-requires

@@ -1,5 +1,5 @@
 use Rattle.std.proofs.Common.{None, Some, ap, ◌∙◌}
-use Rattle.store_core.specs.Stored.{Stored}
+use Rattle.store_core.specs.StoreViews.{Stored}
 use Rattle.store_core.proofs.TellingSince.{by-entry}
 use Rattle.store_core.proofs.store.Store.since.Goals as goal
 

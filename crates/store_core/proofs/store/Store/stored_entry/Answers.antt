@@ -1,9 +1,9 @@
 use Rattle.std.proofs.Common.{sym}
 use Rattle.indexmap.specs.IndexMap.{spare}
-use Rattle.store_core.specs.Stored.{Room}
-use Rattle.store_core.specs.inner.Storing.{trees_in}
-use Rattle.store_core.proofs.Planning.{held-as}
-use Rattle.store_core.proofs.Stored.{no-entry, sound-entry}
+use Rattle.store_core.specs.StoreViews.{Room}
+use Rattle.store_core.specs.inner.StoreMemory.{trees_in}
+use Rattle.store_core.proofs.ChangeReasons.{held-as}
+use Rattle.store_core.proofs.ChangeSteps.{no-entry, sound-entry}
 use Rattle.store_core.proofs.store.Store.stored_entry.Goals as goal
 
 pub unreachable-requires : goal.unreachable-requires

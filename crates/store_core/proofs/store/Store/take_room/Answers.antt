@@ -3,7 +3,7 @@ use Rattle.std.proofs.lemmas.Result.{on_ok_weaker}
 use Rattle.doc_names.specs.declared.doc_id.DocId.{DocId}
 use Rattle.store_core.specs.TreeChanges.{is_within}
 use Rattle.store_core.specs.PreparedChanges.{Readied}
-use Rattle.store_core.specs.inner.Making.{IsOwn}
+use Rattle.store_core.specs.inner.UnsharedTrees.{IsOwn}
 use Rattle.store_core.proofs.store.Store.take_room.Goals as goal
 
 pub returns-clause-tree_unshared : goal.returns-clause-tree_unshared

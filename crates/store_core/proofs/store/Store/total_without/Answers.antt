@@ -1,9 +1,9 @@
 use Rattle.std.proofs.Common.{arith}
 use Rattle.indexmap.specs.IndexMap.{spare}
-use Rattle.store_core.specs.Stored.{Room}
-use Rattle.store_core.specs.inner.Storing.{trees_in}
-use Rattle.store_core.proofs.Planning.{no-longer, others-are, total-small, whole-is}
-use Rattle.store_core.proofs.Stored.{no-entry}
+use Rattle.store_core.specs.StoreViews.{Room}
+use Rattle.store_core.specs.inner.StoreMemory.{trees_in}
+use Rattle.store_core.proofs.ChangeReasons.{no-longer, others-are, total-small, whole-is}
+use Rattle.store_core.proofs.ChangeSteps.{no-entry}
 use Rattle.store_core.proofs.store.Store.total_without.Goals as goal
 
 pub unreachable-requires : goal.unreachable-requires

@@ -1,7 +1,7 @@
 use Rattle.std.proofs.Common.{ap, ◌∙◌}
 use Rattle.std.proofs.lemmas.Result.{on_ok_weaker}
-use Rattle.store_core.specs.Stored.{Stored}
-use Rattle.store_core.proofs.Owning.{alike-content, alike-storing}
+use Rattle.store_core.specs.StoreViews.{Stored}
+use Rattle.store_core.proofs.SharedTrees.{alike-content, alike-storing}
 use Rattle.store_core.proofs.store.Store.unshare_for.Goals as goal
 
 pub invariant_of-self : goal.invariant_of-self

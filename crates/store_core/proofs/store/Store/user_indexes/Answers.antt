@@ -4,9 +4,9 @@ use Rattle.std.specs.Map.{values_of}
 use Rattle.indexmap.specs.IndexMap.{spare}
 use Rattle.xml_tree.specs.Tree.{height}
 use Rattle.store_core.specs.Indexes.{AreIndexTrees}
-use Rattle.store_core.specs.Stored.{Room}
-use Rattle.store_core.specs.inner.Storing.{trees_in}
-use Rattle.store_core.proofs.Listing.{trees-listed, trees-low}
+use Rattle.store_core.specs.StoreViews.{Room}
+use Rattle.store_core.specs.inner.StoreMemory.{trees_in}
+use Rattle.store_core.proofs.IndexedTrees.{trees-listed, trees-low}
 use Rattle.store_core.proofs.store.Store.user_indexes.Goals as goal
 
 pub returns-clause-index_trees : goal.returns-clause-index_trees

@@ -2,7 +2,7 @@ use Rattle.std.proofs.Common.{◌≤◌, ◌+◌, ◌++◌, List, length, map, m
 use Rattle.xml_tree.specs.Tree.{Tree}
 use Rattle.xml_tree.specs.declared.tree.Node.TheVariants.{Elem}
 use Rattle.usage_docs.specs.Services.{service_elements, index_of, index_len, index_limit}
-use Rattle.usage_docs.specs.readers.Listing.{elems_len}
+use Rattle.usage_docs.specs.readers.ServiceNodes.{elems_len}
 use Rattle.usage_docs.proofs.ListingLemmas.{too_large, small_enough, counted_again, grown, kids_grown}
 use Rattle.usage_docs.proofs.service_index.IndexBuilder.add.Goals as goal
 

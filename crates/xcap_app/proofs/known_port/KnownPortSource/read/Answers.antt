@@ -16,11 +16,11 @@ returns-clause-appends_read c =
     let fits : given + count ≤ length present = omega (arith, counted, inside) in
     let front : c.copy_from_slice.new.self ≡ take count (drop given present) =
     c.copy_from_slice.ensures.after ∙ ap (λ (l : List ℕ). take (given + count - given) (drop given l)) lent ∙ ap (λ (n : ℕ). take n (drop given present)) same in
-    let last : c.gave.new.self.history.now.ended ≡ (count == 0) =
-    ap (λ (h : ConnectionHistory). h.now.ended) c.gave.ensures.given_is_logged ∙ ap (λ (n : ℕ). n == 0) (gives_count present c.copy_from_slice.new.self _ given count fits front) in
+    let last : c.record_read.new.self.history.now.ended ≡ (count == 0) =
+    ap (λ (h : ConnectionHistory). h.now.ended) c.record_read.ensures.given_is_logged ∙ ap (λ (n : ℕ). n == 0) (gives_count present c.copy_from_slice.new.self _ given count fits front) in
     let end : count ≡ 0 → drop (given + count) present ≡ [] = λ none. none_left present given count (length c.args.buf.now) counted some none in (
       record {
-        behind = ap (λ (h : ConnectionHistory). h.now.given) c.gave.ensures.given_is_logged;
+        behind = ap (λ (h : ConnectionHistory). h.now.given) c.record_read.ensures.given_is_logged;
         consumed = gives_next present c.copy_from_slice.new.self _ given count fits front;
         truthful = λ before ended. end (is_none count (sym last ∙ ended));
       },

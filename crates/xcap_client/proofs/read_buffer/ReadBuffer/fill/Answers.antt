@@ -2,7 +2,7 @@ use Rattle.std.proofs.Common.{rules, ◌≡◌, ◌+◌, take, [], ℕ, List, �
 use Rattle.std.proofs.lemmas.List.{places, with_items_is, append-nil, length-take-le, take_at}
 use Rattle.xcap_io.specs.Causes.{InputState}
 use Rattle.xcap_io.specs.StreamTraffic.{Gave}
-use Rattle.xcap_io.proofs.Passing.{found_end, gave_none}
+use Rattle.xcap_io.proofs.TrafficSums.{found_end, gave_none}
 use Rattle.http_wire.proofs.Buffers.{gained, put_behind}
 use Rattle.xcap_client.proofs.read_buffer.ReadBuffer.fill.Goals as goal
 

@@ -2,7 +2,7 @@ use Rattle.std.proofs.Common.{◌∷◌, refl, subst, ap, ◌∙◌}
 use Rattle.xcap_io.specs.Connections.{Connects}
 use Rattle.xcap_io.specs.Memory.{MemoryPeer, peer_state}
 use Rattle.xcap_io.specs.contracts.mem_peer.MemPeer.{the_view}
-use Rattle.xcap_io.proofs.Beginning.{connects_to}
+use Rattle.xcap_io.proofs.ConnectionStarts.{connects_to}
 use Rattle.xcap_io.proofs.mem_peer.MemPeerPeer.connect.Goals as goal
 
 pub returns-clause-only_connects : goal.returns-clause-only_connects

@@ -3,7 +3,7 @@ use Rattle.xcap_io.specs.Connections.{OnlyNext}
 use Rattle.xcap_io.specs.declared.streams.Failed.{Failed}
 use Rattle.xcap_io.specs.Memory.{MemoryPort, port_state}
 use Rattle.xcap_io.specs.contracts.mem_port.MemPort.{the_view}
-use Rattle.xcap_io.proofs.Beginning.{next_of}
+use Rattle.xcap_io.proofs.ConnectionStarts.{next_of}
 use Rattle.xcap_io.proofs.mem_port.MemPortPort.next.Goals as goal
 
 pub returns-clause-only_next : goal.returns-clause-only_next

@@ -2,7 +2,7 @@ use Rattle.std.proofs.Common.{ap, refl, subst, sym, ◌∙◌}
 use Rattle.xcap_put.specs.Decisions.{Decides}
 use Rattle.xcap_machine.specs.Requests.{IsAnswer}
 use Rattle.xcap_machine.specs.Servers.{ServerState}
-use Rattle.xcap_server.proofs.Logged.{answered_unchanged, carried_closes, carried_nothing, carried_out, decided_closes, is_recordable}
+use Rattle.xcap_server.proofs.LoggedServers.{answered_unchanged, carried_closes, carried_nothing, carried_out, decided_closes, is_recordable}
 use Rattle.xcap_server.proofs.logged_service.ServiceLoggedMachine.answer_logged.Goals as goal
 
 pub returns-then-not-changes-clause-machine_reply : goal.returns-then-not-changes-clause-machine_reply

@@ -2,7 +2,7 @@ use Rattle.std.proofs.Common.{ap, subst, ◌∙◌}
 use Rattle.xcap_machine.specs.Requests.{IsAnswer}
 use Rattle.xcap_put.specs.Decisions.{Decides}
 use Rattle.xcap_machine.specs.Servers.{ServerState}
-use Rattle.xcap_server.proofs.Answering.{answered_so}
+use Rattle.xcap_server.proofs.DecisionAnswers.{answered_so}
 use Rattle.xcap_server.proofs.service.Service.respond.Goals as goal
 
 pub returns-clause-machine_reply : goal.returns-clause-machine_reply

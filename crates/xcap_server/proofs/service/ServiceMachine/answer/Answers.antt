@@ -1,5 +1,5 @@
 use Rattle.std.proofs.Common.{refl}
-use Rattle.xcap_server.proofs.Standing.{answered_closes}
+use Rattle.xcap_server.proofs.ServerStates.{answered_closes}
 use Rattle.xcap_server.proofs.service.ServiceMachine.answer.Goals as goal
 
 pub returns-clause-closes_as_asked : goal.returns-clause-closes_as_asked

@@ -2,7 +2,7 @@ use Rattle.std.proofs.Common.{◌≡◌, ◌≢◌, List, Bor, [], length, ap, s
 use Rattle.std.proofs.lemmas.List.{length-map}
 use Rattle.std.proofs.lemmas.Bool.Decides.{nat_tests}
 use Rattle.xml_names.specs.declared.names.Decl.{Decl}
-use Rattle.xml_names.specs.Scopes.{AreInOrder, declared}
+use Rattle.xml_names.specs.Scopes.{AreInOrder, declared_uri}
 use Rattle.xml_names.proofs.IndexLemmas.{declared-index, in_order, seen}
 use Rattle.xml_names.proofs.indexed_decls.IndexedDecls.uri_of.Goals as goal
 
@@ -19,6 +19,6 @@ returns c = record {
       let some : seen d.index.items ≢ [] = λ none.
       let empty : length d.index.items ≡ 0 = sym (length-map d.index.items (λ (x : Bor Decl). x.now)) ∙ ap length none in
       grind (arith, nat_tests, empty, ap length c.deref.ensures.value, c.deref.ensures.len, c.if-is_empty.ensures {u = tt}) in
-      c.look_up.ensures.exact ∙ ap (λ (ls : List (Bor Decl)). declared (seen ls) p) c.deref.ensures.value
-      ∙ declared-index (seen d.index.items) d.decls.now p c.self.invariant some ∙ ap (λ (ds : List Decl). declared ds p) c.self.view_is;
+      c.look_up.ensures.exact ∙ ap (λ (ls : List (Bor Decl)). declared_uri (seen ls) p) c.deref.ensures.value
+      ∙ declared-index (seen d.index.items) d.decls.now p c.self.invariant some ∙ ap (λ (ds : List Decl). declared_uri ds p) c.self.view_is;
 }

@@ -2,7 +2,7 @@ use Rattle.std.proofs.Common.{◌≡◌, List, [], Option, ℕ, length, ap, sym,
 use Rattle.std.proofs.lemmas.List.{nil_from_length}
 use Rattle.std.specs.Option.{option_copied, option_or}
 use Rattle.xml_tree.specs.inner.Around.{lists_at}
-use Rattle.xml_names.specs.Scopes.{declared, joined}
+use Rattle.xml_names.specs.Scopes.{declared_uri, joined}
 use Rattle.xml_names.specs.declared.names.Decl.{Decl}
 use Rattle.xml_tree.proofs.AroundLemmas.{declared_inside}
 use Rattle.xml_tree.proofs.linked_scope.LinkedScope.+nearest.Goals as goal
@@ -15,8 +15,8 @@ returns-then-is_empty t c = record {
       let ds = c.in-Within.declared.now in
       let none : ds ≡ [] = nil_from_length ds (eqb-true (length ds) 0 (sym c.if-is_empty.ensures.exact)) in
       let here = ap lists_at (sym c.in-Within.is) ∙ c.self.view_is in
-      c.nearest-then-is_empty.ensures.exact ∙ ap (λ (l : List Decl). option_or (declared l p) (declared (joined outer) p)) (sym none) ∙ sym (declared_inside outer ds p)
-      ∙ ap (λ (s : List (List Decl)). declared (joined s) p) here;
+      c.nearest-then-is_empty.ensures.exact ∙ ap (λ (l : List Decl). option_or (declared_uri l p) (declared_uri (joined outer) p)) (sym none) ∙ sym (declared_inside outer ds p)
+      ∙ ap (λ (s : List (List Decl)). declared_uri (joined s) p) here;
 }
 
 pub returns-in-Some : goal.returns-in-Some
@@ -26,8 +26,8 @@ returns-in-Some t c = record {
       let p = c.args.prefix.now in
       let own = ap option_copied (sym c.in-Some.is) ∙ c.uri_of.ensures.exact in
       let here = ap lists_at (sym c.in-Within.is) ∙ c.self.view_is in
-      ap (λ (o : Option (List ℕ)). option_or o (declared (joined outer) p)) own ∙ sym (declared_inside outer c.in-Within.declared.now p)
-      ∙ ap (λ (s : List (List Decl)). declared (joined s) p) here;
+      ap (λ (o : Option (List ℕ)). option_or o (declared_uri (joined outer) p)) own ∙ sym (declared_inside outer c.in-Within.declared.now p)
+      ∙ ap (λ (s : List (List Decl)). declared_uri (joined s) p) here;
 }
 
 pub returns-in-None : goal.returns-in-None
@@ -37,6 +37,6 @@ returns-in-None t c = record {
       let p = c.args.prefix.now in
       let own = ap option_copied (sym c.in-None.is) ∙ c.uri_of.ensures.exact in
       let here = ap lists_at (sym c.in-Within.is) ∙ c.self.view_is in
-      c.nearest-in-None.ensures.exact ∙ ap (λ (o : Option (List ℕ)). option_or o (declared (joined outer) p)) own ∙ sym (declared_inside outer c.in-Within.declared.now p)
-      ∙ ap (λ (s : List (List Decl)). declared (joined s) p) here;
+      c.nearest-in-None.ensures.exact ∙ ap (λ (o : Option (List ℕ)). option_or o (declared_uri (joined outer) p)) own ∙ sym (declared_inside outer c.in-Within.declared.now p)
+      ∙ ap (λ (s : List (List Decl)). declared_uri (joined s) p) here;
 }

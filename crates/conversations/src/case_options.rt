@@ -1,0 +1,60 @@
+//! How a case is run.
+use anyhow::{Result, bail};
+use std::alloc::{AllocError, Global};
+
+/// How a case is run once, as README.md says.
+#[derive(Drop)]
+pub struct CaseOptions {
+    pub words: String,
+    pub status: u8,
+    pub repeat: usize,
+    /// The number of connections that come.
+    pub connections: usize,
+    /// The number of connections that a peer accepts.
+    pub peers: usize,
+}
+
+impl CaseOptions {
+    fn usual(alloc: Global) -> Result<CaseOptions, AllocError> {
+        Ok(CaseOptions {
+            words: String::from_str(alloc, "replay http://xcap.example.com/xcap")?,
+            status: 0,
+            repeat: 1,
+            connections: 0,
+            peers: 0,
+        })
+    }
+
+    fn set(&mut self, alloc: Global, key: &str, value: &str) -> Result<()> {
+        match key {
+            "shows" | "only in memory" => {}
+            "words" => self.words = String::from_str(alloc, value)?,
+            "status" => self.status = value.parse()?,
+            "repeat" => self.repeat = value.parse()?,
+            "connection" => self.connections = self.connections.saturating_add(1),
+            "peer" => self.peers = self.peers.saturating_add(1),
+            _ => bail!("no such line: {key}"),
+        }
+        Ok(())
+    }
+}
+
+fn parse_options(alloc: Global, paragraph: &str) -> Result<CaseOptions> {
+    let mut options = CaseOptions::usual(alloc)?;
+    for line in paragraph.lines() {
+        match line.split_once(':') {
+            Some((key, value)) => options.set(alloc, key, value.trim())?,
+            None => bail!("no value: {line}"),
+        }
+    }
+    Ok(options)
+}
+
+/// The options that a text describes, those of one run in each paragraph.
+pub fn parse_runs(alloc: Global, text: &str) -> Result<Vec<CaseOptions>> {
+    let mut runs = Vec::new(alloc);
+    for paragraph in text.split("\n\n") {
+        runs.push(parse_options(alloc, paragraph)?)?;
+    }
+    Ok(runs)
+}

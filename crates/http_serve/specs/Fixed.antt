@@ -1,6 +1,0 @@
--- Replies without etag and body, after which the connection ends. RFC 9112, section 9.6.
-use Rattle.std.specs.Prelude.{ℕ, List, true}
-use Rattle.reply_text.specs.ReplyHeads.{bytes_of, plain}
-
-abbrev pub fixed : ℕ → List ℕ
-fixed status = bytes_of (plain status true)

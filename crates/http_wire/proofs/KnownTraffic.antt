@@ -1,0 +1,109 @@
+-- What was served by the bytes given is served by all bytes of the connection, where these are
+-- known.
+use Rattle.std.proofs.Common.{◌≡◌, ℕ, ◌⊎◌, inl, inr, Bool, true, List, [], ◌∷◌, ◌++◌, length, Option, refl, sym, ap, subst, ◌∙◌}
+use Rattle.std.proofs.lemmas.List.{append-nil}
+use Rattle.xcap_io.specs.Histories.{Traffic}
+use Rattle.http_wire.specs.declared.request.Request.{Request}
+use Rattle.http_wire.specs.Items.{Item, FirstItem, IsFirst}
+use Rattle.http_wire.specs.ServedConnections.{Closes, no_more, last_item, no_memory, GoesOn, HasBytes, HaveBytes, Run, Serves, ServesEach, counted, counted_each}
+use Rattle.http_wire.specs.declared.close_reason.CloseReason.{CloseReason}
+use Rattle.http_wire.specs.declared.close_reason.CloseReason.TheVariants.{Closed, ReadFailed, WriteFailed}
+use Rattle.http_wire.proofs.Connections.{run-append}
+use Rattle.http_wire.proofs.WholeItems.{asks-append}
+
+-- where all was given, the first item is the first one of all
+pub first_by_all : (before : ℕ) (bytes : List ℕ) (item : Item) → IsFirst before bytes true item → (rest : List ℕ) × FirstItem before bytes item rest
+first_by_all before bytes item (inl each) =
+    let first : (rest : List ℕ) × FirstItem before (bytes ++ []) item rest = each [] in
+    (first.0, subst (λ (l : List ℕ). FirstItem before l item first.0) (append-nil bytes) first.1)
+first_by_all before bytes item (inr (ended, first)) = first
+
+pub all_give_first : (before : ℕ) (bytes : List ℕ) (item : Item) → (rest : List ℕ) × FirstItem before bytes item rest → IsFirst before bytes true item
+all_give_first before bytes item first = inr (refl, first)
+
+-- the bytes given, and those left, of which there are none where the end was found
+grown : (given left : List ℕ) → left ≡ [] → given ≡ given ++ left
+grown given left none = sym (ap (λ (l : List ℕ). given ++ l) none ∙ append-nil given)
+
+first_on : (before : ℕ) (given left : List ℕ) (ended : Bool) (item : Item) → (ended ≡ true → left ≡ []) → IsFirst before given ended item → IsFirst before (given ++ left) true item
+first_on before given left ended item none (inl each) = inr (refl, each left)
+first_on before given left ended item none (inr (found, (rest, first))) = inr (refl, (rest, subst (λ (l : List ℕ). FirstItem before l item rest) (grown given left (none found)) first))
+
+pub first_of_all : (before : ℕ) (bytes : List ℕ) (passed : Traffic) (item : Item) → HasBytes bytes passed → IsFirst before passed.given passed.ended item
+    → (rest : List ℕ) × FirstItem before bytes item rest
+first_of_all before bytes passed item (left, is, none) first =
+    first_by_all before bytes item (subst (λ (l : List ℕ). IsFirst before l true item) (sym is) (first_on before passed.given left passed.ended item none first))
+
+module _ {M E : Type 0} (Step : M → Request → List ℕ → M → Option E → Type 0) (fixed : ℕ → List ℕ) where
+  closes_on : (before : ℕ) (machine next : M) (given left reply : List ℕ) (ended : Bool) (edit : Option E) → (ended ≡ true → left ≡ [])
+      → Closes Step fixed before machine given ended reply next edit → Closes Step fixed before machine (given ++ left) true reply next edit
+  closes_on before machine next given left reply ended edit none (no_more nothing found silent same untold) =
+      no_more (ap (λ (l : List ℕ). l ++ left) nothing ∙ none found) refl silent same untold
+  closes_on before machine next given left reply ended edit none (last_item item first ends answers) = last_item item (first_on before given left ended item none first) ends answers
+  closes_on before machine next given left reply ended edit none (no_memory request rest asked fixed_one same untold) =
+      no_memory request (rest ++ left) (asks-append before given left request rest asked) fixed_one same untold
+
+  goes_on : (before : ℕ) (machine next : M) (given left reply rest : List ℕ) (edit : Option E) → GoesOn Step fixed before machine given reply next edit rest → GoesOn Step fixed before machine (given ++ left) reply next edit (rest ++ left)
+  goes_on before machine next given left reply rest edit g = record {
+    request = g.request;
+    asked = asks-append before given left g.request rest g.asked;
+    stays = g.stays;
+    step = g.step;
+  }
+
+  either_on : (before : ℕ) (machine next : M) (given left reply : List ℕ) (ended : Bool) (edit : Option E) → (ended ≡ true → left ≡ [])
+      → Closes Step fixed before machine given ended reply next edit ⊎ ((rest : List ℕ) × GoesOn Step fixed before machine given reply next edit rest)
+      → Closes Step fixed before machine (given ++ left) true reply next edit ⊎ ((rest : List ℕ) × GoesOn Step fixed before machine (given ++ left) reply next edit rest)
+  either_on before machine next given left reply ended edit none (inl closes) = inl (closes_on before machine next given left reply ended edit none closes)
+  either_on before machine next given left reply ended edit none (inr (rest, goes)) = inr (rest ++ left, goes_on before machine next given left reply rest edit goes)
+
+  -- one connection
+  pub counts : (ending : CloseReason) (machine next : M) (edits : List E) (bytes : List ℕ) (passed : Traffic) → HasBytes bytes passed
+      → Serves Step fixed ending machine passed next edits → Serves Step fixed ending machine (counted ending bytes passed) next edits
+  counts Closed machine next edits bytes passed (left, is, none) s = record {
+    requests = s.requests;
+    replies = s.replies;
+    early = s.early;
+    mid = s.mid;
+    behind = s.behind ++ left;
+    last = s.last;
+    edit = s.edit;
+    run = subst (λ (l : List ℕ). Run Step fixed 0 machine l s.requests s.replies s.early s.mid (s.behind ++ left)) (sym is)
+        (run-append Step fixed 0 machine s.mid passed.given left s.behind s.replies s.requests s.early s.run);
+    ends = closes_on (length s.requests) s.mid next s.behind left s.last passed.ended s.edit none s.ends;
+    wrote = s.wrote;
+    all_told = s.all_told;
+  }
+  counts ReadFailed machine next edits bytes passed has s = s
+  counts WriteFailed machine next edits bytes passed (left, is, none) s = record {
+    requests = s.requests;
+    replies = s.replies;
+    early = s.early;
+    mid = s.mid;
+    behind = s.behind ++ left;
+    last = s.last;
+    edit = s.edit;
+    run = subst (λ (l : List ℕ). Run Step fixed 0 machine l s.requests s.replies s.early s.mid (s.behind ++ left)) (sym is)
+        (run-append Step fixed 0 machine s.mid passed.given left s.behind s.replies s.requests s.early s.run);
+    ends = (s.ends.0, s.ends.1, s.ends.2, s.ends.3, either_on (length s.requests) s.mid next s.behind left s.ends.0 passed.ended s.edit none s.ends.4);
+    wrote = s.wrote;
+    all_told = s.all_told;
+  }
+
+  -- one connection after the other
+  pub counts_each : (machine next : M) (edits : List E) (all : List (List ℕ)) (connections : List Traffic) (endings : List CloseReason) → HaveBytes all connections
+      → ServesEach Step fixed machine connections endings next edits → ServesEach Step fixed machine (counted_each connections all endings) endings next edits
+  counts_each machine next edits all [] endings have s = s
+  counts_each machine next edits [] (passed ∷ connections) endings have s = absurd have
+  counts_each machine next edits (bytes ∷ all) (passed ∷ connections) endings have (ending, others, mid, first, later, are, all_told, serves, rest) =
+      subst (λ (l : List CloseReason). ServesEach Step fixed machine (counted_each (passed ∷ connections) (bytes ∷ all) l) l next edits) (sym are) (
+        ending,
+        others,
+        mid,
+        first,
+        later,
+        refl,
+        all_told,
+        counts ending machine mid first bytes passed have.0 serves,
+        counts_each mid next later all connections others have.1 rest,
+      )

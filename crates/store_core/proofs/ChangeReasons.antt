@@ -1,0 +1,249 @@
+-- The reasons against a change, as the registry and the total give them, are those of the
+-- definitions.
+use Rattle.std.proofs.Common.{◌≡◌, ◌≢◌, ℕ, ◌+◌, ◌-◌, ◌≤◌, nat_lt, nat_le, min, Bool, true, false, not, ◌&&◌, List, [], ◌∷◌, ◌++◌, length, map, filter, sum_by, Option, None, Some, IsSomeAnd, option_map, Ok, Err, refl, sym, ap, subst, ◌∙◌, arith}
+use Rattle.std.proofs.lemmas.Bool.Decides.{nat_tests}
+use Rattle.std.proofs.lemmas.List.{length-map, map-append}
+use Rattle.std.proofs.lemmas.List.Folds.{flat_map-map}
+use Rattle.std.specs.List.{AllByRecursion, flat_map, position}
+use Rattle.std.specs.Map.{lookup}
+use Rattle.std.specs.Set.{is_member}
+use Rattle.std.specs.Str.{bytes_eq}
+use Rattle.std.specs.Option.{option_or as or_else}
+use Rattle.std.specs.Prelude.{max}
+use Rattle.xml_tree.specs.Tree.{Tree}
+use Rattle.usage_docs.specs.Services.{document_len}
+use Rattle.usage_docs.specs.declared.keys.Clash.{Clash}
+use Rattle.usage_docs.specs.declared.schema_table.Key.TheVariants.{Uri}
+use Rattle.doc_names.specs.Equality.{same_id}
+use Rattle.doc_names.specs.declared.doc_id.DocId.{DocId}
+use Rattle.edit_ops.specs.Notes.{Note}
+use Rattle.store_core.specs.declared.entry.Entry.{Entry}
+use Rattle.store_core.specs.declared.refusal.StoreRefusal.{StoreRefusal}
+use Rattle.store_core.specs.declared.refusal.StoreRefusal.TheVariants.{ServiceTaken, TooLarge, TooMany, StoreFull}
+use Rattle.store_core.specs.Contents.{StoredDocument, StoreContents as Content}
+use Rattle.store_core.specs.ValidStates.{AreDistinct, addresses_in}
+use Rattle.store_core.specs.DocumentChanges.{against_tree, answered, document_in, stored_name, only_if, other_addresses, other_lengths, taken, without_document}
+use Rattle.store_core.specs.inner.StoreMemory.{IsStoring, content_in, stored_in, holder, is_others, len_in, number_in, registered, uris_in}
+use Rattle.store_core.specs.PreparedChanges.{total_of}
+use Rattle.store_core.proofs.AcceptedChanges.{sum-mapped, sum-put}
+use Rattle.store_core.proofs.DistinctItems.{each-append, each-left, each-right, each-weaker, apart-behind, none-filtered, one-filtered}
+use Rattle.store_core.proofs.AdmissionLemmas.{apart-before}
+use Rattle.store_core.proofs.StateContents.{map-filtered}
+use Rattle.store_core.proofs.Entries.{Around, each-unmapped, none-found}
+use Rattle.store_core.proofs.Holders.{is-other, others-hold, others-hold-beside, own-free}
+use Rattle.store_core.proofs.Places.{first-among}
+use Rattle.store_core.proofs.ChangeSteps.{absent-entry, around-of, held-found, known-of, len-of, one-held, total-is}
+use Rattle.store_core.specs.StoreViews.{Room, Stored}
+use Rattle.store_core.specs.inner.Addresses.{AreExchanged}
+use Rattle.store_core.specs.inner.ChangePlans.{refused_for, IsHeldAs}
+
+abbrev Row : Type 0
+Row = DocId × Entry
+
+-- ---- by numbers
+
+long : (n m : ℕ) → nat_lt 262144 n ≡ true → nat_lt 262144 (min n 18446744073709551615) ≡ true
+long n m h = grind (arith, nat_tests)
+
+short : (n : ℕ) → nat_lt 262144 n ≡ false → min n 18446744073709551615 ≡ n
+short n h = grind (arith, nat_tests)
+
+-- a length that was capped at the greatest number gives the same test
+cut-step : (place : Option ℕ) (n : ℕ) (full : Bool) (others : ℕ) (b : Bool) → nat_lt 262144 n ≡ b
+    → refused_for place (min n 18446744073709551615) full others
+    ≡ or_else (option_map (λ clash. ServiceTaken clash) (option_map (λ i. let clash : Clash = record { path = i ∷ []; key = Uri } in clash) place))
+    (or_else (only_if (nat_lt 262144 n) (TooLarge (min n 18446744073709551615))) (or_else (only_if full TooMany) (only_if (nat_lt 33554432 (others + n)) (StoreFull (others + n)))))
+cut-step (Some i) n full others b e = refl
+cut-step None n full others true e =
+    ap (λ t. or_else (only_if t (TooLarge (min n 18446744073709551615))) (or_else (only_if full TooMany) (only_if (nat_lt 33554432 (others + min n 18446744073709551615)) (StoreFull (others + min n 18446744073709551615))))) (long n n e)
+    ∙ sym (ap (λ t. or_else (only_if t (TooLarge (min n 18446744073709551615))) (or_else (only_if full TooMany) (only_if (nat_lt 33554432 (others + n)) (StoreFull (others + n))))) e)
+cut-step None n full others false e =
+    let s = short n e in
+    ap (λ (m : ℕ). or_else (only_if (nat_lt 262144 m) (TooLarge m)) (or_else (only_if full TooMany) (only_if (nat_lt 33554432 (others + m)) (StoreFull (others + m))))) s
+    ∙ sym (ap (λ (m : ℕ). or_else (only_if (nat_lt 262144 n) (TooLarge m)) (or_else (only_if full TooMany) (only_if (nat_lt 33554432 (others + n)) (StoreFull (others + n))))) s)
+
+-- ---- the tests of a tree
+
+-- where a registry says of each address whether another document has it
+found-so : (c : Content) (id : DocId) (is_new : Bool) (t : Tree) (test : List ℕ → Bool) (full : Bool) (others : ℕ) → ((uri : List ℕ) → is_member bytes_eq (other_addresses c id) uri ≡ test uri)
+    → full ≡ (is_new && nat_le 1000 (length c.documents)) → others ≡ other_lengths c id
+    → refused_for (position test (addresses_in id.auid t)) (min (document_len t) 18446744073709551615) full others ≡ against_tree c id is_new t
+found-so c id is_new t test full others tests fullness lengths =
+    let own = addresses_in id.auid t in
+    let clash : ℕ → Clash = λ i. record { path = i ∷ []; key = Uri } in
+    let there : List ℕ → Bool = λ uri. is_member bytes_eq (other_addresses c id) uri in
+    let same : there ≡ test = λ i uri. tests uri i in
+    let n = document_len t in
+    let rest : Option Clash → Bool → ℕ → Option StoreRefusal = λ first f o. or_else (option_map (λ (x : Clash). ServiceTaken x) first)
+    (or_else (only_if (nat_lt 262144 n) (TooLarge (min n 18446744073709551615))) (or_else (only_if f TooMany) (only_if (nat_lt 33554432 (o + n)) (StoreFull (o + n))))) in
+    cut-step (position test own) n full others (nat_lt 262144 n) refl
+    ∙ ap (λ (p : List ℕ → Bool). rest (option_map clash (position p own)) full others) (sym same)
+    ∙ ap (λ (f : Bool). rest (taken (other_addresses c id) own) f others) fullness
+    ∙ ap (λ (o : ℕ). rest (taken (other_addresses c id) own) (is_new && nat_le 1000 (length c.documents)) o) lengths
+
+-- the other documents, by their entries
+abbrev others-of : List Row → DocId → List Row
+others-of es id = filter (λ e. not (same_id id e.0)) es
+
+others-held : (es : List Row) (last : ℕ) (id : DocId) → without_document stored_name (content_in es last).documents id ≡ map stored_in (others-of es id)
+others-held es last id = sym (map-filtered stored_in (λ (e : Row). not (same_id id e.0)) (λ (h : StoredDocument). not (same_id id h.id)) (λ e. refl) es)
+
+other-uris : (es : List Row) (last : ℕ) (id : DocId) → other_addresses (content_in es last) id ≡ flat_map uris_in (others-of es id)
+other-uris es last id =
+    let uris : StoredDocument → List (List ℕ) = λ h. addresses_in h.id.auid h.tree in
+    ap (flat_map uris) (others-held es last id) ∙ flat_map-map uris stored_in (others-of es id)
+
+other-lens : (es : List Row) (last : ℕ) (id : DocId) → other_lengths (content_in es last) id ≡ sum_by len_in (others-of es id)
+other-lens es last id =
+    let len : StoredDocument → ℕ = λ h. document_len h.tree in
+    ap (sum_by len) (others-held es last id) ∙ sum-mapped len stored_in (others-of es id)
+
+-- ---- a new document
+
+all-others : (es : List Row) → AllByRecursion (λ e. is_others None (Some (number_in e)) ≡ true) es
+all-others [] = tt
+all-others (e ∷ es) = (refl, all-others es)
+
+pub against-new : (es : List Row) (rs : List (List ℕ × ℕ)) (last total : ℕ) (id : DocId) (t : Tree) → IsStoring es rs last total → lookup (same_id id) es ≡ None
+    → refused_for (position (λ uri. is_others None (registered rs uri)) (addresses_in id.auid t)) (min (document_len t) 18446744073709551615) (nat_le 1000 (length es)) total ≡ against_tree (content_in es last) id true t
+against-new es rs last total id t s missing =
+    let all : others-of es id ≡ es = none-filtered (λ (e : Row). same_id id e.0) es (none-found (same_id id) es missing) in
+    found-so (content_in es last) id true t (λ uri. is_others None (registered rs uri)) (nat_le 1000 (length es)) total
+    (λ uri. ap (λ (us : List (List ℕ)). is_member bytes_eq us uri) (other-uris es last id ∙ ap (flat_map uris_in) all) ∙ sym (others-hold uris_in number_in None es uri (all-others es)) ∙ ap (λ (o : Option ℕ). is_others None o) (sym (s.addresses uri)))
+    (ap (λ (n : ℕ). nat_le 1000 n) (sym (length-map es stored_in)))
+    (s.sum ∙ sym (other-lens es last id ∙ ap (sum_by len_in) all))
+
+-- ---- a stored document
+
+numbers-apart : (es : List Row) (v : Row) (before behind : List Row) → es ≡ before ++ v ∷ behind → AreDistinct (map number_in es) → AllByRecursion (λ e. is_others (Some (number_in v)) (Some (number_in e)) ≡ true) (before ++ behind)
+numbers-apart es v before behind parts apart =
+    let n = number_in v in
+    let Q : ℕ → Type 0 = λ t. n ≢ t in
+    let R : Row → Type 0 = λ e. n ≢ number_in e in
+    let S : Row → Type 0 = λ e. is_others (Some n) (Some (number_in e)) ≡ true in
+    let split : AreDistinct (map number_in before ++ n ∷ map number_in behind) = subst (λ (ns : List ℕ). AreDistinct ns) (ap (map number_in) parts ∙ map-append number_in before (v ∷ behind)) apart in
+    each-append S before behind
+    (each-weaker R S (λ e h. is-other n (number_in e) h) before (each-unmapped Q number_in before (apart-before (map number_in before) (map number_in behind) n split)))
+    (each-weaker R S (λ e h. is-other n (number_in e) h) behind (each-unmapped Q number_in behind (apart-behind (map number_in before) (map number_in behind) n split)))
+
+others-round : (es : List Row) (id : DocId) (v : Entry) (r : Around es id v) → others-of es id ≡ r.before ++ r.behind
+others-round es id v r = ap (λ (ds : List Row). others-of ds id) r.parts ∙ one-filtered (λ (e : Row). same_id id e.0) r.before r.behind (id, v) r.none-before r.passes r.none-behind
+
+-- the total without a document
+pub total-without : (es : List Row) (rs : List (List ℕ × ℕ)) (last total : ℕ) (id : DocId) (v : Entry) → IsStoring es rs last total → lookup (same_id id) es ≡ Some v → total ≡ sum_by len_in (others-of es id) + document_len v.tree.root
+total-without es rs last total id v s found =
+    let r = around-of es rs last total id v s found in
+    omega (arith, s.sum, ap (sum_by len_in) r.parts, sum-put len_in r.before (id, v) r.behind, ap (sum_by len_in) (others-round es id v r))
+
+module _ (es : List Row) (rs : List (List ℕ × ℕ)) (last total : ℕ) (id : DocId) (v : Entry) (s : IsStoring es rs last total) (found : lookup (same_id id) es ≡ Some v) where
+  abbrev is-taken : List ℕ → Bool
+  is-taken uri = is_others (Some v.created) (registered rs uri)
+
+  abbrev round : Around es id v
+  round = around-of es rs last total id v s found
+
+  apart-round : AreDistinct (flat_map uris_in (round.before ++ (id, v) ∷ round.behind))
+  apart-round = subst (λ (ds : List Row). AreDistinct (flat_map uris_in ds)) round.parts (known-of es rs last total s).services
+
+  others-numbered : AllByRecursion (λ e. is_others (Some v.created) (Some (number_in e)) ≡ true) (round.before ++ round.behind)
+  others-numbered = numbers-apart es (id, v) round.before round.behind round.parts s.numbers
+
+  held-round : (uri : List ℕ) → holder (round.before ++ (id, v) ∷ round.behind) uri ≡ registered rs uri
+  held-round uri = ap (λ (ds : List Row). holder ds uri) (sym round.parts) ∙ sym (s.addresses uri)
+
+  pub against-held : (t : Tree)
+      → refused_for (position is-taken (addresses_in id.auid t)) (min (document_len t) 18446744073709551615) false (total - document_len v.tree.root) ≡ against_tree (content_in es last) id false t
+  against-held t =
+      found-so (content_in es last) id false t is-taken false (total - document_len v.tree.root)
+      (λ uri.
+      ap (λ (us : List (List ℕ)). is_member bytes_eq us uri) (other-uris es last id ∙ ap (flat_map uris_in) (others-round es id v round))
+      ∙ sym (others-hold-beside uris_in number_in round.before round.behind (id, v) uri apart-round others-numbered)
+      ∙ ap (λ (o : Option ℕ). is_others (Some v.created) o) (held-round uri))
+      refl
+      (omega (arith, total-without es rs last total id v s found, other-lens es last id))
+
+  -- no address of the document is another document's
+  own-untaken : AllByRecursion (λ uri. is-taken uri ≡ false) (addresses_in id.auid v.tree.root)
+  own-untaken =
+      each-weaker (λ (uri : List ℕ). is_others (Some v.created) (holder (round.before ++ (id, v) ∷ round.behind) uri) ≡ false) (λ (uri : List ℕ). is-taken uri ≡ false)
+      (λ uri h. ap (λ (o : Option ℕ). is_others (Some v.created) o) (sym (held-round uri)) ∙ h)
+      (addresses_in id.auid v.tree.root) (own-free uris_in number_in round.before round.behind (id, v) apart-round others-numbered)
+
+  -- so where it replaces some, the first taken one is among the added ones
+  pub first-taken : (t : Tree) (place : ℕ) (leaves enters : List (List ℕ)) → AreExchanged place (addresses_in id.auid v.tree.root) leaves enters (addresses_in id.auid t)
+      → option_map (λ i. max place i) (position is-taken enters) ≡ position is-taken (addresses_in id.auid t)
+  first-taken t place leaves enters x =
+      let none = subst (λ (us : List (List ℕ)). AllByRecursion (λ uri. is-taken uri ≡ false) us) x.was own-untaken in
+      let P : List ℕ → Type 0 = λ uri. is-taken uri ≡ false in
+      sym (ap (position is-taken) x.becomes
+      ∙ first-among is-taken place x.before enters x.behind (each-left P x.before (leaves ++ x.behind) none) (each-right P leaves x.behind (each-right P x.before (leaves ++ x.behind) none)) x.come)
+
+-- ---- what a store finds about a tree, and about the other documents
+
+pub total-small : (es : List Row) (rs : List (List ℕ × ℕ)) (last total : ℕ) → IsStoring es rs last total → total ≤ 33554432
+total-small es rs last total s = omega (arith, s.sum, (known-of es rs last total s).room)
+
+module _ (es : List Row) (rs : List (List ℕ × ℕ)) (last total : ℕ) (room : Room) (s : Stored) (doc : DocId) (seen : (let x : Stored = record { content = content_in es last; room = room } in x) ≡ s) (storing : IsStoring es rs last total) where
+  pub new-answer : (t : Tree) (uris : List (List ℕ)) (place : Option ℕ) (len : ℕ) → document_in stored_name s.content.documents doc ≡ None → uris ≡ addresses_in doc.auid t
+      → place ≡ position (λ uri. is_others None (registered rs uri)) uris → len ≡ min (document_len t) 18446744073709551615 → refused_for place len (nat_le 1000 (length es)) total ≡ against_tree s.content doc true t
+  new-answer t uris place len missing own at counted =
+      let absent = absent-entry es rs last total doc storing (subst (λ (x : Stored). document_in stored_name x.content.documents doc ≡ None) (sym seen) missing) in
+      let test : List ℕ → Bool = λ uri. is_others None (registered rs uri) in
+      ap (λ (o : Option ℕ). refused_for o len (nat_le 1000 (length es)) total) (at ∙ ap (λ (us : List (List ℕ)). position test us) own)
+      ∙ ap (λ (n : ℕ). refused_for (position test (addresses_in doc.auid t)) n (nat_le 1000 (length es)) total) counted
+      ∙ against-new es rs last total doc t storing absent
+      ∙ ap (λ (x : Stored). against_tree x.content doc true t) seen
+
+  module _ (v : Entry) (found : Some v ≡ lookup (same_id doc) es) where
+    len-here : v.len ≡ document_len v.tree.root
+    len-here = len-of es rs last total doc v storing (sym found)
+
+    held-tree : (h : StoredDocument) → document_in stored_name s.content.documents doc ≡ Some h → h.tree ≡ v.tree.root
+    held-tree h is =
+        let r = around-of es rs last total doc v storing (sym found) in
+        ap (λ (x : StoredDocument). x.tree) (one-held es doc v h r (subst (λ (x : Stored). document_in stored_name x.content.documents doc ≡ Some h) (sym seen) is))
+
+    pub edit-answer : (h : StoredDocument) (t : Tree) (leaves uris : List (List ℕ)) (first len : ℕ) (place : Option ℕ) → document_in stored_name s.content.documents doc ≡ Some h
+        → AreExchanged first (addresses_in doc.auid h.tree) leaves uris (addresses_in doc.auid t)
+        → place ≡ option_map (λ i. max first i) (position (λ uri. is_others (Some v.created) (registered rs uri)) uris)
+        → len ≡ min (document_len t) 18446744073709551615 → refused_for place len false (total - v.len) ≡ against_tree s.content doc false t
+    edit-answer h t leaves uris first len place is exchanged at counted =
+        let test : List ℕ → Bool = λ uri. is_others (Some v.created) (registered rs uri) in
+        let here = subst (λ (x : Tree). AreExchanged first (addresses_in doc.auid x) leaves uris (addresses_in doc.auid t)) (held-tree h is) exchanged in
+        ap (λ (o : Option ℕ). refused_for o len false (total - v.len)) (at ∙ first-taken es rs last total doc v storing (sym found) t first leaves uris here)
+        ∙ ap (λ (n : ℕ). refused_for (position test (addresses_in doc.auid t)) n false (total - v.len)) counted
+        ∙ ap (λ (n : ℕ). refused_for (position test (addresses_in doc.auid t)) (min (document_len t) 18446744073709551615) false (total - n)) len-here
+        ∙ against-held es rs last total doc v storing (sym found) t
+        ∙ ap (λ (x : Stored). against_tree x.content doc false t) seen
+
+    pub held-as : IsHeldAs s.content doc v
+    held-as =
+        let r = around-of es rs last total doc v storing (sym found) in
+        subst (λ (x : Stored). IsHeldAs x.content doc v) seen (stored_in (doc, v), held-found es doc v r, refl, refl, len-here)
+
+    pub no-longer : v.len ≤ total
+    no-longer = omega (arith, len-here, total-without es rs last total doc v storing (sym found))
+
+    pub others-are : total - v.len ≡ other_lengths s.content doc
+    others-are =
+        let here : total - v.len ≡ other_lengths (content_in es last) doc = omega (arith, len-here, total-without es rs last total doc v storing (sym found), other-lens es last doc) in
+        here ∙ ap (λ (x : Stored). other_lengths x.content doc) seen
+
+    pub whole-is : IsSomeAnd (document_in stored_name s.content.documents doc) (λ h. (total - v.len) + document_len h.tree ≡ total_of s.content)
+    whole-is =
+        let r = around-of es rs last total doc v storing (sym found) in
+        let n : (total - v.len) + document_len v.tree.root ≡ total_of (content_in es last) =
+        omega (arith, len-here, total-without es rs last total doc v storing (sym found), storing.sum, total-is es last) in
+        subst (λ (x : Stored). IsSomeAnd (document_in stored_name x.content.documents doc) (λ h. (total - v.len) + document_len h.tree ≡ total_of x.content)) seen
+        (subst (λ (o : Option StoredDocument). IsSomeAnd o (λ h. (total - v.len) + document_len h.tree ≡ total_of (content_in es last))) (sym (held-found es doc v r)) n)
+
+-- ---- what is returned
+
+pub refused-first : (a b : Option StoreRefusal) (e : StoreRefusal) (note : Note) (next : Content) → a ≡ Some e → answered (or_else a b) note next ≡ Err e
+refused-first a b e note next h = ap (λ (o : Option StoreRefusal). answered (or_else o b) note next) h
+
+pub refused-last : (a b : Option StoreRefusal) (e : StoreRefusal) (note : Note) (next : Content) → a ≡ None → b ≡ Some e → answered (or_else a b) note next ≡ Err e
+refused-last a b e note next h g = ap (λ (o : Option StoreRefusal). answered (or_else o b) note next) h ∙ ap (λ (o : Option StoreRefusal). answered o note next) g
+
+pub not-refused-at-all : (a b : Option StoreRefusal) (note : Note) (next : Content) → a ≡ None → b ≡ None → answered (or_else a b) note next ≡ Ok (note, next)
+not-refused-at-all a b note next h g = ap (λ (o : Option StoreRefusal). answered (or_else o b) note next) h ∙ ap (λ (o : Option StoreRefusal). answered o note next) g

@@ -1,0 +1,126 @@
+-- Which trees are unshared, and what a store has of its documents, whoever shares their trees.
+use Rattle.std.proofs.Common.{◌≡◌, ℕ, ◌+◌, ◌≤◌, Bool, true, false, cond, List, [], ◌∷◌, map, sum_by, Option, None, Some, option_map, refl, sym, ap, subst, ◌∙◌}
+use Rattle.std.proofs.lemmas.Option.{same_Some}
+use Rattle.std.specs.List.{AllByRecursion}
+use Rattle.std.specs.Map.{lookup, set_value}
+use Rattle.std.specs.Set.{is_member}
+use Rattle.std.specs.Str.{bytes_eq}
+use Rattle.doc_names.specs.Equality.{same_id}
+use Rattle.doc_names.specs.contracts.doc_id.DocIdPartialEq.TheImpl.{eq-value}
+use Rattle.doc_names.specs.declared.doc_id.DocId.{DocId}
+use Rattle.store_core.specs.declared.entry.Entry.{Entry}
+use Rattle.store_core.specs.Contents.{StoredDocument, StoreContents as Content}
+use Rattle.store_core.specs.ValidStates.{AreDistinct}
+use Rattle.store_core.specs.inner.UnsharedTrees.{IsOwn}
+use Rattle.store_core.specs.inner.StoreMemory.{IsStoring, all_as_own, as_own, content_in, stored_in, holder, len_in, number_in, trees_in, uris_in}
+use Rattle.store_core.proofs.AcceptedChanges.{sum-mapped}
+use Rattle.store_core.proofs.Entries.{each-mapped, each-unmapped, mapped}
+use Rattle.store_core.proofs.DocumentMaps.{looked-up, same-set}
+
+abbrev Row : Type 0
+Row = DocId × Entry
+
+abbrev is_own : Entry → Bool
+is_own v = v.tree.own
+
+abbrev own_row : Row → Row
+own_row e = (e.0, as_own e.1)
+
+-- ---- look-ups
+
+module _ {X : Type 0} (read : Entry → X) (q : DocId → Bool) where
+  abbrev read_row : Row → DocId × X
+  read_row e = (e.0, read e.1)
+
+  read-step : (e : Row) (es : List Row) (b : Bool) → lookup q (map read_row es) ≡ option_map read (lookup q es)
+      → cond b (Some (read e.1)) (lookup q (map read_row es)) ≡ option_map read (cond b (Some e.1) (lookup q es))
+  read-step e es true by = refl
+  read-step e es false by = by
+
+  read-of : (es : List Row) → lookup q (map read_row es) ≡ option_map read (lookup q es)
+  read-of [] = refl
+  read-of (e ∷ es) = read-step e es (q e.0) (read-of es)
+
+  pub read-found : (es : List Row) (v : Entry) → lookup q es ≡ Some v → lookup q (map read_row es) ≡ Some (read v)
+  read-found es v found = read-of es ∙ ap (λ (o : Option Entry). option_map read o) found
+
+  pub read-missing : (es : List Row) → lookup q es ≡ None → lookup q (map read_row es) ≡ None
+  read-missing es missing = read-of es ∙ ap (λ (o : Option Entry). option_map read o) missing
+
+pub found-tree : (es : List Row) (doc : DocId) (v : Entry) → lookup (same_id doc) es ≡ Some v → lookup (same_id doc) (trees_in es) ≡ Some v.tree.own
+found-tree es doc v found = read-found is_own (same_id doc) es v found
+
+-- ---- one entry replaced
+
+module _ (q : DocId → Bool) where
+  set-step : (e : Row) (es : List Row) (v w : Entry) (b : Bool) → q e.0 ≡ b → cond b (Some e.1) (lookup q es) ≡ Some v → (lookup q es ≡ Some v → lookup q (set_value q es w) ≡ Some w)
+      → lookup q (cond b ((e.0, w) ∷ es) (e ∷ set_value q es w)) ≡ Some w
+  set-step e es v w true h found by = ap (λ (b : Bool). cond b (Some w) (lookup q es)) h
+  set-step e es v w false h found by = ap (λ (b : Bool). cond b (Some e.1) (lookup q (set_value q es w))) h ∙ by found
+
+  set-found : (es : List Row) (v w : Entry) → lookup q es ≡ Some v → lookup q (set_value q es w) ≡ Some w
+  set-found [] v w found = cc
+  set-found (e ∷ es) v w found = set-step e es v w (q e.0) refl found (set-found es v w)
+
+  own-step : (e : Row) (es : List Row) (w : Entry) (b : Bool) → all_as_own (set_value q es w) ≡ set_value q (all_as_own es) (as_own w)
+      → all_as_own (cond b ((e.0, w) ∷ es) (e ∷ set_value q es w)) ≡ cond b ((e.0, as_own w) ∷ all_as_own es) (own_row e ∷ set_value q (all_as_own es) (as_own w))
+  own-step e es w true by = refl
+  own-step e es w false by = ap (λ (xs : List Row). own_row e ∷ xs) by
+
+  own-set : (es : List Row) (w : Entry) → all_as_own (set_value q es w) ≡ set_value q (all_as_own es) (as_own w)
+  own-set [] w = refl
+  own-set (e ∷ es) w = own-step e es w (q e.0) (own-set es w)
+
+module _ (doc : DocId) (es next : List Row) (v w : Entry) (written : next ≡ set_value (eq-value.it doc) es w) (there : Some v ≡ lookup (eq-value.it doc) es) where
+  -- what is written differs at most in whether the tree is shared
+  pub same-written : as_own w ≡ as_own v → all_as_own next ≡ all_as_own es
+  same-written same =
+      let q = eq-value.it doc in
+      ap (λ (xs : List Row). all_as_own xs) written
+      ∙ own-set q es w
+      ∙ ap (λ (x : Entry). set_value q (all_as_own es) x) same
+      ∙ same-set q (all_as_own es) (as_own v) (read-found as_own q es v (sym there))
+
+  pub own-written : w.tree.own ≡ true → IsOwn (trees_in next) doc
+  own-written own = λ b found.
+      let q = eq-value.it doc in
+      let here : lookup (same_id doc) next ≡ Some w =
+      sym (looked-up doc next) ∙ ap (λ (xs : List Row). lookup q xs) written ∙ set-found q es v w (sym there) in
+      same_Some b w.tree.own (sym found ∙ found-tree next doc w here) ∙ own
+
+-- the tree of a document that isn't stored
+pub own-missing : (doc : DocId) (es : List Row) → None ≡ lookup (eq-value.it doc) es → IsOwn (trees_in es) doc
+own-missing doc es none = λ b found.
+    let missing : lookup (same_id doc) (trees_in es) ≡ None = read-missing is_own (same_id doc) es (sym (looked-up doc es) ∙ sym none) in
+    cc
+
+-- ---- what is unchanged
+
+abbrev HasLen : Row → Type 0
+HasLen e = e.1.len ≡ len_in e
+
+held-alike : (es : List Row) (uri : List ℕ) → holder (all_as_own es) uri ≡ holder es uri
+held-alike [] uri = refl
+held-alike (e ∷ es) uri = ap (λ (o : Option ℕ). cond (is_member bytes_eq (uris_in e) uri) (Some (number_in e)) o) (held-alike es uri)
+
+module _ (es ds : List Row) (same : all_as_own ds ≡ all_as_own es) where
+  same-held : map stored_in ds ≡ map stored_in es
+  same-held = sym (mapped stored_in own_row ds) ∙ ap (map stored_in) same ∙ mapped stored_in own_row es
+
+  same-numbers : map number_in ds ≡ map number_in es
+  same-numbers = sym (mapped number_in own_row ds) ∙ ap (map number_in) same ∙ mapped number_in own_row es
+
+  pub alike-content : (last : ℕ) → content_in ds last ≡ content_in es last
+  alike-content last = ap (λ (hs : List StoredDocument). let c : Content = record { documents = hs; next = last + 1 } in c) same-held
+
+  pub alike-storing : (rs : List (List ℕ × ℕ)) (last total : ℕ) → IsStoring es rs last total → IsStoring ds rs last total
+  alike-storing rs last total s =
+      let P : ℕ → Type 0 = λ n. n ≤ last in
+      record {
+        kept = (s.kept.0, alike-content last ∙ s.kept.1, s.kept.2);
+        addresses = λ uri. s.addresses uri ∙ sym (held-alike es uri) ∙ ap (λ (xs : List Row). holder xs uri) (sym same) ∙ held-alike ds uri;
+        numbers = subst (λ (ns : List ℕ). AreDistinct ns) (sym same-numbers) s.numbers;
+        given = each-unmapped P number_in ds (subst (λ (ns : List ℕ). AllByRecursion P ns) (sym same-numbers) (each-mapped P number_in es s.given));
+        sum = s.sum ∙ sym (sum-mapped len_in own_row es) ∙ ap (sum_by len_in) (sym same) ∙ sum-mapped len_in own_row ds;
+        lens = each-unmapped HasLen own_row ds (subst (λ (xs : List Row). AllByRecursion HasLen xs) (sym same) (each-mapped HasLen own_row es s.lens));
+      }

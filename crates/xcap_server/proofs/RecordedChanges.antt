@@ -1,0 +1,98 @@
+-- A journal of a server has the records of requests at which the machine makes changes.
+use Rattle.std.proofs.Common.{◌≡◌, ℕ, ◌≤◌, Bool, true, false, List, [], ◌∷◌, ◌++◌, length, All, Option, None, Some, refl, sym, ap, subst, ◌∙◌, arith, append-nil, append_assoc}
+use Rattle.std.proofs.lemmas.List.Elements.{All-nil, All-cons, All-append}
+use Rattle.std.specs.Bool.{MatchBool}
+use Rattle.http_wire.specs.declared.request.Request.{Request}
+use Rattle.edit_ops.specs.declared.edit.Edit.{Edit}
+use Rattle.reply_text.specs.ReplyHeads.{SentReply}
+use Rattle.request_checks.specs.Methods.{is_reading, method_of}
+use Rattle.request_checks.specs.declared.method.Method.{Method}
+use Rattle.request_checks.specs.declared.method.Method.TheVariants.{Get, Head, Put, Delete, Other}
+use Rattle.edit_journal.specs.Journals.{IsFirstOf, JournalState}
+use Rattle.edit_journal.specs.Logs.{LogState}
+use Rattle.edit_journal.specs.Records.{IsRecordable, record_of, recorded}
+use Rattle.edit_journal.specs.Texts.{IsRecordedRequest, text}
+use Rattle.edit_journal.proofs.WholeRecords.{is_told, text_one_more, text-append}
+use Rattle.store_core.specs.Contents.{StoreContents, stock_of}
+use Rattle.store_core.specs.State.{State, first_state}
+use Rattle.xcap_machine.specs.Answers.{Answer, Made}
+use Rattle.xcap_machine.specs.Laws.{tells_change}
+use Rattle.xcap_machine.specs.Machine.{ValidStep, answer_as, told_as}
+use Rattle.xcap_machine.specs.Requests.{IsAnswer}
+use Rattle.xcap_machine.proofs.Ways.{Way, changes, stays, way_of}
+use Rattle.edit_journal.specs.LoggedRequests.{Accepts}
+use Rattle.xcap_machine.specs.SubscriberVersions.{FollowedStep}
+use Rattle.xcap_server.specs.LoggedServers.{Logs}
+use Rattle.xcap_server.specs.ReplayedRequests.{Redoing}
+use Rattle.xcap_machine.specs.Servers.{ServerState}
+use Rattle.xcap_server.proofs.LoggedServers.{redoing_more}
+use Rattle.xcap_server.proofs.CloseLemmas.{makes_too}
+use Rattle.edit_journal.proofs.Broken.{first_of_first}
+
+tells_none : (method : Method) (status : ℕ) → tells_change method status ≡ true → is_reading method ≡ false
+tells_none Get status h = let no : ⊥ = cc in absurd no
+tells_none Head status h = let no : ⊥ = cc in absurd no
+tells_none Put status h = refl
+tells_none Delete status h = refl
+tells_none Other status h = refl
+
+changes_by : (method : Method) (closes : Bool) (c : StoreContents) (a : Answer) (made : Made) → a.made ≡ Some made → Way method closes c a → is_reading method ≡ false
+changes_by method closes c a made makes (stays reply tells same is) = let no : ◌≡◌ {A = Option Made} None (Some made) = sym (ap (λ (x : Answer). x.made) is) ∙ makes in absurd (let f : ⊥ = cc in f)
+changes_by method closes c a made makes (changes reply tells same id change note next asks did is) = tells_none method reply.status tells
+
+-- as its record has it, a request makes the same change
+recorded_step : (root : List ℕ) (m next : State) (request : Request) (reply : SentReply) (e : Edit) → ValidStep root m request reply next (Some e) → (reply' : SentReply) × ValidStep root m (recorded request) reply' next (Some e)
+recorded_step root m next request reply e step =
+    let answer = answer_as reply (Some e) in
+    let writes = changes_by (method_of request.method) request.closes (stock_of m) answer (told_as e) refl (way_of root (stock_of m) request answer step.1.answers) in
+    let other = makes_too (told_as e) request false answer refl root (stock_of m) writes step.1.answers in (
+      other.0.reply,
+      (
+        step.0,
+        record {
+          answers = subst (λ (o : Option Made). IsAnswer root (stock_of m) (recorded request) (record { reply = other.0.reply; made = o })) other.2 other.1;
+          goes_on = step.1.goes_on;
+        },
+        step.2,
+      ),
+    )
+
+abbrev Comes : List ℕ → Bool → List Request → List ℕ → Type 0
+Comes root is_torn requests bytes =
+    (torn : List Request) × (last : State) × (length torn ≤ 1) × (is_torn ≡ false → torn ≡ []) × All IsRecordedRequest (requests ++ torn)
+    × Redoing root (first_state 1) (requests ++ torn) last × IsFirstOf bytes (text (requests ++ torn))
+
+comes_by : (root : List ℕ) (is_torn : Bool) (requests : List Request) (state : State) (rest : List ℕ) → All IsRecordedRequest requests → Redoing root (first_state 1) requests state
+    → MatchBool is_torn ((request : Request) × IsRecordable request × Accepts (FollowedStep root) state request × IsFirstOf rest (record_of request)) (rest ≡ []) → Comes root is_torn requests (text requests ++ rest)
+comes_by root true requests state rest told way (request, can, accepted, (more, is)) =
+    let step = recorded_step root state accepted.1 request accepted.0 accepted.2 accepted.3.0 in (
+      recorded request ∷ [],
+      accepted.1,
+      omega arith,
+      (λ no. cc),
+      All-append IsRecordedRequest requests (recorded request ∷ []) told (All-cons IsRecordedRequest (recorded request) [] (is_told request can) (All-nil IsRecordedRequest)),
+      redoing_more root requests (first_state 1) state accepted.1 (recorded request) step.0 accepted.2 way step.1,
+      (more, text_one_more requests request ∙ ap (λ l. text requests ++ l) is ∙ sym (append_assoc (text requests) rest more)),
+    )
+comes_by root false requests state rest told way none = (
+  [],
+  state,
+  omega arith,
+  (λ _. refl),
+  subst (λ (l : List Request). All IsRecordedRequest l) (sym (append-nil requests)) told,
+  subst (λ (l : List Request). Redoing root (first_state 1) l state) (sym (append-nil requests)) way,
+  ([], text-append requests [] ∙ ap (λ l. text requests ++ l) (sym none) ∙ sym (append-nil (text requests ++ rest))),
+)
+
+pub comes_to_a_state : (server : ServerState) (log : LogState) (journal : JournalState) (requests : List Request) (bytes : List ℕ) → Logs server log journal requests → IsFirstOf bytes journal.held
+    → Comes server.root log.is_torn requests bytes
+comes_to_a_state server log journal requests bytes logs begins =
+    let all = comes_by server.root log.is_torn requests logs.stands.state logs.holds.rest logs.holds.told logs.stands.redone logs.holds.behind in (
+      all.0,
+      all.1,
+      all.2,
+      all.3,
+      all.4,
+      all.5,
+      first_of_first bytes journal.held (text (requests ++ all.0)) begins (subst (λ (l : List ℕ). IsFirstOf l (text (requests ++ all.0))) (sym logs.holds.split) all.6),
+    )

@@ -1,8 +1,0 @@
-use Rattle.std.proofs.Common.{◌≡◌, drop, chars}
-use Rattle.std.specs.Option.{option_or, option_copied}
-use Rattle.xml_names.specs.Scopes.{declared}
-use Rattle.xml_names.proofs.prefixes.declared.Given as goal
-
-abbrev pub invariant-loop-decl : goal.invariant-loop-decl
-invariant-loop-decl l =
-    option_or (declared (drop l.decl-index l.decls) (chars l.prefix)) (option_copied l.found) ≡ declared l.decls (chars l.prefix)
