@@ -7,7 +7,7 @@ use Rattle.client_commands.specs.Endings.{CallStreams}
 use Rattle.client_commands.specs.Outputs.{TakesAll, TakesSome}
 use Rattle.client_follower.specs.Rounds.{Rounds}
 use Rattle.client_follower.specs.Starts.{Starts}
-use Rattle.client_follower.specs.States.{Following}
+use Rattle.client_follower.specs.States.{FollowedDocument, Following}
 use Rattle.client_follower.specs.declared.fault.FollowerFault.{FollowerFault}
 use Rattle.client_follower.specs.declared.feed_rounds.Round.{Round}
 use Rattle.client_commands.specs.Lines.{copy_text, round_line}
@@ -65,14 +65,17 @@ pub record FollowOptions : Type 0 where
   pub doc : DocId
   pub rounds : ℕ
 
+abbrev pub document_of : FollowOptions → FollowedDocument
+document_of options =
+    record { root = options.requester.root; user = options.requester.user; doc = options.doc }
+
 -- The follower started, and continued; or it didn't start, and nothing was written.
 pub data Follows (options : FollowOptions) (ended : CommandEnd)
     (old new : CallStreams) : Type 0 where
   starts : (f : Following) (asked : StreamState)
-      → Starts options.requester.root options.requester.user options.doc old.peer asked (Ok f)
+      → Starts (document_of options) old.peer asked (Ok f)
       → FollowsOn options.rounds f ended (record old { peer = asked }) new
       → Follows options ended old new
   fails_to_start : (fault : FollowerFault)
-      → Starts options.requester.root options.requester.user options.doc old.peer new.peer
-      (Err fault)
+      → Starts (document_of options) old.peer new.peer (Err fault)
       → ended ≡ Failed fault → new.output ≡ old.output → Follows options ended old new

@@ -11,7 +11,7 @@ use client_follower::Follower;
 use doc_names::DocId;
 use patch_apply::Replica;
 use std::alloc::{AllocError, Global};
-use tree_text::print_document;
+use tree_print::print_document;
 use xcap_io::{Line, Peer, Sink};
 
 // Makes one round, and writes the replica's etag. None where both succeeded.

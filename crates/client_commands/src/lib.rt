@@ -1,5 +1,4 @@
-//! The commands of a client: the calls that they make, the text that they read from an input, and
-//! what they write of the responses.
+//! The client's commands: the calls that they make, the text that they read, and what they write.
 //! Promises upward that a text is all that the input gave to its end (`GaveText`); that a command
 //! makes its calls and no others, and writes exactly the output that the responses determine
 //! (`MakesOneCall`, `Puts`, `Follows`); and that each way to end has its cause, and its message

@@ -18,8 +18,8 @@ use Rattle.client_follower.specs.Documents.{Fetches, TakesDocument}
 use Rattle.client_follower.specs.Faults.{of_client}
 use Rattle.client_follower.specs.Feeds.{TakesFeed}
 use Rattle.client_follower.specs.Rounds.{AsksFeed, holds_nothing, asks, Rounds, by_feed, by_document, failed, HoldsFetched}
-use Rattle.client_follower.specs.Starts.{Starts, started}
-use Rattle.client_follower.specs.States.{Following}
+use Rattle.client_follower.specs.Starts.{Starts, follower_of}
+use Rattle.client_follower.specs.States.{FollowedDocument, Following}
 use Rattle.client_follower.specs.declared.fault.FollowerFault.{FollowerFault}
 use Rattle.client_follower.specs.declared.feed_rounds.Round.{Round}
 use Rattle.client_follower.specs.Counts.{Begins, BeginsForCall, BeginsForRound, BeginsForStart}
@@ -109,19 +109,19 @@ record BeginsOnce (root : List ℕ) (old new : StreamState) (Well : Type 0) : Ty
   few : count ≤ 1
   well : Well → count ≡ 1
 
-fetch_begins : (root : List ℕ) (user : Option (List ℕ)) (doc : DocId) (old new : StreamState) (r : Result (Option ReplicaVersion) FollowerFault) → Fetches root user doc old new r → BeginsOnce root old new ((x : Option ReplicaVersion) × (r ≡ Ok x))
-fetch_begins root user doc old new r f =
-    let b = begun_by root _ old new f.given f.calls in
+fetch_begins : (document : FollowedDocument) (old new : StreamState) (r : Result (Option ReplicaVersion) FollowerFault) → Fetches document old new r → BeginsOnce document.root old new ((x : Option ReplicaVersion) × (r ≡ Ok x))
+fetch_begins document old new r f =
+    let b = begun_by document.root _ old new f.given f.calls in
     record { count = b.count; begins = b.begins; few = b.few; well = λ (x, ok). let t = fetched_well f.given r x f.takes ok in b.well t.0 t.1 }
 
-started_well : (root : List ℕ) (user : Option (List ℕ)) (doc : DocId) (fetched : Result (Option ReplicaVersion) FollowerFault) (f : Following) → started root user doc fetched ≡ Ok f → (x : Option ReplicaVersion) × (fetched ≡ Ok x)
-started_well root user doc (Ok x) f is = (x, refl)
-started_well root user doc (Err fault) f is = let no : ⊥ = cc in absurd no
+started_well : (document : FollowedDocument) (fetched : Result (Option ReplicaVersion) FollowerFault) (f : Following) → follower_of document fetched ≡ Ok f → (x : Option ReplicaVersion) × (fetched ≡ Ok x)
+started_well document (Ok x) f is = (x, refl)
+started_well document (Err fault) f is = let no : ⊥ = cc in absurd no
 
-pub start_begins : (root : List ℕ) (user : Option (List ℕ)) (doc : DocId) (old new : StreamState) (r : Result Following FollowerFault) → Starts root user doc old new r → BeginsForStart root old new r
-start_begins root user doc old new r s =
-    let b = fetch_begins root user doc old new s.fetched s.fetches in
-    (b.count, b.begins, b.few, λ f is. b.well (started_well root user doc s.fetched f (sym s.told ∙ is)))
+pub start_begins : (document : FollowedDocument) (old new : StreamState) (r : Result Following FollowerFault) → Starts document old new r → BeginsForStart document.root old new r
+start_begins document old new r s =
+    let b = fetch_begins document old new s.fetched s.fetches in
+    (b.count, b.begins, b.few, λ f is. b.well (started_well document s.fetched f (sym s.told ∙ is)))
 
 -- the request for the feed began at most one, and one where the feed decided what became of the
 -- document
@@ -144,7 +144,7 @@ round_begins f f' old new r (by_feed round feed is) =
     (b.count, b.begins, few, λ x ok. omega (arith, one))
 round_begins f f' old new r (by_document between feed fetch) =
     let a = feed_begins f f old between (Ok None) feed in
-    let b = fetch_begins f.root f.user f.doc between new fetch.fetched fetch.fetches in
+    let b = fetch_begins (record { root = f.root; user = f.user; doc = f.doc }) between new fetch.fetched fetch.fetches in
     let few : a.count + b.count ≤ 2 = omega (arith, a.few, b.few) in (
       a.count + b.count,
       both f.root a.count b.count old between new a.begins b.begins,

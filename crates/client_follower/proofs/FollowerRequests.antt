@@ -17,7 +17,7 @@ use Rattle.client_follower.specs.Paths.{feed_path}
 use Rattle.client_follower.specs.Rounds.{AsksFeed, Refetches, Rounds, asks, by_document, by_feed}
 use Rattle.client_follower.specs.inner.Rounds.{KeepsState}
 use Rattle.client_follower.specs.Starts.{Starts}
-use Rattle.client_follower.specs.States.{Following}
+use Rattle.client_follower.specs.States.{FollowedDocument, Following}
 use Rattle.client_follower.specs.declared.fault.FollowerFault.{FollowerFault}
 use Rattle.client_follower.specs.declared.fault.FollowerFault.TheVariants as faults
 use Rattle.client_follower.specs.declared.feed_rounds.Round.{Round}
@@ -26,11 +26,11 @@ use Rattle.client_follower.specs.declared.feed_rounds.Round.{Round}
 pub not_called : (root : List ℕ) (ask : Ask) (line : StreamState) → Calls root ask line line (Err clients.NoMemory)
 not_called root ask line = record { given = Err clients.NoMemory; exchanges = not_begun refl refl; judged = refl }
 
-not_fetched : (root : List ℕ) (user : Option (List ℕ)) (doc : DocId) (line : StreamState) → Fetches root user doc line line (Err faults.NoMemory)
-not_fetched root user doc line = record { given = Err clients.NoMemory; calls = not_called root _ line; takes = refl }
+not_fetched : (document : FollowedDocument) (line : StreamState) → Fetches document line line (Err faults.NoMemory)
+not_fetched document line = record { given = Err clients.NoMemory; calls = not_called document.root _ line; takes = refl }
 
-pub not_started : (root : List ℕ) (user : Option (List ℕ)) (doc : DocId) (line : StreamState) (result : Result Following FollowerFault) → result ≡ Err faults.NoMemory → Starts root user doc line line result
-not_started root user doc line result is = record { fetched = Err faults.NoMemory; fetches = not_fetched root user doc line; told = is }
+pub not_started : (document : FollowedDocument) (line : StreamState) (result : Result Following FollowerFault) → result ≡ Err faults.NoMemory → Starts document line line result
+not_started document line result is = record { fetched = Err faults.NoMemory; fetches = not_fetched document line; told = is }
 
 -- the feed was requested, with this replica afterwards
 pub feed_asked : (f : Following) (tag : List ℕ) (tree : Tree) (given : Result Response ClientFault) (held : ReplicaContents) (old new : StreamState) (result : Result (Option Round) FollowerFault)

@@ -13,7 +13,7 @@ use Rattle.doc_names.specs.declared.doc_id.DocId.{DocId}
 use Rattle.xcap_client.specs.declared.response.Response.{Response}
 use Rattle.xcap_uri.specs.PrintedNames.{is_name_of}
 use Rattle.patch_rules.specs.Replay.{CopyAnswer, ReplicaContents, CopyFault, Replays, Same, Patched, Removed, Fetch, WrongDocument, all_taken, copy_answer, documents, is_all_mine, then_next}
-use Rattle.patch_rules.specs.ReplayLaws.{HoldsSound}
+use Rattle.patch_laws.specs.ReplayLaws.{HoldsSound}
 use Rattle.patch_apply.specs.ApplyAnswers.{Applies}
 use Rattle.patch_apply.specs.DiffTexts.{NoticeAnswer}
 use Rattle.patch_apply.specs.Views.{IsWithinLevels}

@@ -8,7 +8,6 @@ use Rattle.xml_names.specs.Limits.{max_levels}
 use Rattle.xml_tree.specs.Tree.{Tree}
 use Rattle.tree_text.specs.Faults.{TextAnswer}
 use Rattle.tree_text.specs.declared.fault.TextFault.{TextFault}
-use Rattle.doc_names.specs.declared.doc_id.DocId.{DocId}
 use Rattle.doc_names.specs.Ids.{id_text}
 use Rattle.xcap_client.specs.declared.response.Response.{Response}
 use Rattle.patch_apply.specs.declared.replica.ReplicaVersion.{ReplicaVersion}
@@ -17,6 +16,7 @@ use Rattle.xcap_client.specs.Calls.{Calls}
 use Rattle.xcap_client.specs.declared.fault.ClientFault.{ClientFault}
 use Rattle.xcap_client.specs.declared.fault.ClientFault.TheVariants as clients
 use Rattle.client_follower.specs.Faults.{of_client}
+use Rattle.client_follower.specs.States.{FollowedDocument}
 use Rattle.client_follower.specs.declared.fault.FollowerFault.{FollowerFault}
 use Rattle.client_follower.specs.declared.fault.FollowerFault.TheVariants.{BadTag, BadText}
 use Rattle.client_follower.specs.declared.fault.FollowerFault.TheVariants.{NoMemory}
@@ -51,8 +51,8 @@ TakesDocument (Err fault) result =
     result ≡ (if is_refused_with 404 fault then Ok None else Err (of_client fault))
 
 -- One call fetched the document, on a connection of its own.
-pub record Fetches (root : List ℕ) (user : Option (List ℕ)) (doc : DocId) (old new : StreamState)
+pub record Fetches (document : FollowedDocument) (old new : StreamState)
     (result : Result (Option ReplicaVersion) FollowerFault) : Type 0 where
   pub given : Result Response ClientFault
-  pub calls : Calls root (getting user (id_text doc)) old new given
+  pub calls : Calls document.root (getting document.user (id_text document.doc)) old new given
   pub takes : TakesDocument given result

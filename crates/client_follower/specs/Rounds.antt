@@ -40,7 +40,7 @@ HoldsFetched f f' (Err fault) result = (f' ≡ f) × (result ≡ Err fault)
 pub record Refetches (f f' : Following) (old new : StreamState)
     (result : Result Round FollowerFault) : Type 0 where
   pub fetched : Result (Option ReplicaVersion) FollowerFault
-  pub fetches : Fetches f.root f.user f.doc old new fetched
+  pub fetches : Fetches (record { root = f.root; user = f.user; doc = f.doc }) old new fetched
   pub holds : HoldsFetched f f' fetched result
 
 -- The feed's diff document decided what became of the document; or it didn't, and then the

@@ -1,8 +1,8 @@
 // The document that a follower copies, as its server has it.
 ghost use Rattle.std.specs.Prelude.{IfOk, chars, option_map};
 ghost use Rattle.patch_apply.specs.Views.{stored_in};
-ghost use Rattle.patch_rules.specs.Premises.{IsSound};
-ghost use Rattle.patch_rules.specs.ReplayLaws.{HoldsSound};
+ghost use Rattle.patch_laws.specs.Premises.{IsSound};
+ghost use Rattle.patch_laws.specs.ReplayLaws.{HoldsSound};
 ghost use Rattle.client_follower.specs.Documents.{BringsVersion, Fetches, TakesDocument};
 
 use crate::fault::FollowerFault;
@@ -51,9 +51,11 @@ pub(crate) fn document<C: Peer>(
     user: Option<&str>,
     doc: &DocId,
 ) -> Result<Option<ReplicaVersion>, FollowerFault>
-    ensures fetches_document { Fetches root.now
-        (option_map (λ name. chars name.now) user.entry) doc.now (C.state peer.old)
-        (C.state peer.new) result }
+    ensures fetches_document { Fetches (record {
+      root = root.now;
+      user = option_map (λ name. chars name.now) user.entry;
+      doc = doc.now;
+    }) (C.state peer.old) (C.state peer.new) result }
     ensures stays_sound { IfOk result (λ held. HoldsSound (stored_in held)) }
 {
     let path = print_doc_id(alloc, doc)?;

@@ -1,7 +1,7 @@
 // The feed of a document's changes, and what a follower does with it.
 ghost use Rattle.std.specs.Prelude.{◌≡◌};
 ghost use Rattle.patch_apply.specs.Views.{stored_in};
-ghost use Rattle.patch_rules.specs.ReplayLaws.{HoldsSound};
+ghost use Rattle.patch_laws.specs.ReplayLaws.{HoldsSound};
 ghost use Rattle.client_follower.specs.Feeds.{TakesFeed, TakesNotice, outcome_of};
 ghost use Rattle.client_follower.specs.inner.Feeds.{KeepsUnlessTold};
 

@@ -30,7 +30,7 @@ pub struct Follower {
 
 impl Model for Follower {
     ghost use Rattle.patch_apply.specs.Views.{stored_in};
-    ghost use Rattle.patch_rules.specs.ReplayLaws.{HoldsSound};
+    ghost use Rattle.patch_laws.specs.ReplayLaws.{HoldsSound};
     ghost use Rattle.client_follower.specs.States.{Following};
     ghost use Rattle.std.specs.Coded.{codes};
     ghost use Rattle.xml_tree.specs.inner.Codes.{tree_code};
@@ -65,9 +65,11 @@ impl Follower {
         user: Option<&str>,
         doc: &DocId,
     ) -> Result<Follower, FollowerFault>
-        ensures starts_follower { Starts root.now
-            (option_map (λ name. chars name.now) user.entry) doc.now
-            (C.state peer.old) (C.state peer.new) result }
+        ensures starts_follower { Starts (record {
+          root = root.now;
+          user = option_map (λ name. chars name.now) user.entry;
+          doc = doc.now;
+        }) (C.state peer.old) (C.state peer.new) result }
     {
         let kept_root = root.copy(alloc)?;
         let kept_user = copy_user(alloc, user)?;

@@ -1,5 +1,5 @@
-//! A follower: it fetches a document, keeps a replica of it, and updates the replica by the feed
-//! of the document's changes; and laws on the connections that the client's calls begin.
+//! A follower: it fetches a document, and keeps a replica up to date by the document's feed. Also
+//! laws on the connections that the client's calls begin.
 //! Promises upward that each round asks for the changes since the replica's etag, and for the
 //! document where these don't lead on (`Rounds`, `Starts`); that after a fault the follower is as
 //! it was; and that a call and a start begin at most one connection, a round at most two

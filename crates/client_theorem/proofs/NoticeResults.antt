@@ -9,7 +9,7 @@ use Rattle.tree_text.proofs.OneAnswer.{one_text}
 use Rattle.doc_names.specs.declared.doc_id.DocId.{DocId}
 use Rattle.xcap_uri.specs.PrintedNames.{is_name_of}
 use Rattle.patch_rules.specs.Replay.{CopyAnswer, CopyFault, ReplicaContents, Replays, is_notice}
-use Rattle.patch_rules.proofs.Outcomes.{one_outcome}
+use Rattle.patch_laws.proofs.Outcomes.{one_outcome}
 use Rattle.patch_apply.specs.ApplyAnswers as words
 use Rattle.patch_apply.specs.DiffTexts.{NoticeAnswer, taken_as}
 use Rattle.patch_apply.specs.Views.{answer_in, apply_fault_of}

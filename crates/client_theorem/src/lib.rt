@@ -1,5 +1,6 @@
-//! Following a document of this server, end to end: a subscriber with a version of a document
-//! requests the feed of the changes since, and applies the diff document of the reply.
+//! Following a document of this server, end to end: from a version held to the present one. A
+//! subscriber requests the feed of the changes since its version, and applies the diff document of
+//! the reply.
 //! Promises upward that the request asks for exactly that feed, and that the server lets its
 //! sender read it (`requests_ask_for_feeds`); what comes of the reply, with each fault and its
 //! cause (`update_replica`, by `Follows`); and that a subscriber with a version since which the

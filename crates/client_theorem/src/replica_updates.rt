@@ -8,7 +8,7 @@ ghost use Rattle.store_core.specs.Contents.{Represents};
 ghost use Rattle.store_core.specs.ValidStates.{IsValidState};
 ghost use Rattle.store_core.specs.State.{State};
 ghost use Rattle.patch_apply.specs.Views.{IsWithinLevels, stored_in};
-ghost use Rattle.patch_rules.specs.ReplayLaws.{HoldsSound};
+ghost use Rattle.patch_laws.specs.ReplayLaws.{HoldsSound};
 ghost use Rattle.client_theorem.specs.FeedRequests.{AsksForFeed, HasFeed};
 ghost use Rattle.client_theorem.specs.FollowResults.{Follows, OrNoMemory, Takes};
 ghost use Rattle.client_theorem.specs.SubscriberVersions.{DropsWhatIsGone, HoldsThePresent};

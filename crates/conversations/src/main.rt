@@ -1,5 +1,5 @@
-//! Whole conversations with the program in memory, as files: what is run, the bytes that come, and
-//! the bytes that have to be written. README.md says which files a case has.
+//! Whole conversations with the program in memory, as files. They say what is run, the bytes that
+//! come, and the bytes that have to be written. README.md says which files a case has.
 //! Promises nothing upward: it prints a line for each case that goes as written, says what differs
 //! in any other, and then exits with the status 1. It runs the cases that need no more than
 //! streams and connections, each with whole bytes and byte by byte; `tools/cases` runs all.

@@ -79,7 +79,7 @@ module _ (Accepted : Request → Type 0) (log : LogState) (requests : List Reque
 
 -- what the journal has after a request was answered
 pub holds_after : {M E : Type 0} (Step : M → Request → SentReply → M → Option E → Type 0) (old next : M) (log log' : LogState) (journal journal' : JournalState) (request : Request) (reply : SentReply) (edit : Option E) (requests : List Request)
-    → Answers Step old log journal request reply edit next log' journal' → HoldsLog (Accepts Step old) log requests journal.held → HoldsLog (Accepts Step next) log' (requests ++ accepted request edit) journal'.held
+    → Answers Step (record { machine = old; log = log; journal = journal }) request reply (record { machine = next; log = log'; journal = journal' }) edit → HoldsLog (Accepts Step old) log requests journal.held → HoldsLog (Accepts Step next) log' (requests ++ accepted request edit) journal'.held
 holds_after {M} Step old next log log' journal journal' request reply edit requests (stays none step same log_same journal_same) holds =
     subst (λ (rs : List Request). HoldsLog (Accepts Step next) log' rs journal'.held) (sym (append-nil requests) ∙ ap (λ e. requests ++ accepted request e) (sym none))
     (subst (λ (m : M). HoldsLog (Accepts Step m) log' requests journal'.held) (sym same)
@@ -139,15 +139,15 @@ module _ {S M E : Type 0} (old new : S) (Step : M → Request → SentReply → 
     bound : RoseBy books.failures faults now.journal.faults
 
   balances_on : (faults : ℕ) (now next : Wrapped M) (books : Booked M) (request : Request) (reply : SentReply) (edit : Option E) → Balances faults now books
-      → Answers Step now.machine now.log now.journal request reply edit next.machine next.log next.journal
+      → Answers Step (record { machine = now.machine; log = now.log; journal = now.journal }) request reply (record { machine = next.machine; log = next.log; journal = next.journal }) edit
       → (books' : Booked M) × Balances faults next books' × LoggedStep Step books request reply books' edit
   balances_on faults now next books request reply edit b answers =
-      let here : Answers Step books.machine now.log now.journal request reply edit next.machine next.log next.journal =
-      subst (λ (m : M). Answers Step m now.log now.journal request reply edit next.machine next.log next.journal) b.same answers in
+      let here : Answers Step (record { machine = books.machine; log = now.log; journal = now.journal }) request reply (record { machine = next.machine; log = next.log; journal = next.journal }) edit =
+      subst (λ (m : M). Answers Step (record { machine = m; log = now.log; journal = now.journal }) request reply (record { machine = next.machine; log = next.log; journal = next.journal }) edit) b.same answers in
       let holds = holds_after Step books.machine next.machine now.log next.log now.journal next.journal request reply edit books.requests here b.holds in
       by_answer here holds
     where
-      by_answer : Answers Step books.machine now.log now.journal request reply edit next.machine next.log next.journal → HoldsLog (Accepts Step next.machine) next.log (books.requests ++ accepted request edit) next.journal.held
+      by_answer : Answers Step (record { machine = books.machine; log = now.log; journal = now.journal }) request reply (record { machine = next.machine; log = next.log; journal = next.journal }) edit → HoldsLog (Accepts Step next.machine) next.log (books.requests ++ accepted request edit) next.journal.held
           → (books' : Booked M) × Balances faults next books' × LoggedStep Step books request reply books' edit
       by_answer (stays none step same log journal) holds = (
         record { machine = next.machine; requests = books.requests ++ accepted request edit; failures = books.failures },
@@ -174,7 +174,7 @@ module _ {S M E : Type 0} (old new : S) (Step : M → Request → SentReply → 
   -- ---- the connections of a port
 
   module _ {W : Type 0} (Keeps : List E → W → W → Type 0) (most : ℕ) (served : ServeSummary) (port port' : StreamState) (watchers watchers' : W)
-      (all : ServesPort (InBytes Steps) Keeps most served old new port port' watchers watchers') where
+      (all : ServesPort (InBytes Steps) Keeps (record { most = most; served = served }) (record { machine = old; stream = port; watchers = watchers }) (record { machine = new; stream = port'; watchers = watchers' })) where
     -- any step of a machine with one state
     abbrev any_step : Unit {0} → Request → List ℕ → Unit {0} → Option E → Type 0
     any_step m request bytes next edit = Unit {0}
@@ -197,12 +197,12 @@ module _ {S M E : Type 0} (old new : S) (Step : M → Request → SentReply → 
 
     -- what was served
     pub port_logged : (requests : List Request) → HoldsLog (Accepts Step (view old).machine) (view old).log requests (view old).journal.held
-        → ServesLogged Step Keeps most served requests (view old).machine (view new).machine (view new).log (view old).journal (view new).journal port port' watchers watchers'
+        → ServesLogged Step Keeps (record { most = most; served = served }) requests (record { machine = record { machine = (view old).machine; log = (view old).log; journal = (view old).journal }; stream = port; watchers = watchers }) (record { machine = record { machine = (view new).machine; log = (view new).log; journal = (view new).journal }; stream = port'; watchers = watchers' })
     port_logged requests holds =
         let books : Booked M = record { machine = (view old).machine; requests = requests; failures = 0 } in
         let first : Balances (view old).journal.faults (view old) books = record { same = refl; holds = holds; bound = omega arith } in
         let o = port_by (InBytes Steps) (InBytes (LoggedStep Step)) (λ (s : S) (b : Booked M). Balances (view old).journal.faults (view s) b) balanced Keeps most served old new books port port' watchers watchers' first all in
-        subst (λ (m : M). ServesLogged Step Keeps most served requests (view old).machine m (view new).log (view old).journal (view new).journal port port' watchers watchers') (sym o.1.same)
+        subst (λ (m : M). ServesLogged Step Keeps (record { most = most; served = served }) requests (record { machine = record { machine = (view old).machine; log = (view old).log; journal = (view old).journal }; stream = port; watchers = watchers }) (record { machine = record { machine = m; log = (view new).log; journal = (view new).journal }; stream = port'; watchers = watchers' })) (sym o.1.same)
         (record {
           accepted = o.0.requests;
           failures = o.0.failures;

@@ -52,7 +52,7 @@ not_added_for log journal log' journal' bytes p = (p.0, kept_for journal.held jo
 
 -- after what came last was cut off, the record was added
 pub added_on : (log : LogState) (journal : JournalState) (log' : LogState) (journal' : JournalState) (log'' : LogState) (journal'' : JournalState) (bytes : List ℕ)
-    → Repaired log journal log' journal' → Added log' journal' bytes log'' journal'' → AddsRecord log journal bytes (Ok tt) log'' journal''
+    → Repaired log journal log' journal' → Added log' journal' bytes log'' journal'' → AddsRecord (record { log = log; journal = journal }) bytes (Ok tt) (record { log = log''; journal = journal'' })
 added_on log journal log' journal' log'' journal'' bytes p q = (
   q.0 ∙ ap (λ (m : LogState). log_with m bytes) p.0,
   q.1 ∙ ap (λ l. l ++ bytes) p.1,

@@ -161,7 +161,7 @@ module _ {S : Type 0} (stands : S → List Request → Type 0) (refuses : S → 
   -- a request was replayed, and then its record was to be added
   pub one_redone : (journal journal' : JournalState) (replayer replayer' : S) (log log' : LogState) (count count' : ℕ) (request : Request) (more : List ℕ)
       → IsRecordedRequest request → log.is_torn ≡ false → Fits log journal → Redoes stands refuses replayer request Done replayer' → count' ≡ count + 1
-      → AddsRecord log journal (record_of request) (Ok tt) log' journal' → IsJournalProgress journal journal'
+      → AddsRecord (record { log = log; journal = journal }) (record_of request) (Ok tt) (record { log = log'; journal = journal' }) → IsJournalProgress journal journal'
       → RedoesHeld stands refuses journal journal' replayer replayer' log log' count count' (record_of request ++ more) more (Ok tt)
   one_redone journal journal' replayer replayer' log log' count count' request more told whole fits redo counts (added, held, none) goes =
       let all : take log.len journal.held ≡ journal.held = take_all log.len journal.held (omega (arith, whole_len log journal whole fits)) in (
@@ -180,7 +180,7 @@ module _ {S : Type 0} (stands : S → List Request → Type 0) (refuses : S → 
 
   pub one_stopped : (journal journal' : JournalState) (replayer replayer' : S) (log log' : LogState) (count : ℕ) (request : Request) (fault : AppendFault) (more : List ℕ)
       → IsRecordedRequest request → log.is_torn ≡ false → Fits log journal → Redoes stands refuses replayer request Done replayer'
-      → AddsRecord log journal (record_of request) (Err fault) log' journal' → IsJournalProgress journal journal'
+      → AddsRecord (record { log = log; journal = journal }) (record_of request) (Err fault) (record { log = log'; journal = journal' }) → IsJournalProgress journal journal'
       → Stops stands refuses journal journal' replayer replayer' log count (record_of request ++ more) (fault_of fault)
   one_stopped journal journal' replayer replayer' log log' count request Failed more told whole fits redo (torn, kept, rose) goes = record {
     requests = request ∷ [];

@@ -2,12 +2,11 @@
 use Rattle.std.proofs.Common.{◌≡◌, ℕ, List, [], ◌∷◌, ◌++◌, take, drop, All, Result, Ok, Err, refl, sym, ap, ◌∙◌, append-nil, append_assoc, take-append-drop}
 use Rattle.std.proofs.lemmas.List.Elements.{All-head}
 use Rattle.http_wire.specs.declared.request.Request.{Request}
-use Rattle.xcap_io.specs.Causes.{StreamState}
-use Rattle.edit_journal.specs.Journals.{AddsSome, IsFirstOf, JournalState}
+use Rattle.edit_journal.specs.Journals.{AddsSome, IsFirstOf}
 use Rattle.edit_journal.specs.Logs.{LogState}
 use Rattle.edit_journal.specs.Records.{record_of}
 use Rattle.edit_journal.specs.Limits.{max_journal_bytes}
-use Rattle.edit_journal.specs.Restarts.{Restarts}
+use Rattle.edit_journal.specs.Restarts.{RestartState, Restarts}
 use Rattle.edit_journal.specs.Texts.{text, IsRecordedRequest, Whole}
 use Rattle.edit_journal.specs.declared.journal_restart.RestartFault.{RestartFault}
 use Rattle.edit_journal.specs.declared.journal_restart.RestartFault.TheVariants.{ReadFailed, AppendFailed, Damaged, Refused, TooLong, NoMemory}
@@ -35,18 +34,18 @@ module _ (bytes rest : List ℕ) (requests : List Request) (split : take max_jou
   all_of_it held is = of_bytes held ([], sym is ∙ sym (append-nil held))
 
 module _ {S : Type 0} (stands : S → List Request → Type 0) (refuses : S → Request → Type 0) where
-  pub copies : (source source' : StreamState) (journal journal' : JournalState) (old new : S) (result : Result LogState RestartFault)
-      → (restarts : Restarts stands refuses source source' journal journal' old new result) → IsFirstOf journal'.held restarts.bytes
-  copies source source' journal journal' old new (Ok log) r = all_of_it r.bytes r.rest r.requests r.split journal'.held r.ending.4
-  copies source source' journal journal' old new (Err ReadFailed) r = all_of_it r.bytes r.rest r.requests r.split journal'.held r.ending.0
-  copies source source' journal journal' old new (Err AppendFailed) r =
-      of_bytes r.bytes r.rest r.requests r.split journal'.held (first_some r.requests r.ending.0 r.ending.1 journal'.held r.ending.2 r.ending.3)
-  copies source source' journal journal' old new (Err (Damaged place)) r = all_of_it r.bytes r.rest r.requests r.split journal'.held r.ending.0
-  copies source source' journal journal' old new (Err (Refused number)) r = all_of_it r.bytes r.rest r.requests r.split journal'.held r.ending.0
-  copies source source' journal journal' old new (Err TooLong) r = all_of_it r.bytes r.rest r.requests r.split journal'.held r.ending.0
-  copies source source' journal journal' old new (Err NoMemory) r =
+  pub copies : (old new : RestartState S) (result : Result LogState RestartFault)
+      → (restarts : Restarts stands refuses old new result) → IsFirstOf new.journal.held restarts.bytes
+  copies old new (Ok log) r = all_of_it r.bytes r.rest r.requests r.split new.journal.held r.ending.4
+  copies old new (Err ReadFailed) r = all_of_it r.bytes r.rest r.requests r.split new.journal.held r.ending.0
+  copies old new (Err AppendFailed) r =
+      of_bytes r.bytes r.rest r.requests r.split new.journal.held (first_some r.requests r.ending.0 r.ending.1 new.journal.held r.ending.2 r.ending.3)
+  copies old new (Err (Damaged place)) r = all_of_it r.bytes r.rest r.requests r.split new.journal.held r.ending.0
+  copies old new (Err (Refused number)) r = all_of_it r.bytes r.rest r.requests r.split new.journal.held r.ending.0
+  copies old new (Err TooLong) r = all_of_it r.bytes r.rest r.requests r.split new.journal.held r.ending.0
+  copies old new (Err NoMemory) r =
       let first = first_text r.requests r.ending.0 r.ending.1 r.ending.2 in
-      of_bytes r.bytes r.rest r.requests r.split journal'.held (first.0, first.1 ∙ ap (λ l. l ++ first.0) (sym r.ending.3))
+      of_bytes r.bytes r.rest r.requests r.split new.journal.held (first.0, first.1 ∙ ap (λ l. l ++ first.0) (sym r.ending.3))
 
 pub more_shows : (bytes rest torn : List ℕ) (requests more : List Request) → Whole bytes requests rest → All IsRecordedRequest more → IsFirstOf (text (requests ++ more) ++ torn) bytes → more ≡ []
 more_shows bytes rest torn requests [] whole told begins = refl

@@ -2,12 +2,11 @@
 use Rattle.std.proofs.Common.{◌≡◌, ℕ, List, [], ◌∷◌, ◌++◌, take, All, Result, Ok, Err, sym, ap, ◌∙◌, append-nil, append_assoc}
 use Rattle.std.proofs.lemmas.List.Elements.{All-nil, All-cons}
 use Rattle.http_wire.specs.declared.request.Request.{Request}
-use Rattle.xcap_io.specs.Causes.{StreamState}
-use Rattle.edit_journal.specs.Journals.{IsFirstOf, JournalState}
+use Rattle.edit_journal.specs.Journals.{IsFirstOf}
 use Rattle.edit_journal.specs.Logs.{LogState}
 use Rattle.edit_journal.specs.Records.{record_of}
 use Rattle.edit_journal.specs.Limits.{max_journal_bytes}
-use Rattle.edit_journal.specs.Restarts.{Restarts}
+use Rattle.edit_journal.specs.Restarts.{RestartState, Restarts}
 use Rattle.edit_journal.specs.Texts.{text, BeginsWith, HasNoRecord, IsDamaged, IsRecordedRequest}
 use Rattle.edit_journal.specs.declared.journal_restart.RestartFault.{RestartFault}
 use Rattle.edit_journal.specs.declared.journal_restart.RestartFault.TheVariants.{ReadFailed, AppendFailed, Damaged, Refused, TooLong, NoMemory}
@@ -40,18 +39,18 @@ module _ (all requests : List Request) (bytes rest : List ℕ) (told : All IsRec
       (others.0, others.1)
 
 module _ {S : Type 0} (stands : S → List Request → Type 0) (refuses : S → Request → Type 0) where
-  pub ends_behind : (all : List Request) (source source' : StreamState) (journal journal' : JournalState) (old new : S) (result : Result LogState RestartFault) → All IsRecordedRequest all
-      → (restarts : Restarts stands refuses source source' journal journal' old new result) → IsFirstOf (take max_journal_bytes restarts.bytes) (text all)
-      → (left : List Request) × EndsBehind refuses all (take max_journal_bytes restarts.bytes) restarts.requests left restarts.rest new result
-  ends_behind all source source' journal journal' old new (Ok log) told r begins = whole all r.requests (take max_journal_bytes r.bytes) r.rest told begins r.told r.split r.ending.2
-  ends_behind all source source' journal journal' old new (Err ReadFailed) told r begins = whole all r.requests (take max_journal_bytes r.bytes) r.rest told begins r.told r.split r.ending.1
-  ends_behind all source source' journal journal' old new (Err AppendFailed) told r begins = first all r.requests (take max_journal_bytes r.bytes) r.rest told begins r.told r.split
-  ends_behind all source source' journal journal' old new (Err (Damaged place)) told r begins =
+  pub ends_behind : (all : List Request) (old new : RestartState S) (result : Result LogState RestartFault) → All IsRecordedRequest all
+      → (restarts : Restarts stands refuses old new result) → IsFirstOf (take max_journal_bytes restarts.bytes) (text all)
+      → (left : List Request) × EndsBehind refuses (record { all = all; bytes = take max_journal_bytes restarts.bytes; done = restarts.requests; left = left; rest = restarts.rest }) new.replayer result
+  ends_behind all old new (Ok log) told r begins = whole all r.requests (take max_journal_bytes r.bytes) r.rest told begins r.told r.split r.ending.2
+  ends_behind all old new (Err ReadFailed) told r begins = whole all r.requests (take max_journal_bytes r.bytes) r.rest told begins r.told r.split r.ending.1
+  ends_behind all old new (Err AppendFailed) told r begins = first all r.requests (take max_journal_bytes r.bytes) r.rest told begins r.told r.split
+  ends_behind all old new (Err (Damaged place)) told r begins =
       absurd (undamaged all r.requests (take max_journal_bytes r.bytes) r.rest told begins r.told r.split r.ending.1)
-  ends_behind all source source' journal journal' old new (Err (Refused number)) told r begins =
+  ends_behind all old new (Err (Refused number)) told r begins =
       let here = alike all r.requests (take max_journal_bytes r.bytes) r.rest told begins r.told r.split in
       let refused = r.ending.1 in
       let more = next all r.requests (take max_journal_bytes r.bytes) r.rest told begins r.told r.split refused.0 refused.1 refused.2 in
       (here.0, (here.1, (refused.0, more.0, more.1, refused.3)))
-  ends_behind all source source' journal journal' old new (Err TooLong) told r begins = whole all r.requests (take max_journal_bytes r.bytes) r.rest told begins r.told r.split r.ending.2
-  ends_behind all source source' journal journal' old new (Err NoMemory) told r begins = first all r.requests (take max_journal_bytes r.bytes) r.rest told begins r.told r.split
+  ends_behind all old new (Err TooLong) told r begins = whole all r.requests (take max_journal_bytes r.bytes) r.rest told begins r.told r.split r.ending.2
+  ends_behind all old new (Err NoMemory) told r begins = first all r.requests (take max_journal_bytes r.bytes) r.rest told begins r.told r.split

@@ -107,7 +107,7 @@ module _ {S : Type 0} (stands : S → List Request → Type 0) (refuses : S → 
 
   pub restarts_whole : (s0 s1 s2 : StreamState) (j0 j1 : JournalState) (r0 r1 : S) (i1 : InflowState) (l1 : LogState) (c1 : ℕ)
       → j0.held ≡ [] → IsRestarting s0 s1 j0 j1 r0 r1 i1 l1 c1 → Gave s1.inward s2.inward [] → IsEnded s2.inward → Reads s1 s2 → s2.read_faults ≡ s1.read_faults
-      → Restarts stands refuses s0 s2 j0 j1 r0 r1 (Ok l1)
+      → Restarts stands refuses (record { source = s0; journal = j0; replayer = r0 }) (record { source = s2; journal = j1; replayer = r1 }) (Ok l1)
   restarts_whole s0 s1 s2 j0 j1 r0 r1 i1 l1 c1 empty p gave ended reads stayed = record {
     bytes = p.bytes;
     requests = p.requests;
@@ -125,7 +125,7 @@ module _ {S : Type 0} (stands : S → List Request → Type 0) (refuses : S → 
 
   pub restarts_beyond : (s0 s1 s2 : StreamState) (j0 j1 : JournalState) (r0 r1 : S) (i1 : InflowState) (l1 : LogState) (c1 byte : ℕ)
       → j0.held ≡ [] → IsRestarting s0 s1 j0 j1 r0 r1 i1 l1 c1 → i1.taken ≡ max_journal_bytes → Gave s1.inward s2.inward (byte ∷ []) → Reads s1 s2 → s2.read_faults ≡ s1.read_faults
-      → Restarts stands refuses s0 s2 j0 j1 r0 r1 (Err TooLong)
+      → Restarts stands refuses (record { source = s0; journal = j0; replayer = r0 }) (record { source = s2; journal = j1; replayer = r1 }) (Err TooLong)
   restarts_beyond s0 s1 s2 j0 j1 r0 r1 i1 l1 c1 byte empty p full gave reads stayed =
       let size : length p.bytes ≡ max_journal_bytes = sym p.taken ∙ full in
       record {
@@ -145,7 +145,7 @@ module _ {S : Type 0} (stands : S → List Request → Type 0) (refuses : S → 
 
   pub restarts_unread : (s0 s1 s2 : StreamState) (j0 j1 : JournalState) (r0 r1 : S) (i1 : InflowState) (l1 : LogState) (c1 : ℕ)
       → j0.held ≡ [] → IsRestarting s0 s1 j0 j1 r0 r1 i1 l1 c1 → s2.inward ≡ s1.inward → Reads s1 s2 → CountRises s1.read_faults s2.read_faults
-      → Restarts stands refuses s0 s2 j0 j1 r0 r1 (Err ReadFailed)
+      → Restarts stands refuses (record { source = s0; journal = j0; replayer = r0 }) (record { source = s2; journal = j1; replayer = r1 }) (Err ReadFailed)
   restarts_unread s0 s1 s2 j0 j1 r0 r1 i1 l1 c1 empty p same reads rose = record {
     bytes = p.bytes;
     requests = p.requests;
@@ -162,7 +162,7 @@ module _ {S : Type 0} (stands : S → List Request → Type 0) (refuses : S → 
   }
 
   ends_of : (source : StreamState) (journal journal' : JournalState) (replayer' : S) (bytes : List ℕ) (requests : List Request) (rest : List ℕ) (fault : RestartFault)
-      → journal.held ≡ [] → StopsAs stands refuses journal journal' replayer' no_log 0 requests rest fault → EndsAs stands refuses source journal' replayer' bytes requests rest (Err fault)
+      → journal.held ≡ [] → StopsAs stands refuses journal journal' replayer' no_log 0 requests rest fault → EndsAs stands refuses (record { source = source; journal = journal'; replayer = replayer' }) (record { bytes = bytes; requests = requests; rest = rest }) (Err fault)
   ends_of source journal journal' replayer' bytes requests rest ReadFailed empty p = absurd p
   ends_of source journal journal' replayer' bytes requests rest AppendFailed empty ((before, last, is, (some, front, held)), rose) =
       (before, last, is, (some, front, held ∙ ap (λ l. (l ++ text before) ++ some) empty))
@@ -185,7 +185,7 @@ module _ {S : Type 0} (stands : S → List Request → Type 0) (refuses : S → 
 
   pub restarts_stopped : (s0 s1 s2 : StreamState) (j0 j1 j2 : JournalState) (r0 r1 r2 : S) (i1 i2 : InflowState) (l1 : LogState) (c1 : ℕ) (more : List ℕ) (fault : RestartFault)
       → j0.held ≡ [] → IsRestarting s0 s1 j0 j1 r0 r1 i1 l1 c1 → Gave s1.inward s2.inward more → Reads s1 s2 → s2.read_faults ≡ s1.read_faults → i2 ≡ with_bytes i1 more → i2.taken ≤ max_journal_bytes
-      → Stops stands refuses j1 j2 r1 r2 l1 c1 i2.held fault → Restarts stands refuses s0 s2 j0 j2 r0 r2 (Err fault)
+      → Stops stands refuses j1 j2 r1 r2 l1 c1 i2.held fault → Restarts stands refuses (record { source = s0; journal = j0; replayer = r0 }) (record { source = s2; journal = j2; replayer = r2 }) (Err fault)
   restarts_stopped s0 s1 s2 j0 j1 j2 r0 r1 r2 i1 i2 l1 c1 more fault empty p gave reads stayed filled few stops =
       let taken : i2.taken ≡ i1.taken + length more = ap (λ (i : InflowState). i.taken) filled in
       let held : i2.held ≡ i1.held ++ more = ap (λ (i : InflowState). i.held) filled in
@@ -207,7 +207,7 @@ module _ {S : Type 0} (stands : S → List Request → Type 0) (refuses : S → 
       }
 
   -- memory ran out before a byte was read
-  pub restarts_without_memory : (source : StreamState) (journal : JournalState) (replayer : S) → journal.held ≡ [] → Restarts stands refuses source source journal journal replayer replayer (Err NoMemory)
+  pub restarts_without_memory : (source : StreamState) (journal : JournalState) (replayer : S) → journal.held ≡ [] → Restarts stands refuses (record { source = source; journal = journal; replayer = replayer }) (record { source = source; journal = journal; replayer = replayer }) (Err NoMemory)
   restarts_without_memory source journal replayer empty = record {
     bytes = [];
     requests = [];

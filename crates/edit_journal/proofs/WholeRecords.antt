@@ -72,7 +72,7 @@ holds_kept log request requests old new can kept holds = record {
 -- A journal with the records of some requests has those and the new one after a record was added,
 -- or at a fault those, and after them at most a prefix of a record.
 pub adding_keeps_records : (log log' : LogState) (journal journal' : JournalState) (request : Request) (result : Result (Unit {0}) AppendFault)
-    → IsRecordable request → AddsRecord log journal (record_of request) result log' journal'
+    → IsRecordable request → AddsRecord (record { log = log; journal = journal }) (record_of request) result (record { log = log'; journal = journal' })
     → (requests : List Request) → HoldsRecords log requests journal.held → HoldsRecords log' (with_request result requests request) journal'.held
 adding_keeps_records log log' journal journal' request (Ok x) can adds requests holds =
     subst (λ (m : LogState). HoldsRecords m (requests ++ recorded request ∷ []) journal'.held) (sym adds.0) (holds_added log request requests journal.held journal'.held can adds.1 holds)

@@ -5,12 +5,22 @@ use Rattle.reply_text.specs.ReplyHeads.{SentReply, plain}
 use Rattle.http_wire.specs.declared.request.Request.{Request}
 use Rattle.edit_journal.specs.declared.journal_log.AppendFault.TheVariants.{Failed}
 use Rattle.edit_journal.specs.Journals.{JournalState}
-use Rattle.edit_journal.specs.Logs.{LogState, AddsRecord}
+use Rattle.edit_journal.specs.Logs.{LogState, LoggedJournal, AddsRecord}
 use Rattle.edit_journal.specs.Records.{IsRecordable, method_number, record_of}
 
 -- a PUT or DELETE is within the bounds of a record
 abbrev pub IsLoggable : Request → Type 0
 IsLoggable request = 0 < method_number request.method → IsRecordable request
+
+-- a machine, the log of the requests that it accepted, and the journal of that log
+pub record JournaledState (M : Type 0) : Type 0 where
+  pub machine : M
+  pub log : LogState
+  pub journal : JournalState
+
+-- its log and its journal
+abbrev pub logged_journal : {M : Type 0} → JournaledState M → LoggedJournal
+logged_journal state = record { log = state.log; journal = state.journal }
 
 -- M is the type of the machine's states, and E the type of its edits.
 module _ {M E : Type 0} (Step : M → Request → SentReply → M → Option E → Type 0) where
@@ -23,17 +33,16 @@ module _ {M E : Type 0} (Step : M → Request → SentReply → M → Option E �
   -- answered as the machine answers it. One that makes a change was recorded in the log, and is
   -- answered so, too; or it couldn't be recorded, is answered the 500, and nothing changed except
   -- the journal after the complete records.
-  pub data Answers (old : M) (log : LogState) (journal : JournalState) (request : Request)
-      (reply : SentReply) (edit : Option E) (new : M) (log' : LogState)
-      (journal' : JournalState) : Type 0 where
-    stays : edit ≡ None → Step old request reply new None → new ≡ old → log' ≡ log
-        → journal' ≡ journal
-        → Answers old log journal request reply edit new log' journal'
-    entered : (made : E) → edit ≡ Some made → Step old request reply new (Some made)
-        → IsRecordable request
-        → AddsRecord log journal (record_of request) (Ok tt) log' journal'
-        → Answers old log journal request reply edit new log' journal'
-    not_entered : edit ≡ None → Accepts old request → reply ≡ plain 500 request.closes → new ≡ old
-        → IsRecordable request
-        → AddsRecord log journal (record_of request) (Err Failed) log' journal'
-        → Answers old log journal request reply edit new log' journal'
+  pub data Answers (old : JournaledState M) (request : Request) (reply : SentReply)
+      (new : JournaledState M) (edit : Option E) : Type 0 where
+    stays : edit ≡ None → Step old.machine request reply new.machine None
+        → new.machine ≡ old.machine → new.log ≡ old.log → new.journal ≡ old.journal
+        → Answers old request reply new edit
+    entered : (made : E) → edit ≡ Some made
+        → Step old.machine request reply new.machine (Some made) → IsRecordable request
+        → AddsRecord (logged_journal old) (record_of request) (Ok tt) (logged_journal new)
+        → Answers old request reply new edit
+    not_entered : edit ≡ None → Accepts old.machine request
+        → reply ≡ plain 500 request.closes → new.machine ≡ old.machine → IsRecordable request
+        → AddsRecord (logged_journal old) (record_of request) (Err Failed) (logged_journal new)
+        → Answers old request reply new edit

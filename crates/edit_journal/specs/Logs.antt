@@ -16,6 +16,11 @@ pub record LogState : Type 0 where
   pub len : ℕ
   pub is_torn : Bool
 
+-- a journal, and the log of what it has
+pub record LoggedJournal : Type 0 where
+  pub log : LogState
+  pub journal : JournalState
+
 -- The journal has as many bytes as the complete records, or more where the log is torn, which it
 -- is only after a fault.
 abbrev pub Fits : LogState → JournalState → Type 0
@@ -47,15 +52,17 @@ KeepsWhole len bytes old new =
 -- What adding a record did. At `Ok` it follows the complete ones, and nothing follows it. At
 -- `Failed` the complete records are unchanged, the journal's fault counter rose, and the log is
 -- torn. At `NoMemory` nothing has changed.
-abbrev pub AddsRecord : LogState → JournalState → List ℕ → Result (Unit {0}) AppendFault → LogState
-    → JournalState → Type 0
-AddsRecord log journal bytes (Ok x) log' journal' =
-    (log' ≡ log_with log bytes) × (journal'.held ≡ take log.len journal.held ++ bytes)
-    × (journal'.faults ≡ journal.faults)
-AddsRecord log journal bytes (Err Failed) log' journal' =
-    (log' ≡ record log { is_torn = true }) × KeepsWhole log.len bytes journal.held journal'.held
-    × CountRises journal.faults journal'.faults
-AddsRecord log journal bytes (Err NoMemory) log' journal' = (log' ≡ log) × (journal' ≡ journal)
+abbrev pub AddsRecord : LoggedJournal → List ℕ → Result (Unit {0}) AppendFault → LoggedJournal
+    → Type 0
+AddsRecord old bytes (Ok x) new =
+    (new.log ≡ log_with old.log bytes)
+    × (new.journal.held ≡ take old.log.len old.journal.held ++ bytes)
+    × (new.journal.faults ≡ old.journal.faults)
+AddsRecord old bytes (Err Failed) new =
+    (new.log ≡ record old.log { is_torn = true })
+    × KeepsWhole old.log.len bytes old.journal.held new.journal.held
+    × CountRises old.journal.faults new.journal.faults
+AddsRecord old bytes (Err NoMemory) new = (new.log ≡ old.log) × (new.journal ≡ old.journal)
 
 -- the requests whose records are complete in a journal, after one more was to be added
 abbrev pub with_request : Result (Unit {0}) AppendFault → List Request → Request → List Request

@@ -9,21 +9,32 @@ use Rattle.edit_journal.specs.declared.journal_restart.RestartFault.TheVariants.
 use Rattle.edit_journal.specs.declared.journal_restart.RestartFault.TheVariants.{TooLong, NoMemory}
 use Rattle.edit_journal.specs.JournalPrefixes.{BreaksOff}
 
+-- All requests, of whose text these bytes are a prefix; those that a restart replayed, and those
+-- that it left; and the rest of the bytes.
+pub record ReplayedPrefix : Type 0 where
+  pub all : List Request
+  pub bytes : List ℕ
+  pub done : List Request
+  pub left : List Request
+  pub rest : List ℕ
+
 -- S is the type of the states that the requests are replayed on.
 module _ {S : Type 0} (refuses : S → Request → Type 0) where
-  -- How a restart ended from these bytes, a prefix of the text of all requests, of which it
-  -- replayed these and left the others. The replayed ones are exactly those complete in the bytes
-  -- where it read all that it reads, or all that was given. It never finds damage, and it stops at
-  -- a request only where that is refused after the ones before it.
-  abbrev pub EndsBehind : List Request → List ℕ → List Request → List Request → List ℕ → S
-      → Result LogState RestartFault → Type 0
-  EndsBehind all bytes done left rest replayer (Ok log) = BreaksOff all bytes done left rest
-  EndsBehind all bytes done left rest replayer (Err ReadFailed) = BreaksOff all bytes done left rest
-  EndsBehind all bytes done left rest replayer (Err TooLong) = BreaksOff all bytes done left rest
-  EndsBehind all bytes done left rest replayer (Err AppendFailed) = all ≡ done ++ left
-  EndsBehind all bytes done left rest replayer (Err (Damaged place)) = ⊥
-  EndsBehind all bytes done left rest replayer (Err (Refused number)) =
-      (all ≡ done ++ left)
+  -- the bytes break off after the requests that were replayed
+  abbrev IsCut : ReplayedPrefix → Type 0
+  IsCut prefix = BreaksOff prefix.all prefix.bytes prefix.done prefix.left prefix.rest
+
+  -- How a restart ended from these bytes. The replayed requests are exactly those complete in the
+  -- bytes where it read all that it reads, or all that was given. It never finds damage, and it
+  -- stops at a request only where that is refused after the ones before it.
+  abbrev pub EndsBehind : ReplayedPrefix → S → Result LogState RestartFault → Type 0
+  EndsBehind prefix replayer (Ok log) = IsCut prefix
+  EndsBehind prefix replayer (Err ReadFailed) = IsCut prefix
+  EndsBehind prefix replayer (Err TooLong) = IsCut prefix
+  EndsBehind prefix replayer (Err AppendFailed) = prefix.all ≡ prefix.done ++ prefix.left
+  EndsBehind prefix replayer (Err (Damaged place)) = ⊥
+  EndsBehind prefix replayer (Err (Refused number)) =
+      (prefix.all ≡ prefix.done ++ prefix.left)
       × ((next : Request) × (others : List Request)
-      × (left ≡ next ∷ others) × refuses replayer next)
-  EndsBehind all bytes done left rest replayer (Err NoMemory) = all ≡ done ++ left
+      × (prefix.left ≡ next ∷ others) × refuses replayer next)
+  EndsBehind prefix replayer (Err NoMemory) = prefix.all ≡ prefix.done ++ prefix.left

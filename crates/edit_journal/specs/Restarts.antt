@@ -26,56 +26,71 @@ CountsFaults reads reads' appends appends' (Err AppendFailed) =
     (reads' ≡ reads) × CountRises appends appends'
 CountsFaults reads reads' appends appends' result = (reads' ≡ reads) × (appends' ≡ appends)
 
+-- what a restart reads, what it writes, and the states that it replays the requests on
+pub record RestartState (S : Type 0) : Type 0 where
+  pub source : StreamState
+  pub journal : JournalState
+  pub replayer : S
+
+-- the bytes given; the requests whose records are at their front, up to the limit of an old
+-- journal; and what is left of them up to there
+pub record ReadRecords : Type 0 where
+  pub bytes : List ℕ
+  pub requests : List Request
+  pub rest : List ℕ
+
 -- S is the type of the states that the requests are replayed on.
 module _ {S : Type 0} (stands : S → List Request → Type 0) (refuses : S → Request → Type 0) where
-  -- How a restart ended, after these requests: `rest` is what is left of the bytes given, up to
-  -- the limit of an old journal.
-  abbrev pub EndsAs : StreamState → JournalState → S → List ℕ → List Request → List ℕ
-      → Result LogState RestartFault → Type 0
+  -- How a restart ended in this state, after these requests.
+  abbrev pub EndsAs : RestartState S → ReadRecords → Result LogState RestartFault → Type 0
   -- all bytes were given, the rest is torn, and the journal has the records
-  EndsAs source journal replayer bytes requests rest (Ok log) =
-      IsEnded source.inward × (length bytes ≤ max_journal_bytes) × HasNoRecord rest × IsTorn rest
-      × (journal.held ≡ text requests)
-      × (log ≡ record { len = length (text requests); is_torn = false })
+  EndsAs state read (Ok log) =
+      IsEnded state.source.inward × (length read.bytes ≤ max_journal_bytes)
+      × HasNoRecord read.rest × IsTorn read.rest × (state.journal.held ≡ text read.requests)
+      × (log ≡ record { len = length (text read.requests); is_torn = false })
   -- the rest of the bytes that were given is torn
-  EndsAs source journal replayer bytes requests rest (Err ReadFailed) =
-      (journal.held ≡ text requests) × HasNoRecord rest × IsTorn rest
+  EndsAs state read (Err ReadFailed) =
+      (state.journal.held ≡ text read.requests) × HasNoRecord read.rest × IsTorn read.rest
   -- after the other records comes a prefix of the last one
-  EndsAs source journal replayer bytes requests rest (Err AppendFailed) =
+  EndsAs state read (Err AppendFailed) =
       (before : List Request) × (last : Request)
-      × (requests ≡ before ++ last ∷ []) × AddsSome (text before) journal.held (record_of last)
+      × (read.requests ≡ before ++ last ∷ [])
+      × AddsSome (text before) state.journal.held (record_of last)
   -- from this offset on the bytes begin no record
-  EndsAs source journal replayer bytes requests rest (Err (Damaged place)) =
-      (journal.held ≡ text requests) × IsDamaged rest × (place ≡ length (text requests))
+  EndsAs state read (Err (Damaged place)) =
+      (state.journal.held ≡ text read.requests) × IsDamaged read.rest
+      × (place ≡ length (text read.requests))
   -- the request of this number, counted from 1, is refused now
-  EndsAs source journal replayer bytes requests rest (Err (Refused number)) =
-      (journal.held ≡ text requests)
+  EndsAs state read (Err (Refused number)) =
+      (state.journal.held ≡ text read.requests)
       × ((request : Request) × (more : List ℕ)
-      × BeginsWith rest request more × refuses replayer request)
-      × (number ≡ length requests + 1)
+      × BeginsWith read.rest request more × refuses state.replayer request)
+      × (number ≡ length read.requests + 1)
   -- more bytes were given than are read, and the rest of those read is torn
-  EndsAs source journal replayer bytes requests rest (Err TooLong) =
-      (journal.held ≡ text requests) × (max_journal_bytes < length bytes) × HasNoRecord rest
-      × IsTorn rest
-  EndsAs source journal replayer bytes requests rest (Err NoMemory) =
-      (before more : List Request) × (requests ≡ before ++ more) × (journal.held ≡ text before)
+  EndsAs state read (Err TooLong) =
+      (state.journal.held ≡ text read.requests) × (max_journal_bytes < length read.bytes)
+      × HasNoRecord read.rest × IsTorn read.rest
+  EndsAs state read (Err NoMemory) =
+      (before more : List Request) × (read.requests ≡ before ++ more)
+      × (state.journal.held ≡ text before)
 
   -- What a restart did. The source gave `bytes`, of which the first ones, up to the limit, count.
   -- The requests are those whose records are at the front of these, in order; each was replayed,
   -- and none was refused.
-  pub record Restarts (source source' : StreamState) (journal journal' : JournalState)
-      (replayer replayer' : S) (result : Result LogState RestartFault) : Type 0 where
+  pub record Restarts (old new : RestartState S) (result : Result LogState RestartFault)
+      : Type 0 where
     pub bytes : List ℕ
     pub requests : List Request
     pub rest : List ℕ
-    pub given : Gave source.inward source'.inward bytes
+    pub given : Gave old.source.inward new.source.inward bytes
     pub told : All IsRecordedRequest requests
     pub split : take max_journal_bytes bytes ≡ text requests ++ rest
-    pub redone : RedoesAll stands refuses replayer requests replayer'
+    pub redone : RedoesAll stands refuses old.replayer requests new.replayer
     -- so the state represents each list that it represented before, with these requests at the end
-    pub stood : (past : List Request) → stands replayer past → stands replayer' (past ++ requests)
-    pub ending : EndsAs source' journal' replayer' bytes requests rest result
-    pub reads : Reads source source'
-    pub goes : IsJournalProgress journal journal'
-    pub faults : CountsFaults source.read_faults source'.read_faults journal.faults journal'.faults
-        result
+    pub stood : (past : List Request) → stands old.replayer past
+        → stands new.replayer (past ++ requests)
+    pub ending : EndsAs new (record { bytes = bytes; requests = requests; rest = rest }) result
+    pub reads : Reads old.source new.source
+    pub goes : IsJournalProgress old.journal new.journal
+    pub faults : CountsFaults old.source.read_faults new.source.read_faults old.journal.faults
+        new.journal.faults result

@@ -28,9 +28,25 @@ pub fn serve_streams_logged<M: LoggedMachine, J: Journal, P: Port, W: Watchers<M
     requires room_left { HasRoom log.old (count * 1000) }
     ensures serves_port { (requests : List TheRequest)
         → HoldsLog (Accepts M.steps machine.old) log.old requests (J.state journal.old).held
-        → ServesLogged M.steps W.keeps count result requests machine.old machine.new log.new
-        (J.state journal.old) (J.state journal.new)
-        (P.state port.old) (P.state port.new) watchers.old watchers.new }
+        → ServesLogged M.steps W.keeps (record { most = count; served = result }) requests
+        (record {
+          machine = record {
+            machine = machine.old;
+            log = log.old;
+            journal = J.state journal.old;
+          };
+          stream = P.state port.old;
+          watchers = watchers.old;
+        })
+        (record {
+          machine = record {
+            machine = machine.new;
+            log = log.new;
+            journal = J.state journal.new;
+          };
+          stream = P.state port.new;
+          watchers = watchers.new;
+        }) }
     ensures still_fits { Fits log.new (J.state journal.new) }
     ensures goes_on { IsJournalProgress (J.state journal.old) (J.state journal.new) }
 {

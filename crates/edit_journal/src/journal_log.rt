@@ -142,9 +142,9 @@ impl JournalLog {
         requires recordable { IsRecordable request.now }
         requires fits { Fits self.old (J.state journal.old) }
         requires room_left { self.old.len ≤ u64_max - max_record_bytes }
-        ensures adds_record { AddsRecord self.old (J.state journal.old)
-            (record_of request.now) result
-            self.new (J.state journal.new) }
+        ensures adds_record { AddsRecord
+            (record { log = self.old; journal = J.state journal.old }) (record_of request.now)
+            result (record { log = self.new; journal = J.state journal.new }) }
         ensures keeps_records { (requests : List TheRequest)
             → HoldsRecords self.old requests (J.state journal.old).held
             → HoldsRecords self.new (with_request result requests request.now)

@@ -135,8 +135,18 @@ pub fn restart<S: Source, J: Journal, R: Replayer>(
     replayer: &mut R,
 ) -> Result<JournalLog, RestartFault>
     requires { (J.state journal.old).held ≡ [] }
-    ensures as_specified { Restarts R.stands R.refuses (S.state source.old) (S.state source.new)
-        (J.state journal.old) (J.state journal.new) replayer.old replayer.new result }
+    ensures as_specified { Restarts R.stands R.refuses
+        (record {
+          source = S.state source.old;
+          journal = J.state journal.old;
+          replayer = replayer.old;
+        })
+        (record {
+          source = S.state source.new;
+          journal = J.state journal.new;
+          replayer = replayer.new;
+        })
+        result }
     ensures same_subject { R.about replayer.new ≡ R.about replayer.old }
 {
     let mut read_buffer = ReadBuffer::new(alloc)?;

@@ -1,5 +1,6 @@
-//! The journal of accepted requests: the form of records, adding one (`JournalLog`, `Journal`),
-//! serving with a log (`LoggedMachine`), and replaying an old journal at a restart (`restart`).
+//! The journal of accepted requests: its records, serving with a log, and a restart from it.
+//! `JournalLog` and `Journal` add a record, `LoggedMachine` serves with a log, and `restart`
+//! replays.
 //! Upward: a request's record is complete in the journal before its change is made, or the reply
 //! is the 500 and nothing changes (`Answers`, `AddsRecord`); a restart replays exactly the
 //! requests whose records are complete in the bytes given, in order (`Restarts`); and the laws of

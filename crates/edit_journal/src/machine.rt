@@ -38,8 +38,11 @@ pub trait LoggedMachine {
         requires fits { Fits log.old (J.state journal.old) }
         requires room_left { log.old.len ≤ u64_max - max_record_bytes }
         ensures machine_reply { IfOk result
-            (λ answered. Answers steps self.old log.old (J.state journal.old)
-            request.now answered.reply answered.edit self.new log.new (J.state journal.new)) }
+            (λ answered. Answers steps
+            (record { machine = self.old; log = log.old; journal = J.state journal.old })
+            request.now answered.reply
+            (record { machine = self.new; log = log.new; journal = J.state journal.new })
+            answered.edit) }
         ensures closes_as_asked { IfOk result
             (λ answered. answered.reply.closes ≡ request.now.closes) }
         ensures err_unchanged { OnErr result

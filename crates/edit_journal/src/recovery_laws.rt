@@ -1,11 +1,10 @@
 //! Laws about journals that break off, each the contract of a function that does nothing.
 ghost use Rattle.std.specs.Prelude.{◌≡◌, ℕ, ◌≤◌, ◌++◌, List, [], Result, false, length, take, All};
 ghost use Rattle.http_wire.specs.declared.request.Request.{Request};
-ghost use Rattle.xcap_io.specs.Causes.{StreamState};
-ghost use Rattle.edit_journal.specs.Journals.{IsFirstOf, JournalState};
+ghost use Rattle.edit_journal.specs.Journals.{IsFirstOf};
 ghost use Rattle.edit_journal.specs.Logs.{HoldsRecords, LogState};
 ghost use Rattle.edit_journal.specs.Limits.{max_journal_bytes};
-ghost use Rattle.edit_journal.specs.Restarts.{Restarts};
+ghost use Rattle.edit_journal.specs.Restarts.{RestartState, Restarts};
 ghost use Rattle.edit_journal.specs.Texts.{IsRecordedRequest, Whole, text};
 ghost use Rattle.edit_journal.specs.declared.journal_restart.RestartFault.{RestartFault};
 ghost use Rattle.edit_journal.specs.JournalPrefixes.{BreaksOff};
@@ -38,13 +37,20 @@ pub fn journals_begin_a_text()
 /// bytes; it finds no damage; and it stops at a request only where that is refused after the ones
 /// before it.
 pub fn restarts_do_the_first_requests<R: Replayer>()
-    ensures does_first { (all : List Request) (source source' : StreamState)
-        (journal journal' : JournalState) (old new : R) (result : Result LogState RestartFault)
+    ensures does_first { (all : List Request) (old new : RestartState R)
+        (result : Result LogState RestartFault)
         → All IsRecordedRequest all
-        → (restarts : Restarts R.stands R.refuses source source' journal journal' old new result)
+        → (restarts : Restarts R.stands R.refuses old new result)
         → IsFirstOf (take max_journal_bytes restarts.bytes) (text all)
-        → (left : List Request) × EndsBehind R.refuses all (take max_journal_bytes restarts.bytes)
-        restarts.requests left restarts.rest new result }
+        → (left : List Request) × EndsBehind R.refuses
+        (record {
+          all = all;
+          bytes = take max_journal_bytes restarts.bytes;
+          done = restarts.requests;
+          left = left;
+          rest = restarts.rest;
+        })
+        new.replayer result }
 {}
 
 /// A law: a new journal can be told from the old one that it was written from. However a restart
@@ -52,10 +58,9 @@ pub fn restarts_do_the_first_requests<R: Replayer>()
 /// one more record, it is no such prefix. So a new journal that is no prefix of the old one has
 /// all of the old one's records and more, and one that is has no record that the old one lacks.
 pub fn new_journals_are_told_from_old_ones<R: Replayer>()
-    ensures copies_prefix { (source source' : StreamState)
-        (journal journal' : JournalState) (old new : R) (result : Result LogState RestartFault)
-        → (restarts : Restarts R.stands R.refuses source source' journal journal' old new result)
-        → IsFirstOf journal'.held restarts.bytes }
+    ensures copies_prefix { (old new : RestartState R) (result : Result LogState RestartFault)
+        → (restarts : Restarts R.stands R.refuses old new result)
+        → IsFirstOf new.journal.held restarts.bytes }
     ensures next_record_shown { (bytes rest torn : List ℕ) (requests more : List Request)
         → Whole bytes requests rest → All IsRecordedRequest more
         → IsFirstOf (text (requests ++ more) ++ torn) bytes → more ≡ [] }

@@ -1,5 +1,6 @@
-//! Changes of a document's tree, made in place, in two steps or as a new tree; where each element
-//! is afterwards; and change records (`EditNote`), from which xcap-diff documents are written.
+//! Changes of a document's tree, where each element is afterwards, and change records. A change is
+//! made in place, in two steps or as a new tree; from change records (`EditNote`) xcap-diff
+//! documents are written.
 //! Promises upward that a change makes exactly the `edited` tree, that every element beside it is
 //! found unchanged where `moved` says (`KeepsTheOthers`), that a record is `note_of` its change
 //! and tree, and that its weight is the length of its operation's text, at most `usize::MAX`.

@@ -1,7 +1,7 @@
-//! Plans the change that a PUT or a DELETE of a node makes, or returns why it makes none, by one
-//! descent to the parent and its children, before there is a new document. Upward: each result is
-//! what the definitions of `edit_rules` state, which try every insertion point, make the change,
-//! and select and validate in the new document (`plan_put`, `plan_attr`, `plan_delete`,
+//! Plans the change that a PUT or a DELETE of a node makes, or returns why it makes none. It does
+//! so by one descent to the parent and its children, before there is a new document. Upward: each
+//! result is what the definitions of `edit_rules` state, which try every insertion point, make the
+//! change, and select and validate in the new document (`plan_put`, `plan_attr`, `plan_delete`,
 //! `put_spot`). The standard is RFC 4825, sections 8.2.1 to 8.2.5 and 8.4.
 //! A change of attributes is an exchange of the element's start tag. Plans are made in documents
 //! without faults, as a store's are.

@@ -1,5 +1,5 @@
-//! What PUT and DELETE of a node mean: edit targets, the planned change or its refusal, and
-//! addresses by keys; with their laws. Definitions and laws, no code that runs.
+//! What PUT and DELETE of a node mean: edit targets, changes or refusals, addresses by keys; and
+//! laws. Definitions and laws, no code that runs.
 //! Promises upward one page of definitions for the machine and for the planner: `IsSpot`,
 //! `IsPutPlan`, `IsAttrPlan` and `IsDeletePlan`, with unique results (`each_plan_has_one_answer`,
 //! `each_plan_has_an_answer`); that what has to hold of a new document may be checked beside the

@@ -10,8 +10,7 @@ use Rattle.node_select.specs.Selection.{SelectsPath}
 use Rattle.node_select.specs.declared.selector.Step.{Step}
 use Rattle.node_select.proofs.Along.{path_there}
 use Rattle.store_core.specs.ValidStates.{IsSound, IsSoundFor}
-use Rattle.patch_rules.proofs.Changes.{path_positions}
-use Rattle.patch_rules.proofs.Lengths.{HasPositions-short}
+use Rattle.patch_rules.proofs.Lengths.{HasPositions-short, path_positions}
 
 weaker : (p : List ℕ) → AllByRecursion (λ n. n < 4294967295) p → AllByRecursion (λ n. n ≤ 4294967295) p
 weaker [] h = tt

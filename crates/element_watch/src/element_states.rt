@@ -9,7 +9,7 @@ ghost use Rattle.patch_rules.specs.inner.Lists.{with_all};
 use doc_names::{DocId, print_doc_id};
 use patch_rules::{element_of, empty_notice, push_plain};
 use std::alloc::{AllocError, Global};
-use tree_text::print_document;
+use tree_print::print_document;
 use xcap_io::Bytes;
 use xcap_uri::Root;
 use xml_names::{Prefix, Text};

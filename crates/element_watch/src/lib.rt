@@ -1,5 +1,5 @@
-//! Watching one element: whether a selector is a key address, where an element was before later
-//! changes, and the xcap-diff document about it. Upward: `element_notice` returns exactly that
+//! Watching one element: where it was before later changes, and the xcap-diff document about it.
+//! Also whether a selector is a key address. Upward: `element_notice` returns exactly that
 //! document (`IsNoticeAnswer`), and an element of which it reports nothing is the same in each
 //! version since (`unreported_elements_are_the_same`). The standards are RFC 4825, section 6.3
 //! (node selectors), RFC 4826, sections 3.4.5 and 4.4.5 (keys), and RFC 5874, section 3.

@@ -189,7 +189,7 @@ module _ {M W E : Type 0} (Step : M → Request → List ℕ → M → Option E 
 
   pub one_connection : (more : (xs ys : List E) (a b c : W) → Keeps xs a b → Keeps ys b c → Keeps (xs ++ ys) a c)
       (count : ℕ) (last ended : CloseReason) (machine now next : M) (old mid begun new : StreamState) (a b c : W)
-      → PortSoFar count last machine now old mid a b → Next mid begun → ServesStream Step Keeps ended now next begun new b c → PortSoFar (count + 1) ended machine next old new a c
+      → PortSoFar count last machine now old mid a b → Next mid begun → ServesStream Step Keeps ended (record { machine = now; stream = begun; watchers = b }) (record { machine = next; stream = new; watchers = c }) → PortSoFar (count + 1) ended machine next old new a c
   one_connection more count last ended machine now next old mid begun new a b c s n v =
       let x = v.exchanges in
       let same_port = x.same_port in
@@ -220,7 +220,7 @@ module _ {M W E : Type 0} (Step : M → Request → List ℕ → M → Option E 
     abbrev served : StopReason → ServeSummary
     served stop = record { connections = count; last = last; stop = stop }
 
-    stopped : (stop : StopReason) → Stops stop most count old mid → ServesPort Step Keeps most (served stop) machine now old mid a b
+    stopped : (stop : StopReason) → Stops stop most count old mid → ServesPort Step Keeps (record { most = most; served = (served stop) }) (record { machine = machine; stream = old; watchers = a }) (record { machine = now; stream = mid; watchers = b })
     stopped stop stops = record {
       connections = s.connections;
       edits = s.edits;
@@ -237,15 +237,15 @@ module _ {M W E : Type 0} (Step : M → Request → List ℕ → M → Option E 
       same_peer = s.same_peer;
     }
 
-    pub all_served : count ≡ most → ServesPort Step Keeps most (served Count) machine now old mid a b
+    pub all_served : count ≡ most → ServesPort Step Keeps (record { most = most; served = (served Count) }) (record { machine = machine; stream = old; watchers = a }) (record { machine = now; stream = mid; watchers = b })
     all_served all = stopped Count (all, s.same_faults)
 
     -- no more were to come
-    pub none_to_come : (new : StreamState) → count < most → (new ≡ mid) × (mid.port.to_come ≡ Some []) → ServesPort Step Keeps most (served NoMore) machine now old new a b
-    none_to_come new few (same, none) = subst (λ (l : StreamState). ServesPort Step Keeps most (served NoMore) machine now old l a b) (sym same) (stopped NoMore (few, none, s.same_faults))
+    pub none_to_come : (new : StreamState) → count < most → (new ≡ mid) × (mid.port.to_come ≡ Some []) → ServesPort Step Keeps (record { most = most; served = (served NoMore) }) (record { machine = machine; stream = old; watchers = a }) (record { machine = now; stream = new; watchers = b })
+    none_to_come new few (same, none) = subst (λ (l : StreamState). ServesPort Step Keeps (record { most = most; served = (served NoMore) }) (record { machine = machine; stream = old; watchers = a }) (record { machine = now; stream = l; watchers = b })) (sym same) (stopped NoMore (few, none, s.same_faults))
 
     -- accepting the next one failed
-    pub next_failed : (new : StreamState) → count < most → NextFailed mid new → ServesPort Step Keeps most (served PortFailed) machine now old new a b
+    pub next_failed : (new : StreamState) → count < most → NextFailed mid new → ServesPort Step Keeps (record { most = most; served = (served PortFailed) }) (record { machine = machine; stream = old; watchers = a }) (record { machine = now; stream = new; watchers = b })
     next_failed new few f = record {
       connections = s.connections;
       edits = s.edits;

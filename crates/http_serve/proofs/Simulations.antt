@@ -71,8 +71,8 @@ module _ {S M W E : Type 0} (Steps : S → Request → List ℕ → S → Option
     (step : (s s' : S) (m : M) (request : Request) (reply : List ℕ) (edit : Option E) → Stands s m → Steps s request reply s' edit → (m' : M) × Stands s' m' × Step m request reply m' edit)
     (Keeps : List E → W → W → Type 0) where
   -- a connection
-  pub line_by : (ended : CloseReason) (s s' : S) (m : M) (old new : StreamState) (watchers watchers' : W) → Stands s m → ServesStream Steps Keeps ended s s' old new watchers watchers'
-      → (m' : M) × Stands s' m' × ServesStream Step Keeps ended m m' old new watchers watchers'
+  pub line_by : (ended : CloseReason) (s s' : S) (m : M) (old new : StreamState) (watchers watchers' : W) → Stands s m → ServesStream Steps Keeps ended (record { machine = s; stream = old; watchers = watchers }) (record { machine = s'; stream = new; watchers = watchers' })
+      → (m' : M) × Stands s' m' × ServesStream Step Keeps ended (record { machine = m; stream = old; watchers = watchers }) (record { machine = m'; stream = new; watchers = watchers' })
   line_by ended s s' m old new watchers watchers' stands v =
       let o = serves Steps Step fixed_reply Stands step ended s s' m v.passed v.edits stands v.serves in (
         o.0,
@@ -91,8 +91,8 @@ module _ {S M W E : Type 0} (Steps : S → Request → List ℕ → S → Option
       )
 
   -- the connections of a port
-  pub port_by : (most : ℕ) (served : ServeSummary) (s s' : S) (m : M) (old new : StreamState) (watchers watchers' : W) → Stands s m → ServesPort Steps Keeps most served s s' old new watchers watchers'
-      → (m' : M) × Stands s' m' × ServesPort Step Keeps most served m m' old new watchers watchers'
+  pub port_by : (most : ℕ) (served : ServeSummary) (s s' : S) (m : M) (old new : StreamState) (watchers watchers' : W) → Stands s m → ServesPort Steps Keeps (record { most = most; served = served }) (record { machine = s; stream = old; watchers = watchers }) (record { machine = s'; stream = new; watchers = watchers' })
+      → (m' : M) × Stands s' m' × ServesPort Step Keeps (record { most = most; served = served }) (record { machine = m; stream = old; watchers = watchers }) (record { machine = m'; stream = new; watchers = watchers' })
   port_by most served s s' m old new watchers watchers' stands v =
       let e = serves_each Steps Step fixed_reply Stands step v.connections s s' m v.serves.endings v.edits stands v.serves.each in (
         e.0,

@@ -12,6 +12,7 @@ use Rattle.http_wire.specs.declared.request.Asked.TheVariants.{Request as Reques
 use Rattle.http_wire.specs.NextRequests.{RequestReaderState, IsNext, IsAsked, Asks, IsReaderStateAfter}
 use Rattle.http_wire.specs.Items.{Item, asks, bad, too_long, coded, IsFirst}
 use Rattle.http_wire.specs.ServedConnections.{Closes, no_more, last_item, no_memory, GoesOn}
+use Rattle.http_wire.proofs.Buffers.{buffered}
 use Rattle.http_wire.proofs.WholeItems.{asks-append}
 use Rattle.http_wire.specs.declared.close_reason.CloseReason.TheVariants.{Closed, ReadFailed, WriteFailed}
 use Rattle.http_serve.specs.FixedReplies.{fixed_reply}
@@ -31,7 +32,7 @@ was_read before given now Coded held is = tt
 was_read before given now End held is = tt
 was_read before given now NoMemory held is = tt
 
-pub asks_read : {F : Type 0} (before : ℕ) (held : List ℕ) (old now : InputState) (asked : Asked) (held' : List ℕ) → Asks {E = F} before held old (Ok asked) held' now → AsksRead asked
+pub asks_read : {F : Type 0} (before : ℕ) (held : List ℕ) (old now : InputState) (asked : Asked) (held' : List ℕ) → Asks {E = F} before (buffered held old) (Ok asked) (buffered held' now) → AsksRead asked
 asks_read before held old now asked held' a = was_read before (held ++ a.read) now asked held' a.answer
 
 module _ {M E : Type 0} where
@@ -72,8 +73,8 @@ module _ {M E : Type 0} (Step : M → Request → List ℕ → M → Option E �
 
 module _ {M W E : Type 0} (Step : M → Request → List ℕ → M → Option E → Type 0) (Keeps : List E → W → W → Type 0) (request_reader request_reader' : RequestReaderState) (machine : M) (old new : StreamState) (watchers : W) where
   -- a read failed
-  pub turn_of_fault : {F : Type 0} (e : F) → Asks request_reader.requests request_reader.held old.inward (Err e) request_reader'.held new.inward → new.taken ≡ old.taken → Keeps [] watchers watchers
-      → ConnectionTurn Step Keeps (Some ReadFailed) request_reader request_reader' machine machine old new watchers watchers
+  pub turn_of_fault : {F : Type 0} (e : F) → Asks request_reader.requests (buffered request_reader.held old.inward) (Err e) (buffered request_reader'.held new.inward) → new.taken ≡ old.taken → Keeps [] watchers watchers
+      → ConnectionTurn Step Keeps (Some ReadFailed) (record { request_reader = request_reader; machine = machine; stream = old; watchers = watchers }) (record { request_reader = request_reader'; machine = machine; stream = new; watchers = watchers })
   turn_of_fault e a same none = record {
     read = a.read;
     written = [];
@@ -85,10 +86,10 @@ module _ {M W E : Type 0} (Step : M → Request → List ℕ → M → Option E 
   }
 
   -- nothing was left
-  pub turn_of_end : {F : Type 0} (next : M) (asked : Asked) → Asks {E = F} request_reader.requests request_reader.held old.inward (Ok asked) request_reader'.held new.inward → asked ≡ End → new.taken ≡ old.taken → next ≡ machine → Keeps [] watchers watchers
-      → ConnectionTurn Step Keeps (Some Closed) request_reader request_reader' machine next old new watchers watchers
+  pub turn_of_end : {F : Type 0} (next : M) (asked : Asked) → Asks {E = F} request_reader.requests (buffered request_reader.held old.inward) (Ok asked) (buffered request_reader'.held new.inward) → asked ≡ End → new.taken ≡ old.taken → next ≡ machine → Keeps [] watchers watchers
+      → ConnectionTurn Step Keeps (Some Closed) (record { request_reader = request_reader; machine = machine; stream = old; watchers = watchers }) (record { request_reader = request_reader'; machine = next; stream = new; watchers = watchers })
   turn_of_end {F = F} next asked first is same stands none =
-      let a : Asks {E = F} request_reader.requests request_reader.held old.inward (Ok End) request_reader'.held new.inward = subst (λ (q : Asked). Asks {E = F} request_reader.requests request_reader.held old.inward (Ok q) request_reader'.held new.inward) is first in
+      let a : Asks {E = F} request_reader.requests (buffered request_reader.held old.inward) (Ok End) (buffered request_reader'.held new.inward) = subst (λ (q : Asked). Asks {E = F} request_reader.requests (buffered request_reader.held old.inward) (Ok q) (buffered request_reader'.held new.inward)) is first in
       record {
         read = a.read;
         written = [];
@@ -99,7 +100,7 @@ module _ {M W E : Type 0} (Step : M → Request → List ℕ → M → Option E 
         kept = none;
       }
 
-  module _ {F : Type 0} (next : M) (mid : StreamState) (watchers' : W) (asked : Asked) (reply : SentReply) (edit : Option E) (a : Asks {E = F} request_reader.requests request_reader.held old.inward (Ok asked) request_reader'.held mid.inward)
+  module _ {F : Type 0} (next : M) (mid : StreamState) (watchers' : W) (asked : Asked) (reply : SentReply) (edit : Option E) (a : Asks {E = F} request_reader.requests (buffered request_reader.held old.inward) (Ok asked) (buffered request_reader'.held mid.inward))
       (answer : AnswersAsked Step machine asked reply edit next) (same_taken : mid.taken ≡ old.taken) (same_inward : new.inward ≡ mid.inward) (kept : Keeps (told edit) watchers watchers') where
     abbrev bytes : List ℕ
     bytes = request_reader.held ++ a.read
@@ -108,33 +109,33 @@ module _ {M W E : Type 0} (Step : M → Request → List ℕ → M → Option E 
     gave = subst (λ (now : InputState). Gave old.inward now a.read) (sym same_inward) a.given
 
     -- the reply's write failed
-    pub turn_of_failed_write : TookProperPrefix mid.taken new.taken (bytes_of reply) → ConnectionTurn Step Keeps (Some WriteFailed) request_reader request_reader' machine next old new watchers watchers'
+    pub turn_of_failed_write : TookProperPrefix mid.taken new.taken (bytes_of reply) → ConnectionTurn Step Keeps (Some WriteFailed) (record { request_reader = request_reader; machine = machine; stream = old; watchers = watchers }) (record { request_reader = request_reader'; machine = next; stream = new; watchers = watchers' })
     turn_of_failed_write cut = record {
       read = a.read;
       written = take cut.0 (bytes_of reply);
       edit = edit;
       gave = gave;
       took = subst (λ (t : List ℕ). Took t new.taken (take cut.0 (bytes_of reply))) same_taken cut.2;
-      did = subst (λ (now : InputState). Did Step (Some WriteFailed) request_reader.requests machine bytes now.ended (take cut.0 (bytes_of reply)) next edit request_reader'.held) (sym same_inward)
+      did = subst (λ (now : InputState). Did Step (Some WriteFailed) machine (record { before = request_reader.requests; given = bytes; ended = now.ended; written = take cut.0 (bytes_of reply); edit = edit; held = request_reader'.held }) next) (sym same_inward)
           (bytes_of reply, cut.0, cut.1, refl, either_so Step request_reader.requests bytes mid.inward machine next reply edit request_reader'.held asked reply.closes refl a.answer answer);
       kept = kept;
     }
 
     -- the reply closes
-    pub turn_of_close : reply.closes ≡ true → Took mid.taken new.taken (bytes_of reply) → ConnectionTurn Step Keeps (Some Closed) request_reader request_reader' machine next old new watchers watchers'
+    pub turn_of_close : reply.closes ≡ true → Took mid.taken new.taken (bytes_of reply) → ConnectionTurn Step Keeps (Some Closed) (record { request_reader = request_reader; machine = machine; stream = old; watchers = watchers }) (record { request_reader = request_reader'; machine = next; stream = new; watchers = watchers' })
     turn_of_close closes whole = record {
       read = a.read;
       written = bytes_of reply;
       edit = edit;
       gave = gave;
       took = subst (λ (t : List ℕ). Took t new.taken (bytes_of reply)) same_taken whole;
-      did = subst (λ (now : InputState). Did Step (Some Closed) request_reader.requests machine bytes now.ended (bytes_of reply) next edit request_reader'.held) (sym same_inward)
+      did = subst (λ (now : InputState). Did Step (Some Closed) machine (record { before = request_reader.requests; given = bytes; ended = now.ended; written = bytes_of reply; edit = edit; held = request_reader'.held }) next) (sym same_inward)
           (ends_so Step request_reader.requests bytes mid.inward machine next reply edit request_reader'.held asked a.answer answer closes);
       kept = kept;
     }
 
     -- the connection goes on
-    pub turn_of_request : reply.closes ≡ false → Took mid.taken new.taken (bytes_of reply) → ConnectionTurn Step Keeps None request_reader request_reader' machine next old new watchers watchers'
+    pub turn_of_request : reply.closes ≡ false → Took mid.taken new.taken (bytes_of reply) → ConnectionTurn Step Keeps None (record { request_reader = request_reader; machine = machine; stream = old; watchers = watchers }) (record { request_reader = request_reader'; machine = next; stream = new; watchers = watchers' })
     turn_of_request goes_on whole = record {
       read = a.read;
       written = bytes_of reply;

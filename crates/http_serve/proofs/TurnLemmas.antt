@@ -78,7 +78,7 @@ module _ {M W E : Type 0} (Step : M → Request → List ℕ → M → Option E 
     run_on bytes = run-append Step fixed_reply 0 machine now so_far.given bytes request_reader.held so_far.written so_far.requests so_far.edits so_far.run
 
     -- one more turn
-    pub one_more : ConnectionTurn Step Keeps None request_reader request_reader' now next mid new b c → request_reader'.requests ≡ request_reader.requests + 1 → (new.read_faults ≡ mid.read_faults) × (new.write_faults ≡ mid.write_faults) → KeepsTheRest mid new → SoFar machine next request_reader' old new a c
+    pub one_more : ConnectionTurn Step Keeps None (record { request_reader = request_reader; machine = now; stream = mid; watchers = b }) (record { request_reader = request_reader'; machine = next; stream = new; watchers = c }) → request_reader'.requests ≡ request_reader.requests + 1 → (new.read_faults ≡ mid.read_faults) × (new.write_faults ≡ mid.write_faults) → KeepsTheRest mid new → SoFar machine next request_reader' old new a c
     one_more t counted faults exchanges =
         let did : GoesOn Step fixed_reply request_reader.requests now (request_reader.held ++ t.read) t.written next t.edit request_reader'.held = t.did in
         let before : request_reader.requests ≡ 0 + length so_far.requests = omega (arith, so_far.count) in
@@ -99,17 +99,17 @@ module _ {M W E : Type 0} (Step : M → Request → List ℕ → M → Option E 
         }
 
     -- one more turn, by its own result that the connection goes on
-    pub another : (result : Option CloseReason) → result ≡ None → ConnectionTurn Step Keeps result request_reader request_reader' now next mid new b c → (result ≡ None → GivesOn request_reader request_reader') → FaultsSoFar result mid new → KeepsTheRest mid new → request_reader.requests < 1000
+    pub another : (result : Option CloseReason) → result ≡ None → ConnectionTurn Step Keeps result (record { request_reader = request_reader; machine = now; stream = mid; watchers = b }) (record { request_reader = request_reader'; machine = next; stream = new; watchers = c }) → (result ≡ None → GivesOn request_reader request_reader') → FaultsSoFar result mid new → KeepsTheRest mid new → request_reader.requests < 1000
         → SoFar machine next request_reader' old new a c × ((request_reader'.spent ≡ false) × (request_reader'.requests < 1000))
     another result is t gives faults exchanges below =
         let goes = gives is in
-        let one : ConnectionTurn Step Keeps None request_reader request_reader' now next mid new b c = subst (λ (r : Option CloseReason). ConnectionTurn Step Keeps r request_reader request_reader' now next mid new b c) is t in
+        let one : ConnectionTurn Step Keeps None (record { request_reader = request_reader; machine = now; stream = mid; watchers = b }) (record { request_reader = request_reader'; machine = next; stream = new; watchers = c }) = subst (λ (r : Option CloseReason). ConnectionTurn Step Keeps r (record { request_reader = request_reader; machine = now; stream = mid; watchers = b }) (record { request_reader = request_reader'; machine = next; stream = new; watchers = c })) is t in
         let did : GoesOn Step fixed_reply request_reader.requests now (request_reader.held ++ one.read) one.written next one.edit request_reader'.held = one.did in
         let few = few_requests Step request_reader.requests now next (request_reader.held ++ one.read) one.written request_reader'.held one.edit below did in
         (one_more one goes.requests (subst (λ (r : Option CloseReason). FaultsSoFar r mid new) is faults) exchanges, (goes.open_still, omega (arith, goes.requests, few)))
 
     -- the last turn
-    pub at_end : (ended : CloseReason) → ConnectionTurn Step Keeps (Some ended) request_reader request_reader' now next mid new b c → FaultsBy ended mid.read_faults new.read_faults mid.write_faults new.write_faults → KeepsTheRest mid new → ServesStream Step Keeps ended machine next old new a c
+    pub at_end : (ended : CloseReason) → ConnectionTurn Step Keeps (Some ended) (record { request_reader = request_reader; machine = now; stream = mid; watchers = b }) (record { request_reader = request_reader'; machine = next; stream = new; watchers = c }) → FaultsBy ended mid.read_faults new.read_faults mid.write_faults new.write_faults → KeepsTheRest mid new → ServesStream Step Keeps ended (record { machine = machine; stream = old; watchers = a }) (record { machine = next; stream = new; watchers = c })
     at_end ended t faults exchanges =
         let bytes = request_reader.held ++ t.read in
         record {

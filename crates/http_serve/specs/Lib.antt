@@ -4,4 +4,5 @@ pub mod FixedReplies
 pub mod Ports
 pub mod ReadRequests
 pub mod ReplyBytes
+pub mod ServingStates
 pub mod inner

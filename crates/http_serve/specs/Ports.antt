@@ -11,6 +11,7 @@ use Rattle.http_serve.specs.declared.accept_loop.ServeSummary.{ServeSummary}
 use Rattle.http_serve.specs.declared.accept_loop.StopReason.{StopReason}
 use Rattle.http_serve.specs.declared.accept_loop.StopReason.TheVariants.{Count, NoMore, PortFailed}
 use Rattle.http_serve.specs.FixedReplies.{fixed_reply}
+use Rattle.http_serve.specs.ServingStates.{ServingState}
 
 -- how the last of some connections ended; `Closed` where there is none
 abbrev pub last_of : List CloseReason → CloseReason
@@ -35,23 +36,28 @@ Came old new connections =
     (came : List (List ℕ)) × (rest : List (List ℕ))
     × (all ≡ came ++ rest) × (new ≡ Some rest) × HaveBytes came connections)
 
+-- the wanted number of connections, and what was served
+pub record ServeOutcome : Type 0 where
+  pub most : ℕ
+  pub served : ServeSummary
+
 -- Connections with this traffic were served, at most the wanted number. `Keeps` relates watchers
 -- before and after such edits.
 pub record ServesPort {M W E : Type 0} (Step : M → Request → List ℕ → M → Option E → Type 0)
-    (Keeps : List E → W → W → Type 0) (most : ℕ) (served : ServeSummary) (machine next : M)
-    (old new : StreamState) (watchers watchers' : W) : Type 0 where
+    (Keeps : List E → W → W → Type 0) (outcome : ServeOutcome) (old new : ServingState M W)
+    : Type 0 where
   pub connections : List Traffic
   pub edits : List E
-  pub count : length connections ≡ served.connections
-  pub came : Came old.port.to_come new.port.to_come connections
-  pub all_carried : carried new ≡ carried old ++ connections
-  pub serves : ServesAll Step fixed_reply machine connections next edits old.read_faults
-      new.read_faults
-      old.write_faults new.write_faults
-  pub last : served.last ≡ last_of serves.endings
-  pub stop : Stops served.stop most served.connections old new
-  pub kept : Keeps edits watchers watchers'
-  pub same_listening : new.port.listening ≡ old.port.listening
-  pub same_holds : new.holds ≡ old.holds
-  pub same_aside : new.aside ≡ old.aside
-  pub same_peer : new.peer ≡ old.peer
+  pub count : length connections ≡ outcome.served.connections
+  pub came : Came old.stream.port.to_come new.stream.port.to_come connections
+  pub all_carried : carried new.stream ≡ carried old.stream ++ connections
+  pub serves : ServesAll Step fixed_reply old.machine connections new.machine edits
+      old.stream.read_faults new.stream.read_faults
+      old.stream.write_faults new.stream.write_faults
+  pub last : outcome.served.last ≡ last_of serves.endings
+  pub stop : Stops outcome.served.stop outcome.most outcome.served.connections old.stream new.stream
+  pub kept : Keeps edits old.watchers new.watchers
+  pub same_listening : new.stream.port.listening ≡ old.stream.port.listening
+  pub same_holds : new.stream.holds ≡ old.stream.holds
+  pub same_aside : new.stream.aside ≡ old.stream.aside
+  pub same_peer : new.stream.peer ≡ old.stream.peer

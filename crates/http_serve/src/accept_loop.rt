@@ -40,8 +40,10 @@ pub fn serve_streams<M: Machine, P: Port, W: Watchers<M::Edit>>(
     watchers: &mut W,
 ) -> ServeSummary
     requires room_left { M.takes machine.old (count * 1000) }
-    ensures serves_port { ServesPort (InBytes M.steps) W.keeps count result
-        machine.old machine.new (P.state port.old) (P.state port.new) watchers.old watchers.new }
+    ensures serves_port { ServesPort (InBytes M.steps) W.keeps
+        (record { most = count; served = result })
+        (record { machine = machine.old; stream = P.state port.old; watchers = watchers.old })
+        (record { machine = machine.new; stream = P.state port.new; watchers = watchers.new }) }
 {
     let mut connections = 0;
     let mut last = CloseReason::Closed;

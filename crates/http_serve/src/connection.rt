@@ -87,9 +87,18 @@ fn serve_next<M: Machine, L: Source + Sink, W: Watchers<M::Edit>>(
     requires open_still { buffers.old.request_reader.spent ≡ false }
     requires room_left { M.takes machine.old 1 }
     ensures makes_one_turn { ConnectionTurn (InBytes M.steps) W.keeps result
-        buffers.old.request_reader buffers.new.request_reader machine.old machine.new
-        (L.state line.old) (L.state line.new)
-        watchers.old watchers.new }
+        (record {
+          request_reader = buffers.old.request_reader;
+          machine = machine.old;
+          stream = L.state line.old;
+          watchers = watchers.old;
+        })
+        (record {
+          request_reader = buffers.new.request_reader;
+          machine = machine.new;
+          stream = L.state line.new;
+          watchers = watchers.new;
+        }) }
     ensures goes_on { result ≡ None
         → GivesOn buffers.old.request_reader buffers.new.request_reader }
     ensures counts_faults { FaultsSoFar result (L.state line.old) (L.state line.new) }
@@ -124,7 +133,8 @@ fn serve_turns<M: Machine, L: Source + Sink, W: Watchers<M::Edit>>(
     requires fresh { buffers.old.request_reader ≡ fresh_request_reader }
     requires room_left { M.takes machine.old 1000 }
     ensures serves_turns { ServesStream (InBytes M.steps) W.keeps result
-        machine.old machine.new (L.state line.old) (L.state line.new) watchers.old watchers.new }
+        (record { machine = machine.old; stream = L.state line.old; watchers = watchers.old })
+        (record { machine = machine.new; stream = L.state line.new; watchers = watchers.new }) }
     ensures takes_on { (n : ℕ) → M.takes machine.old (n + 1000) → M.takes machine.new n }
 {
     'turns: loop {
@@ -147,7 +157,8 @@ pub fn serve_stream<M: Machine, L: Source + Sink, W: Watchers<M::Edit>>(
 ) -> CloseReason
     requires room_left { M.takes machine.old 1000 }
     ensures serves_stream { ServesStream (InBytes M.steps) W.keeps result
-        machine.old machine.new (L.state line.old) (L.state line.new) watchers.old watchers.new }
+        (record { machine = machine.old; stream = L.state line.old; watchers = watchers.old })
+        (record { machine = machine.new; stream = L.state line.new; watchers = watchers.new }) }
     ensures takes_on { (n : ℕ) → M.takes machine.old (n + 1000) → M.takes machine.new n }
 {
     buffers.request_reader.reset();

@@ -1,5 +1,5 @@
-//! Serves connections with any `Machine` that answers requests: one connection to its end
-//! (`serve_stream`), and the connections of a port one after the other (`serve_streams`). Upward:
+//! Serves connections, one after the other, with any `Machine` that answers requests. One
+//! connection to its end is `serve_stream`, the connections of a port are `serve_streams`. Upward:
 //! the bytes written on each connection, the machine's state afterwards and the edits that
 //! watchers were notified of are what the machine's steps give for the requests in the
 //! connections' bytes (`ServesStream`, `ServesPort`); a connection or a port fails only if its

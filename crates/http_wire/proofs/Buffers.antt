@@ -1,13 +1,17 @@
--- Bytes in a range of a buffer of fixed size.
+-- Buffered bytes: with their source, and in a range of a buffer of fixed size.
 use Rattle.std.proofs.Common.{◌≡◌, ℕ, ◌+◌, ◌-◌, ◌≤◌, nat_lt, Bool, true, false, List, [], ◌++◌, length, take, drop, slice_range, refl, ap, sym, ◌∙◌, arith, length-append, length-drop}
 use Rattle.std.proofs.lemmas.Bool.{ltb-true, ltb-false}
 use Rattle.std.proofs.lemmas.List.{append-nil, nil_from_length, length-take-le, take-append-le, drop-append-le, drop-take, drop-drop}
 use Rattle.std.proofs.Math.Seq.{take-append-add}
 use Rattle.xcap_io.specs.Causes.{InputState}
 use Rattle.xcap_io.specs.StreamTraffic.{IsEnded}
+use Rattle.http_wire.specs.NextRequests.{BufferedSource}
 use Rattle.http_wire.specs.inner.ReadBuffer.{GainedOrEnded}
 
--- their number
+abbrev pub buffered : List ℕ → InputState → BufferedSource
+buffered held source = record { held = held; source = source }
+
+-- the number of bytes in a range
 pub length-between : (buffer : List ℕ) (start end : ℕ) → start ≤ end → end ≤ length buffer → length (slice_range buffer start end) ≡ end - start
 length-between buffer start end ordered inside = length-take-le (end - start) (drop start buffer) (omega (arith, length-drop start buffer))
 

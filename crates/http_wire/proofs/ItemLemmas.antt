@@ -22,6 +22,7 @@ use Rattle.http_wire.specs.ChunkedBodies.{print_line, print_chunks, HasNoBody, M
 use Rattle.http_wire.specs.Items.{bad, too_long, coded, field_of, request_of, Opens, BehindHead, IsFramed, AsksFor, with_length, in_chunks, IsBad, bad_fields, body_cut, no_body, IsTooLong, long_body, long_chunks, IsUnfinished, lacks_body, lacks_chunks}
 use Rattle.http_wire.specs.NextRequests.{IsNext, IsAsked, Asks}
 use Rattle.http_wire.specs.inner.ReadBuffer.{Gains, IsHeadAt, IsOpenAt, HasBody, HasNoBodyYet, Decodes}
+use Rattle.http_wire.proofs.Buffers.{buffered}
 use Rattle.http_wire.proofs.Fronts.{begins-append, head_at-append}
 
 -- Reads, one after the other.
@@ -51,7 +52,7 @@ failed_on {T} old mid new e first stayed next = record {
 }
 
 -- a result by the buffered bytes
-pub asks_now : {E : Type 0} (before : ℕ) (held : List ℕ) (left : InputState) (asked : Asked) (held' : List ℕ) → IsAsked before held left asked held' → Asks {E = E} before held left (Ok asked) held' left
+pub asks_now : {E : Type 0} (before : ℕ) (held : List ℕ) (left : InputState) (asked : Asked) (held' : List ℕ) → IsAsked before held left asked held' → Asks {E = E} before (buffered held left) (Ok asked) (buffered held' left)
 asks_now before held left asked held' is = record {
   read = [];
   given = gave_none left;
@@ -59,7 +60,7 @@ asks_now before held left asked held' is = record {
 }
 
 -- a result by bytes that were read before and those read then
-pub asks_after : {E : Type 0} (before : ℕ) (held mid : List ℕ) (left left1 : InputState) (result : Result Asked E) (held' : List ℕ) (left' : InputState) → Gains held mid left left1 → Asks before mid left1 result held' left' → Asks before held left result held' left'
+pub asks_after : {E : Type 0} (before : ℕ) (held mid : List ℕ) (left left1 : InputState) (result : Result Asked E) (held' : List ℕ) (left' : InputState) → Gains held mid left left1 → Asks before (buffered mid left1) result (buffered held' left') → Asks before (buffered held left) result (buffered held' left')
 asks_after {E} before held mid left left1 result held' left' gains then = record {
   read = gains.read ++ then.read;
   given = gave_on left left1 left' gains.read then.read gains.given then.given;
@@ -73,7 +74,7 @@ asks_after {E} before held mid left left1 result held' left' gains then = record
     moved (Err e) same is = subst IsUnfinished same is
 
 -- a read failed, and no item is complete in the bytes given
-pub asks_failed : {E : Type 0} (before : ℕ) (held mid : List ℕ) (left left' : InputState) (e : E) → Gains held mid left left' → IsUnfinished mid → Asks before held left (Err e) mid left'
+pub asks_failed : {E : Type 0} (before : ℕ) (held mid : List ℕ) (left left' : InputState) (e : E) → Gains held mid left left' → IsUnfinished mid → Asks before (buffered held left) (Err e) (buffered mid left')
 asks_failed before held mid left left' e gains is = record {
   read = gains.read;
   given = gains.given;
@@ -189,35 +190,35 @@ pub next_coded : (before : ℕ) (held : List ℕ) (left : InputState) (held' : L
 next_coded before held left held' headers spans o = inl (λ more. framed_on held more headers spans OtherCoding o)
 
 -- the body is cut short by the end
-pub asks_cut : {E : Type 0} (before : ℕ) (held mid : List ℕ) (left left' : InputState) (headers : List HeaderSpan) (spans : RequestSpans) (len : ℕ) → IsOpenAt held headers spans (Length len) → Gains held mid left left' → length mid < spans.len + len → IsEnded left' → Asks {E = E} before held left (Ok Bad) mid left'
+pub asks_cut : {E : Type 0} (before : ℕ) (held mid : List ℕ) (left left' : InputState) (headers : List HeaderSpan) (spans : RequestSpans) (len : ℕ) → IsOpenAt held headers spans (Length len) → Gains held mid left left' → length mid < spans.len + len → IsEnded left' → Asks {E = E} before (buffered held left) (Ok Bad) (buffered mid left')
 asks_cut before held mid left left' headers spans len o gains fewer ended =
     asks_after before held mid left left' (Ok Bad) mid left' gains
     (asks_now before mid left' Bad mid (inr (body_cut len (lacks mid headers spans len (open_gains held mid left left' headers spans (Length len) o gains) fewer), ended)))
 
-pub asks_unfinished : {E : Type 0} (before : ℕ) (held mid : List ℕ) (left left' : InputState) (headers : List HeaderSpan) (spans : RequestSpans) (len : ℕ) (e : E) → IsOpenAt held headers spans (Length len) → Gains held mid left left' → length mid < spans.len + len → Asks before held left (Err e) mid left'
+pub asks_unfinished : {E : Type 0} (before : ℕ) (held mid : List ℕ) (left left' : InputState) (headers : List HeaderSpan) (spans : RequestSpans) (len : ℕ) (e : E) → IsOpenAt held headers spans (Length len) → Gains held mid left left' → length mid < spans.len + len → Asks before (buffered held left) (Err e) (buffered mid left')
 asks_unfinished before held mid left left' headers spans len e o gains fewer =
     asks_failed before held mid left left' e gains (lacks_body len (lacks mid headers spans len (open_gains held mid left left' headers spans (Length len) o gains) fewer))
 
 -- A chunked body.
 
 -- a result by the bytes that were buffered and those that were read
-asks_read : {E : Type 0} (before : ℕ) (held read : List ℕ) (left left' : InputState) (asked : Asked) (held' : List ℕ) → Gave left left' read → IsAsked before (held ++ read) left' asked held' → Asks {E = E} before held left (Ok asked) held' left'
+asks_read : {E : Type 0} (before : ℕ) (held read : List ℕ) (left left' : InputState) (asked : Asked) (held' : List ℕ) → Gave left left' read → IsAsked before (held ++ read) left' asked held' → Asks {E = E} before (buffered held left) (Ok asked) (buffered held' left')
 asks_read before held read left left' asked held' given is = record { read = read; given = given; answer = is }
 
-pub chunks_unfinished : {E : Type 0} (before : ℕ) (held : List ℕ) (left : InputState) (body held' : List ℕ) (left' : InputState) (headers : List HeaderSpan) (spans : RequestSpans) (e : E) → IsOpenAt held headers spans Chunked → Decodes spans.len held left (Err e) body held' left' → Asks before held left (Err e) held' left'
+pub chunks_unfinished : {E : Type 0} (before : ℕ) (held : List ℕ) (left : InputState) (body held' : List ℕ) (left' : InputState) (headers : List HeaderSpan) (spans : RequestSpans) (e : E) → IsOpenAt held headers spans Chunked → Decodes spans.len (buffered held left) (Err e) body (buffered held' left') → Asks before (buffered held left) (Err e) (buffered held' left')
 chunks_unfinished before held left body held' left' headers spans e o d = record {
   read = d.read;
   given = d.given;
   answer = lacks_chunks (follows_at held d.read headers spans Chunked (λ rest. MayBecomeBody rest × HasNoBody rest × ¬ (PassesLimit rest)) o (d.outcome.0, d.outcome.1.0, d.outcome.1.1));
 }
 
-pub chunks_bad : {E : Type 0} (before : ℕ) (held : List ℕ) (left : InputState) (body held' : List ℕ) (left' : InputState) (headers : List HeaderSpan) (spans : RequestSpans) → IsOpenAt held headers spans Chunked → Decodes {E = E} spans.len held left (Ok BadChunks) body held' left' → Asks {E = E} before held left (Ok Bad) held' left'
+pub chunks_bad : {E : Type 0} (before : ℕ) (held : List ℕ) (left : InputState) (body held' : List ℕ) (left' : InputState) (headers : List HeaderSpan) (spans : RequestSpans) → IsOpenAt held headers spans Chunked → Decodes {E = E} spans.len (buffered held left) (Ok BadChunks) body (buffered held' left') → Asks {E = E} before (buffered held left) (Ok Bad) (buffered held' left')
 chunks_bad before held left body held' left' headers spans o d =
     asks_read before held d.read left left' Bad held' d.given
     (inl (λ more. subst IsBad (given_and_more held d.read more)
     (no_body (follows_at held (d.read ++ more) headers spans Chunked HasNoBodyYet o (subst HasNoBodyYet (append_assoc (drop spans.len held) d.read more) (d.outcome more))))))
 
-pub chunks_cut : {E : Type 0} (before : ℕ) (held : List ℕ) (left : InputState) (body held' : List ℕ) (left' : InputState) (headers : List HeaderSpan) (spans : RequestSpans) → IsOpenAt held headers spans Chunked → Decodes {E = E} spans.len held left (Ok Cut) body held' left' → Asks {E = E} before held left (Ok Bad) held' left'
+pub chunks_cut : {E : Type 0} (before : ℕ) (held : List ℕ) (left : InputState) (body held' : List ℕ) (left' : InputState) (headers : List HeaderSpan) (spans : RequestSpans) → IsOpenAt held headers spans Chunked → Decodes {E = E} spans.len (buffered held left) (Ok Cut) body (buffered held' left') → Asks {E = E} before (buffered held left) (Ok Bad) (buffered held' left')
 chunks_cut before held left body held' left' headers spans o d =
     asks_read before held d.read left left' Bad held' d.given (inr (no_body (follows_at held d.read headers spans Chunked HasNoBodyYet o d.outcome.0), d.outcome.1))
 
@@ -233,18 +234,18 @@ passes-append bytes more p = record {
   over = p.over;
 }
 
-pub chunks_long : {E : Type 0} (before : ℕ) (held : List ℕ) (left : InputState) (body held' : List ℕ) (left' : InputState) (headers : List HeaderSpan) (spans : RequestSpans) → IsOpenAt held headers spans Chunked → Decodes {E = E} spans.len held left (Ok LongChunks) body held' left' → Asks {E = E} before held left (Ok TooLong) held' left'
+pub chunks_long : {E : Type 0} (before : ℕ) (held : List ℕ) (left : InputState) (body held' : List ℕ) (left' : InputState) (headers : List HeaderSpan) (spans : RequestSpans) → IsOpenAt held headers spans Chunked → Decodes {E = E} spans.len (buffered held left) (Ok LongChunks) body (buffered held' left') → Asks {E = E} before (buffered held left) (Ok TooLong) (buffered held' left')
 chunks_long before held left body held' left' headers spans o d =
     asks_read before held d.read left left' TooLong held' d.given
     (inl (λ more. subst IsTooLong (given_and_more held d.read more)
     (long_chunks (follows_at held (d.read ++ more) headers spans Chunked PassesLimit o (subst PassesLimit (append_assoc (drop spans.len held) d.read more) (passes-append (drop spans.len held ++ d.read) more d.outcome))))))
 
 -- the request, whose parts the spans cover in the buffered bytes
-pub chunks_whole : {E : Type 0} (before : ℕ) (held : List ℕ) (left : InputState) (body held' : List ℕ) (left' : InputState) (headers : List HeaderSpan) (spans : RequestSpans) (end : ℕ) (request : Request) (o : IsOpenAt held headers spans Chunked) → Decodes {E = E} spans.len held left (Ok (Whole end)) body held' left' → request ≡ request_of before o.head body → Asks {E = E} before held left (Ok (Requested request)) (drop end held') left'
+pub chunks_whole : {E : Type 0} (before : ℕ) (held : List ℕ) (left : InputState) (body held' : List ℕ) (left' : InputState) (headers : List HeaderSpan) (spans : RequestSpans) (end : ℕ) (request : Request) (o : IsOpenAt held headers spans Chunked) → Decodes {E = E} spans.len (buffered held left) (Ok (Whole end)) body (buffered held' left') → request ≡ request_of before o.head body → Asks {E = E} before (buffered held left) (Ok (Requested request)) (buffered (drop end held') left')
 chunks_whole before held left body held' left' headers spans end request o d is =
     asks_read before held d.read left left' (Requested request) (drop end held') d.given (asks_in_chunks before held d.read headers spans request body (drop end held') o d.outcome.2 is)
 
-pub chunks_no_memory : {E : Type 0} (before : ℕ) (held : List ℕ) (left : InputState) (body held' : List ℕ) (left' : InputState) (headers : List HeaderSpan) (spans : RequestSpans) (end : ℕ) (o : IsOpenAt held headers spans Chunked) → Decodes {E = E} spans.len held left (Ok (Whole end)) body held' left' → Asks {E = E} before held left (Ok NoMemory) held' left'
+pub chunks_no_memory : {E : Type 0} (before : ℕ) (held : List ℕ) (left : InputState) (body held' : List ℕ) (left' : InputState) (headers : List HeaderSpan) (spans : RequestSpans) (end : ℕ) (o : IsOpenAt held headers spans Chunked) → Decodes {E = E} spans.len (buffered held left) (Ok (Whole end)) body (buffered held' left') → Asks {E = E} before (buffered held left) (Ok NoMemory) (buffered held' left')
 chunks_no_memory before held left body held' left' headers spans end o d =
     let request : Request = request_of before o.head body in
     asks_read before held d.read left left' NoMemory held' d.given (request, drop end held', asks_in_chunks before held d.read headers spans request body (drop end held') o d.outcome.2 refl)

@@ -38,14 +38,20 @@ IsAsked before given source End held = (given ≡ []) × IsEnded source
 IsAsked before given source NoMemory held =
     (request : Request) × (rest : List ℕ) × AsksFor before given request rest
 
+-- The bytes buffered, and the source that the next ones are read from.
+pub record BufferedSource : Type 0 where
+  pub held : List ℕ
+  pub source : InputState
+
 -- Bytes were read from the source, and the result is decided by the buffered bytes and those read;
 -- where a read failed, no item is complete in them.
-pub record Asks {E : Type 0} (before : ℕ) (held : List ℕ) (source : InputState)
-    (result : Result Asked E) (held' : List ℕ) (source' : InputState) : Type 0 where
+pub record Asks {E : Type 0} (before : ℕ) (old : BufferedSource) (result : Result Asked E)
+    (new : BufferedSource) : Type 0 where
   pub read : List ℕ
-  pub given : Gave source source' read
-  pub answer : MatchResult result (λ asked. IsAsked before (held ++ read) source' asked held') (λ _.
-      IsUnfinished (held ++ read))
+  pub given : Gave old.source new.source read
+  pub answer : MatchResult result
+      (λ asked. IsAsked before (old.held ++ read) new.source asked new.held)
+      (λ _. IsUnfinished (old.held ++ read))
 
 -- The state of the reader after a call: it is spent, except after a request that doesn't close.
 abbrev pub IsReaderStateAfter : {E : Type 0} → RequestReaderState → Result Asked E

@@ -29,9 +29,10 @@ pub fn decode<S: Source>(
 ) -> Result<DecodeResult, ReadFault>
     requires inside { head ≤ length read_buffer.old }
     requires length_bounded { head ≤ MAX_HEAD }
-    ensures decodes_body { Decodes head read_buffer.old
-        (S.state source.old).inward result decoder.new.body read_buffer.new
-        (S.state source.new).inward }
+    ensures decodes_body { Decodes head
+        (record { held = read_buffer.old; source = (S.state source.old).inward }) result
+        decoder.new.body
+        (record { held = read_buffer.new; source = (S.state source.new).inward }) }
     ensures only_reads { OnlyReads (S.state source.old) (S.state source.new) result }
 {
     decoder.restart();

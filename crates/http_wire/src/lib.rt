@@ -1,8 +1,8 @@
-//! The requests of a connection, read from its bytes however they are cut into reads, and the
-//! replies written to it. Upward: `next_request` returns the first item of the connection's bytes
-//! (`Asks`, `IsNext`, `FirstItem`), and a read or write fails only if its fault counter rose; the
-//! laws say that the bytes have one sequence of items (`Talk`) and that bytes given so far decide.
-//! The limits are in `limits`. HTTP/1.1 by RFC 9112, with the fields of RFC 9110.
+//! The requests of a connection, read from its bytes however they are cut, and the replies written
+//! to it. Upward: `next_request` returns the first item of the connection's bytes (`Asks`,
+//! `IsNext`, `FirstItem`), and a read or write fails only if its fault counter rose; the laws say
+//! that the bytes have one sequence of items (`Talk`) and that bytes given so far decide. The
+//! limits are in `limits`. HTTP/1.1 by RFC 9112, with the fields of RFC 9110.
 //! A chunked body is decoded as it comes, into a second buffer, so nothing is copied until the
 //! request is whole. Chunk lines have a grammar of this crate's own.
 #![tactic(auto)]

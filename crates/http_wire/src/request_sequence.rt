@@ -28,8 +28,9 @@ fn read_plain<S: Source>(
 ) -> Result<Asked, ReadFault>
     requires open_at { IsOpenAt read_buffer.old headers.now spans.now (Framing.Length len) }
     requires within_body_limit { len ≤ MAX_BODY }
-    ensures first_item { Asks before read_buffer.old
-        (S.state source.old).inward result read_buffer.new (S.state source.new).inward }
+    ensures first_item { Asks before
+        (record { held = read_buffer.old; source = (S.state source.old).inward }) result
+        (record { held = read_buffer.new; source = (S.state source.new).inward }) }
     ensures only_reads { OnlyReads (S.state source.old) (S.state source.new) result }
 {
     let end = spans.len + len;
@@ -57,8 +58,9 @@ fn read_chunked<S: Source>(
     before: usize,
 ) -> Result<Asked, ReadFault>
     requires { IsOpenAt read_buffer.old headers.now spans.now Framing.Chunked }
-    ensures first_item { Asks before read_buffer.old
-        (S.state source.old).inward result read_buffer.new (S.state source.new).inward }
+    ensures first_item { Asks before
+        (record { held = read_buffer.old; source = (S.state source.old).inward }) result
+        (record { held = read_buffer.new; source = (S.state source.new).inward }) }
     ensures only_reads { OnlyReads (S.state source.old) (S.state source.new) result }
 {
     match decode(source, read_buffer, decoder, spans.len)? {
@@ -94,8 +96,9 @@ fn read_behind<S: Source>(
     before: usize,
 ) -> Result<Asked, ReadFault>
     requires { (head : RequestHead) × IsHeadAt read_buffer.old headers.now spans.now head }
-    ensures first_item { Asks before read_buffer.old
-        (S.state source.old).inward result read_buffer.new (S.state source.new).inward }
+    ensures first_item { Asks before
+        (record { held = read_buffer.old; source = (S.state source.old).inward }) result
+        (record { held = read_buffer.new; source = (S.state source.new).inward }) }
     ensures only_reads { OnlyReads (S.state source.old) (S.state source.new) result }
 {
     match read_framing(
@@ -127,8 +130,9 @@ fn read_item<S: Source>(
     decoder: &mut Decoder,
     before: usize,
 ) -> Result<Asked, ReadFault>
-    ensures first_item { Asks before read_buffer.old
-        (S.state source.old).inward result read_buffer.new (S.state source.new).inward }
+    ensures first_item { Asks before
+        (record { held = read_buffer.old; source = (S.state source.old).inward }) result
+        (record { held = read_buffer.new; source = (S.state source.new).inward }) }
     ensures only_reads { OnlyReads (S.state source.old) (S.state source.new) result }
 {
     let mut headers = [EMPTY_HEADER_SPAN; MAX_FIELDS];
@@ -166,8 +170,9 @@ pub fn next_request<S: Source>(
         × (request_reader.new ≡ request_reader.old)
         × (S.state source.new ≡ S.state source.old) }
     ensures first_item { request_reader.old.spent ≡ false
-        → Asks request_reader.old.requests request_reader.old.held (S.state source.old).inward
-        result request_reader.new.held (S.state source.new).inward }
+        → Asks request_reader.old.requests
+        (record { held = request_reader.old.held; source = (S.state source.old).inward }) result
+        (record { held = request_reader.new.held; source = (S.state source.new).inward }) }
     ensures after_item { IsReaderStateAfter request_reader.old result request_reader.new }
     ensures only_reads { OnlyReads (S.state source.old) (S.state source.new) result }
 {

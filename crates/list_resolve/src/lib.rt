@@ -1,7 +1,7 @@
-//! Flat lists of services: the addresses of the entries of a service's list, and of the lists and
-//! entries that references lead to. Upward: `flat_list` returns exactly the list that the walk of
-//! the stored documents defines (`IsFlatList`, `flat_of`), for every web of references, circles
-//! among them, and each service address has exactly one result (`services_have_one_flat_list`).
+//! Flat lists of services: the addresses of all entries that a service's list and references lead
+//! to. Upward: `flat_list` returns exactly the list that the walk of the stored documents defines
+//! (`IsFlatList`, `flat_of`), for every web of references, circles among them, and each service
+//! address has exactly one result (`services_have_one_flat_list`).
 //! The standard is RFC 4826, sections 3 and 4; the limits on chains and references are this
 //! server's own.
 #![tactic(auto)]

@@ -9,7 +9,7 @@ use Rattle.xml_tokens.specs.declared.fault_kind.FaultKind.{FaultKind}
 use Rattle.xml_tokens.specs.Tokens.{is_quote, is_raw_in}
 use Rattle.xml_tokens.specs.readers.Tokens.{reference_follows}
 use Rattle.xml_tokens.proofs.TagLemmas.{shrinks_qname, shrinks_reference}
-use Rattle.xml_tokens.specs.readers.Ends.{EndsWith}
+use Rattle.xml_grammar.specs.readers.Ends.{EndsWith}
 use Rattle.xml_tokens.proofs.Shrinks.{Left, Shrinks, ok_left, ok_small, shrinks_one, shrinks_word, shrinks_run, shrinks_empty, shrinks_sequence, shrinks_valued, shrinks_either, shrinks_many}
 use Rattle.node_select.specs.Grammar.{position_of, names_attribute, literal_value}
 use Rattle.node_select.specs.readers.SelectorValues.{first_step_of}

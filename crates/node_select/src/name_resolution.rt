@@ -15,8 +15,9 @@ use crate::raw_selectors::{RawEnd, RawPatchEnd, RawStep, RawTest};
 use crate::selector::{AttrTest, End, NameTest, PatchEnd, Step};
 use crate::step_match::no_uri;
 use std::alloc::{AllocError, AllocFailed, Global};
+use xml_grammar::split_first;
 use xml_names::{IndexedDecls, List, Prefix, Text, is_xmlns};
-use xml_tokens::{RawName, split_first};
+use xml_tokens::RawName;
 use xml_tree::LinkedScope;
 
 /// Why names can't be resolved.

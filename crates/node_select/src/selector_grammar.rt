@@ -15,7 +15,8 @@ ghost use Rattle.node_select.specs.readers.Views.{selector_in, step_in};
 use crate::raw_selectors::{Form, RawEnd, RawPatchEnd, RawPatchSelector, RawSelector};
 use crate::steps::{attribute, position, slash_follows, steps, test_follows};
 use std::alloc::Global;
-use xml_tokens::{ParseError, is_first, is_over, word};
+use xml_grammar::{is_first, is_over};
+use xml_tokens::{ParseError, word};
 
 // An attribute or all namespaces, and what follows them.
 fn end(text: &str) -> Result<(RawEnd<'_>, &str), ParseError<'_>>

@@ -19,8 +19,9 @@ use crate::raw_selectors::{RawPatchEnd, RawPatchSelector, RawSelector};
 use crate::selector::{PatchForm, PatchSelector, Selector};
 use crate::selector_grammar::{raw_patch_selector, raw_selector};
 use std::alloc::{AllocError, Global};
+use xml_grammar::{count, skip};
 use xml_names::ReadError;
-use xml_tokens::{ParseError, count, skip};
+use xml_tokens::ParseError;
 
 // The byte after the first `n` characters of a text.
 fn byte_of(text: &str, n: usize) -> usize

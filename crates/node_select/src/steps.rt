@@ -17,10 +17,11 @@ ghost use Rattle.node_select.specs.readers.Views.{follows_in, step_in, test_in};
 
 use crate::raw_selectors::{Form, RawStep, RawTest};
 use std::alloc::{AllocError, Global};
+use xml_grammar::{count_before, is_first, split_first};
 use xml_names::{Text, is_xmlns};
 use xml_tokens::{
-    ParseError, RawName, count_before, digits, is_first, no_text, qname, quote, raw_run, reference,
-    reference_follows, split_first, starts, word,
+    ParseError, RawName, digits, no_text, qname, quote, raw_run, reference, reference_follows,
+    starts, word,
 };
 
 /// The greatest position; a greater one is read as 0.

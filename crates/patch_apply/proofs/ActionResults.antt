@@ -15,19 +15,19 @@ use Rattle.xml_names.specs.declared.names.Decl.{Decl}
 use Rattle.xml_names.specs.declared.names.Name.{Name}
 use Rattle.xml_tree.specs.declared.tree.Node.{Node}
 use Rattle.xml_tree.proofs.PathLemmas.{put_over-made}
-use Rattle.patch_rules.specs.PatchOperations.{OperationError, Prefix, RootTouched, WrongNodes, NoSpace, Position, Behind, Prepend, Before, After, AtElement, AtAttr, AtText, attr_done, attr_of, cut_element, given, is_bare, is_below, made, means_alike, is_off_root, put_at, put_done, remove_done, replace_done, rewritten, scope_of_put, sole_element, space_fits, tested, value_in, with_attrs, within_depth}
-use Rattle.patch_apply.specs.inner.Stages.{gap_done, gap_of, is_there_already, site_of, take_done, value_done}
+use Rattle.patch_rules.specs.PatchOperations.{OperationError, Prefix, RootTouched, WrongNodes, NoSpace, Position, Behind, Prepend, Before, After, AtElement, AtAttr, AtText, new_attr_result, attr_of, cut_element, given, is_bare, is_below, checked_tree, means_alike, is_off_root, put_at, put_result, remove_result, replace_result, rewritten, scope_of_put, sole_element, space_fits, tested, value_in, with_attrs, within_depth, has_attr_named}
+use Rattle.patch_apply.specs.inner.Stages.{insert_result, gap_of, site_of, drop_attr_result, set_attr_result}
 
 -- ---- the new tree
 
 module _ (new : Tree) (alike : Bool) where
-  pub made_deep : within_depth new ≡ false → made new alike ≡ Err WrongNodes
+  pub made_deep : within_depth new ≡ false → checked_tree new alike ≡ Err WrongNodes
   made_deep e = ap (λ b. tested b WrongNodes (tested alike Prefix (Ok new))) e
 
-  pub made_unlike : within_depth new ≡ true → alike ≡ false → made new alike ≡ Err Prefix
+  pub made_unlike : within_depth new ≡ true → alike ≡ false → checked_tree new alike ≡ Err Prefix
   made_unlike e unlike = ap (λ b. tested b WrongNodes (tested alike Prefix (Ok new))) e ∙ ap (λ b. tested b Prefix (Ok new)) unlike
 
-  pub made_well : within_depth new ≡ true → alike ≡ true → made new alike ≡ Ok new
+  pub made_well : within_depth new ≡ true → alike ≡ true → checked_tree new alike ≡ Ok new
   made_well e same = ap (λ b. tested b WrongNodes (tested alike Prefix (Ok new))) e ∙ ap (λ b. tested b Prefix (Ok new)) same
 
 -- ---- an attribute is added
@@ -40,17 +40,17 @@ module _ (c : List (List Decl)) (name : Name) (p : List ℕ) (content : Content)
   attr_like = same_expanded (attr_name c name) (attr_name (scope_at p t) name)
 
   abbrev attr_rest : List ℕ → Result Tree OperationError
-  attr_rest v = tested (not (is_there_already c name p t)) WrongNodes (made (attr_new v) attr_like)
+  attr_rest v = tested (not (has_attr_named c name p t)) WrongNodes (checked_tree (attr_new v) attr_like)
 
-  pub attr_no_value : value_in content ≡ None → attr_done c name p content t ≡ Err WrongNodes
+  pub attr_no_value : value_in content ≡ None → new_attr_result c name p content t ≡ Err WrongNodes
   attr_no_value e = ap (λ (o : Option (List ℕ)). given o WrongNodes attr_rest) e
 
-  pub attr_twice : (v : List ℕ) → value_in content ≡ Some v → is_there_already c name p t ≡ true → attr_done c name p content t ≡ Err WrongNodes
-  attr_twice v e there = ap (λ (o : Option (List ℕ)). given o WrongNodes attr_rest) e ∙ ap (λ b. tested (not b) WrongNodes (made (attr_new v) attr_like)) there
+  pub attr_twice : (v : List ℕ) → value_in content ≡ Some v → has_attr_named c name p t ≡ true → new_attr_result c name p content t ≡ Err WrongNodes
+  attr_twice v e there = ap (λ (o : Option (List ℕ)). given o WrongNodes attr_rest) e ∙ ap (λ b. tested (not b) WrongNodes (checked_tree (attr_new v) attr_like)) there
 
-  pub attr_may : (v : List ℕ) → value_in content ≡ Some v → is_there_already c name p t ≡ false
-      → attr_done c name p content t ≡ made (change_at p (with_attrs (λ ats. ats ++ attr_of name v ∷ [])) t) (same_expanded (attr_name c name) (attr_name (scope_at p t) name))
-  attr_may v e new = ap (λ (o : Option (List ℕ)). given o WrongNodes attr_rest) e ∙ ap (λ b. tested (not b) WrongNodes (made (attr_new v) attr_like)) new
+  pub attr_may : (v : List ℕ) → value_in content ≡ Some v → has_attr_named c name p t ≡ false
+      → new_attr_result c name p content t ≡ checked_tree (change_at p (with_attrs (λ ats. ats ++ attr_of name v ∷ [])) t) (same_expanded (attr_name c name) (attr_name (scope_at p t) name))
+  attr_may v e new = ap (λ (o : Option (List ℕ)). given o WrongNodes attr_rest) e ∙ ap (λ b. tested (not b) WrongNodes (checked_tree (attr_new v) attr_like)) new
 
 -- ---- content is put among nodes
 
@@ -70,80 +70,80 @@ put_scope After (n ∷ p) t off = refl
 
 module _ (c : List (List Decl)) (position : Position) (p : List ℕ) (content : Content) (t : Tree) where
   abbrev put_rest : Result Tree OperationError
-  put_rest = made (put_at position p (nodes_of content) t) (means_alike c (scope_of_put position p t) content)
+  put_rest = checked_tree (put_at position p (nodes_of content) t) (means_alike c (scope_of_put position p t) content)
 
   abbrev put_test : Bool → Bool → Result Tree OperationError
   put_test off some = tested off RootTouched (tested some WrongNodes put_rest)
 
-  pub put_beside_root : is_off_root position p ≡ false → put_done c position p content t ≡ Err RootTouched
+  pub put_beside_root : is_off_root position p ≡ false → put_result c position p content t ≡ Err RootTouched
   put_beside_root e = ap (λ b. put_test b (is_some (slice_get (nodes_of content) 0))) e
 
-  pub put_nothing : is_off_root position p ≡ true → is_some (slice_get (nodes_of content) 0) ≡ false → put_done c position p content t ≡ Err WrongNodes
+  pub put_nothing : is_off_root position p ≡ true → is_some (slice_get (nodes_of content) 0) ≡ false → put_result c position p content t ≡ Err WrongNodes
   put_nothing e none = ap (λ b. put_test b (is_some (slice_get (nodes_of content) 0))) e ∙ ap (put_test true) none
 
-  pub put_somewhere : is_off_root position p ≡ true → is_some (slice_get (nodes_of content) 0) ≡ true → put_done c position p content t ≡ gap_done c (site_of position p) (gap_of position p t) content t
+  pub put_somewhere : is_off_root position p ≡ true → is_some (slice_get (nodes_of content) 0) ≡ true → put_result c position p content t ≡ insert_result c (site_of position p) (gap_of position p t) content t
   put_somewhere e some =
       ap (λ b. put_test b (is_some (slice_get (nodes_of content) 0))) e ∙ ap (put_test true) some
-      ∙ (λ i. made (put_site position p (nodes_of content) t i) (means_alike c (put_scope position p t e i) content))
+      ∙ (λ i. checked_tree (put_site position p (nodes_of content) t i) (means_alike c (put_scope position p t e i) content))
 
 -- ---- an element is replaced
 
 module _ (c : List (List Decl)) (p : List ℕ) (content : Content) (t : Tree) where
   abbrev element_rest : Tree → Result Tree OperationError
-  element_rest w = made (put_over p w t) (means_alike c (scope_around p t) content)
+  element_rest w = checked_tree (put_over p w t) (means_alike c (scope_around p t) content)
 
-  pub replace_none : sole_element content ≡ None → replace_done c (AtElement p) content t ≡ Err WrongNodes
+  pub replace_none : sole_element content ≡ None → replace_result c (AtElement p) content t ≡ Err WrongNodes
   replace_none e = ap (λ (o : Option Tree). given o WrongNodes element_rest) e
 
-  pub replace_sole : (w : Tree) → sole_element content ≡ Some w → replace_done c (AtElement p) content t ≡ made (put_over p w t) (means_alike c (scope_around p t) content)
+  pub replace_sole : (w : Tree) → sole_element content ≡ Some w → replace_result c (AtElement p) content t ≡ checked_tree (put_over p w t) (means_alike c (scope_around p t) content)
   replace_sole w e = ap (λ (o : Option Tree). given o WrongNodes element_rest) e
 
 -- ---- a value or a text is replaced
 
 module _ (p : List ℕ) (i : ℕ) (content : Content) (t : Tree) where
-  pub value_none : value_in content ≡ None → value_done p i content t ≡ Err WrongNodes
-  value_none e = ap (λ (o : Option (List ℕ)). given o WrongNodes (λ v. made (change_at p (with_attrs (with_value i v)) t) true)) e
+  pub value_none : value_in content ≡ None → set_attr_result p i content t ≡ Err WrongNodes
+  value_none e = ap (λ (o : Option (List ℕ)). given o WrongNodes (λ v. checked_tree (change_at p (with_attrs (with_value i v)) t) true)) e
 
-  pub value_some : (v : List ℕ) → value_in content ≡ Some v → value_done p i content t ≡ made (change_at p (with_attrs (with_value i v)) t) true
-  value_some v e = ap (λ (o : Option (List ℕ)). given o WrongNodes (λ x. made (change_at p (with_attrs (with_value i x)) t) true)) e
+  pub value_some : (v : List ℕ) → value_in content ≡ Some v → set_attr_result p i content t ≡ checked_tree (change_at p (with_attrs (with_value i v)) t) true
+  value_some v e = ap (λ (o : Option (List ℕ)). given o WrongNodes (λ x. checked_tree (change_at p (with_attrs (with_value i x)) t) true)) e
 
 module _ (c : List (List Decl)) (p : List ℕ) (i : ℕ) (content : Content) (t : Tree) where
-  pub text_none : value_in content ≡ None → replace_done c (AtText p i) content t ≡ Err WrongNodes
-  text_none e = ap (λ (o : Option (List ℕ)). given o WrongNodes (λ v. made (change_at p (exchange_nodes i (suc i) (text_node v)) t) true)) e
+  pub text_none : value_in content ≡ None → replace_result c (AtText p i) content t ≡ Err WrongNodes
+  text_none e = ap (λ (o : Option (List ℕ)). given o WrongNodes (λ v. checked_tree (change_at p (exchange_nodes i (suc i) (text_node v)) t) true)) e
 
-  pub text_some : (v : List ℕ) → value_in content ≡ Some v → replace_done c (AtText p i) content t ≡ made (change_at p (exchange_nodes i (suc i) (text_node v)) t) true
-  text_some v e = ap (λ (o : Option (List ℕ)). given o WrongNodes (λ x. made (change_at p (exchange_nodes i (suc i) (text_node x)) t) true)) e
+  pub text_some : (v : List ℕ) → value_in content ≡ Some v → replace_result c (AtText p i) content t ≡ checked_tree (change_at p (exchange_nodes i (suc i) (text_node v)) t) true
+  text_some v e = ap (λ (o : Option (List ℕ)). given o WrongNodes (λ x. checked_tree (change_at p (exchange_nodes i (suc i) (text_node x)) t) true)) e
 
 -- ---- something is removed
 
 module _ (p : List ℕ) (i : ℕ) (content : Content) (t : Tree) where
-  pub take_not : is_bare content ≡ false → take_done p i content t ≡ Err WrongNodes
-  take_not e = ap (λ b. tested b WrongNodes (made (change_at p (with_attrs (λ ats. remove ats i)) t) true)) e
+  pub take_not : is_bare content ≡ false → drop_attr_result p i content t ≡ Err WrongNodes
+  take_not e = ap (λ b. tested b WrongNodes (checked_tree (change_at p (with_attrs (λ ats. remove ats i)) t) true)) e
 
-  pub take_well : is_bare content ≡ true → take_done p i content t ≡ made (change_at p (with_attrs (λ ats. remove ats i)) t) true
-  take_well e = ap (λ b. tested b WrongNodes (made (change_at p (with_attrs (λ ats. remove ats i)) t) true)) e
+  pub take_well : is_bare content ≡ true → drop_attr_result p i content t ≡ checked_tree (change_at p (with_attrs (λ ats. remove ats i)) t) true
+  take_well e = ap (λ b. tested b WrongNodes (checked_tree (change_at p (with_attrs (λ ats. remove ats i)) t) true)) e
 
-  pub cut_not : (before after : Bool) → is_bare content ≡ false → remove_done before after (AtText p i) content t ≡ Err WrongNodes
-  cut_not before after e = ap (λ b. tested b WrongNodes (made (change_at p (exchange_nodes i (suc i) []) t) true)) e
+  pub cut_not : (before after : Bool) → is_bare content ≡ false → remove_result before after (AtText p i) content t ≡ Err WrongNodes
+  cut_not before after e = ap (λ b. tested b WrongNodes (checked_tree (change_at p (exchange_nodes i (suc i) []) t) true)) e
 
-  pub cut_well : (before after : Bool) → is_bare content ≡ true → remove_done before after (AtText p i) content t ≡ made (change_at p (exchange_nodes i (suc i) []) t) true
-  cut_well before after e = ap (λ b. tested b WrongNodes (made (change_at p (exchange_nodes i (suc i) []) t) true)) e
+  pub cut_well : (before after : Bool) → is_bare content ≡ true → remove_result before after (AtText p i) content t ≡ checked_tree (change_at p (exchange_nodes i (suc i) []) t) true
+  cut_well before after e = ap (λ b. tested b WrongNodes (checked_tree (change_at p (exchange_nodes i (suc i) []) t) true)) e
 
 module _ (before after : Bool) (p : List ℕ) (content : Content) (t : Tree) where
   abbrev remove_test : Bool → Bool → Bool → Result Tree OperationError
-  remove_test below bare fits = tested below RootTouched (tested bare WrongNodes (tested fits NoSpace (made (cut_element before after p t) true)))
+  remove_test below bare fits = tested below RootTouched (tested bare WrongNodes (tested fits NoSpace (checked_tree (cut_element before after p t) true)))
 
-  pub remove_root : is_below p ≡ false → remove_done before after (AtElement p) content t ≡ Err RootTouched
+  pub remove_root : is_below p ≡ false → remove_result before after (AtElement p) content t ≡ Err RootTouched
   remove_root e = ap (λ b. remove_test b (is_bare content) (space_fits before after p t)) e
 
-  pub remove_not : is_below p ≡ true → is_bare content ≡ false → remove_done before after (AtElement p) content t ≡ Err WrongNodes
+  pub remove_not : is_below p ≡ true → is_bare content ≡ false → remove_result before after (AtElement p) content t ≡ Err WrongNodes
   remove_not e bare = ap (λ b. remove_test b (is_bare content) (space_fits before after p t)) e ∙ ap (λ b. remove_test true b (space_fits before after p t)) bare
 
-  pub remove_no_space : is_below p ≡ true → is_bare content ≡ true → space_fits before after p t ≡ false → remove_done before after (AtElement p) content t ≡ Err NoSpace
+  pub remove_no_space : is_below p ≡ true → is_bare content ≡ true → space_fits before after p t ≡ false → remove_result before after (AtElement p) content t ≡ Err NoSpace
   remove_no_space e bare fits =
       ap (λ b. remove_test b (is_bare content) (space_fits before after p t)) e ∙ ap (λ b. remove_test true b (space_fits before after p t)) bare ∙ ap (remove_test true true) fits
 
-  pub remove_well : is_below p ≡ true → is_bare content ≡ true → space_fits before after p t ≡ true → remove_done before after (AtElement p) content t ≡ made (cut_element before after p t) true
+  pub remove_well : is_below p ≡ true → is_bare content ≡ true → space_fits before after p t ≡ true → remove_result before after (AtElement p) content t ≡ checked_tree (cut_element before after p t) true
   remove_well e bare fits =
       ap (λ b. remove_test b (is_bare content) (space_fits before after p t)) e ∙ ap (λ b. remove_test true b (space_fits before after p t)) bare ∙ ap (remove_test true true) fits
 
@@ -196,12 +196,12 @@ some_there None P h = absurd h
 some_there (Some e) P h = (e, refl, h)
 
 module _ (c : List (List Decl)) (p q : List ℕ) (f : Attr → Bool) (i : ℕ) (content : Content) (t e : Tree) (same : p ≡ q) (is : at p t ≡ Some e) (first : position f e.attrs ≡ Some i) where
-  pub replaced_by_number : replace_done c (AtAttr q f) content t ≡ value_done p i content t
+  pub replaced_by_number : replace_result c (AtAttr q f) content t ≡ set_attr_result p i content t
   replaced_by_number =
-      ap (λ (x : List ℕ). replace_done c (AtAttr x f) content t) (sym same)
-      ∙ (λ k. given (value_in content) WrongNodes (λ v. made (agree_at p (with_attrs (rewritten f v)) (with_attrs (with_value i v)) e t is (ap (with_list e) (written_at f i e.attrs first v)) k) true))
+      ap (λ (x : List ℕ). replace_result c (AtAttr x f) content t) (sym same)
+      ∙ (λ k. given (value_in content) WrongNodes (λ v. checked_tree (agree_at p (with_attrs (rewritten f v)) (with_attrs (with_value i v)) e t is (ap (with_list e) (written_at f i e.attrs first v)) k) true))
 
-  pub removed_by_number : (before after : Bool) → remove_done before after (AtAttr q f) content t ≡ take_done p i content t
+  pub removed_by_number : (before after : Bool) → remove_result before after (AtAttr q f) content t ≡ drop_attr_result p i content t
   removed_by_number before after =
-      ap (λ (x : List ℕ). remove_done before after (AtAttr x f) content t) (sym same)
-      ∙ (λ k. tested (is_bare content) WrongNodes (made (agree_at p (with_attrs (remove_first f)) (with_attrs (λ ats. remove ats i)) e t is (ap (with_list e) (removed_at f i e.attrs first)) k) true))
+      ap (λ (x : List ℕ). remove_result before after (AtAttr x f) content t) (sym same)
+      ∙ (λ k. tested (is_bare content) WrongNodes (checked_tree (agree_at p (with_attrs (remove_first f)) (with_attrs (λ ats. remove ats i)) e t is (ap (with_list e) (removed_at f i e.attrs first)) k) true))

@@ -6,10 +6,10 @@ use Rattle.xml_names.specs.declared.read_error.ReadError.{ReadError}
 use Rattle.xml_tree.specs.Tree.{Content, Tree, at}
 use Rattle.xml_names.specs.declared.names.Decl.{Decl}
 use Rattle.patch_rules.specs.PatchOperations as words
-use Rattle.patch_rules.specs.PatchOperations.{spot_path, remove_done, replace_done}
+use Rattle.patch_rules.specs.PatchOperations.{spot_path, remove_result, replace_result}
 use Rattle.patch_apply.specs.inner.Results.{EditsAs}
 use Rattle.patch_apply.specs.inner.LocationViews.{IsSpot, IsThere, path_in}
-use Rattle.patch_apply.specs.inner.Stages.{take_done, value_done}
+use Rattle.patch_apply.specs.inner.Stages.{drop_attr_result, set_attr_result}
 use Rattle.patch_parse.specs.declared.operation_error.OperationError.{OperationError}
 use Rattle.patch_apply.specs.declared.locations.Location.{Location}
 use Rattle.patch_apply.specs.declared.locations.Location.TheVariants.{AtElement, AtAttr, AtText}
@@ -35,37 +35,37 @@ path_same t (AtText p i) (words.AtAttr q f) is = absurd is
 path_same t (AtText p i) (words.AtText q j) is = is.0
 
 module _ (c : List (List Decl)) (p : List ℕ) (content : Content) (t new : Tree) (r : Result (Unit {0}) (ReadError OperationError)) where
-  pub replace_element_at : Answered (EditsAs (replace_done c (words.AtElement p) content t) new) r → (w : words.Location) → IsSpot t (AtElement p) w → Answered (EditsAs (replace_done c w content t) new) r
-  replace_element_at h (words.AtElement q) is = subst (λ (x : List ℕ). Answered (EditsAs (replace_done c (words.AtElement x) content t) new) r) is h
+  pub replace_element_at : Answered (EditsAs (replace_result c (words.AtElement p) content t) new) r → (w : words.Location) → IsSpot t (AtElement p) w → Answered (EditsAs (replace_result c w content t) new) r
+  replace_element_at h (words.AtElement q) is = subst (λ (x : List ℕ). Answered (EditsAs (replace_result c (words.AtElement x) content t) new) r) is h
   replace_element_at h (words.AtAttr q f) is = absurd is
   replace_element_at h (words.AtText q j) is = absurd is
 
-  pub replace_attr_at : (i : ℕ) → Answered (EditsAs (value_done p i content t) new) r → (w : words.Location) → IsSpot t (AtAttr p i) w → Answered (EditsAs (replace_done c w content t) new) r
+  pub replace_attr_at : (i : ℕ) → Answered (EditsAs (set_attr_result p i content t) new) r → (w : words.Location) → IsSpot t (AtAttr p i) w → Answered (EditsAs (replace_result c w content t) new) r
   replace_attr_at i h (words.AtElement q) is = absurd is
   replace_attr_at i h (words.AtAttr q f) is =
       let x = some_there (at p t) (λ e. position f e.attrs ≡ Some i) is.1 in edits_same _ _ new r (sym (replaced_by_number c p q f i content t x.0 is.0 x.1 x.2)) h
   replace_attr_at i h (words.AtText q j) is = absurd is
 
-  pub replace_text_at : (i : ℕ) → Answered (EditsAs (replace_done c (words.AtText p i) content t) new) r → (w : words.Location) → IsSpot t (AtText p i) w → Answered (EditsAs (replace_done c w content t) new) r
+  pub replace_text_at : (i : ℕ) → Answered (EditsAs (replace_result c (words.AtText p i) content t) new) r → (w : words.Location) → IsSpot t (AtText p i) w → Answered (EditsAs (replace_result c w content t) new) r
   replace_text_at i h (words.AtElement q) is = absurd is
   replace_text_at i h (words.AtAttr q f) is = absurd is
   replace_text_at i h (words.AtText q j) is =
-      subst (λ (x : List ℕ). Answered (EditsAs (replace_done c (words.AtText x j) content t) new) r) is.0 (subst (λ (n : ℕ). Answered (EditsAs (replace_done c (words.AtText p n) content t) new) r) is.1 h)
+      subst (λ (x : List ℕ). Answered (EditsAs (replace_result c (words.AtText x j) content t) new) r) is.0 (subst (λ (n : ℕ). Answered (EditsAs (replace_result c (words.AtText p n) content t) new) r) is.1 h)
 
 module _ (before after : Bool) (p : List ℕ) (content : Content) (t new : Tree) (r : Result (Unit {0}) (ReadError OperationError)) where
-  pub remove_element_at : Answered (EditsAs (remove_done before after (words.AtElement p) content t) new) r → (w : words.Location) → IsSpot t (AtElement p) w → Answered (EditsAs (remove_done before after w content t) new) r
-  remove_element_at h (words.AtElement q) is = subst (λ (x : List ℕ). Answered (EditsAs (remove_done before after (words.AtElement x) content t) new) r) is h
+  pub remove_element_at : Answered (EditsAs (remove_result before after (words.AtElement p) content t) new) r → (w : words.Location) → IsSpot t (AtElement p) w → Answered (EditsAs (remove_result before after w content t) new) r
+  remove_element_at h (words.AtElement q) is = subst (λ (x : List ℕ). Answered (EditsAs (remove_result before after (words.AtElement x) content t) new) r) is h
   remove_element_at h (words.AtAttr q f) is = absurd is
   remove_element_at h (words.AtText q j) is = absurd is
 
-  pub remove_attr_at : (i : ℕ) → Answered (EditsAs (take_done p i content t) new) r → (w : words.Location) → IsSpot t (AtAttr p i) w → Answered (EditsAs (remove_done before after w content t) new) r
+  pub remove_attr_at : (i : ℕ) → Answered (EditsAs (drop_attr_result p i content t) new) r → (w : words.Location) → IsSpot t (AtAttr p i) w → Answered (EditsAs (remove_result before after w content t) new) r
   remove_attr_at i h (words.AtElement q) is = absurd is
   remove_attr_at i h (words.AtAttr q f) is =
       let x = some_there (at p t) (λ e. position f e.attrs ≡ Some i) is.1 in edits_same _ _ new r (sym (removed_by_number [] p q f i content t x.0 is.0 x.1 x.2 before after)) h
   remove_attr_at i h (words.AtText q j) is = absurd is
 
-  pub remove_text_at : (i : ℕ) → Answered (EditsAs (remove_done before after (words.AtText p i) content t) new) r → (w : words.Location) → IsSpot t (AtText p i) w → Answered (EditsAs (remove_done before after w content t) new) r
+  pub remove_text_at : (i : ℕ) → Answered (EditsAs (remove_result before after (words.AtText p i) content t) new) r → (w : words.Location) → IsSpot t (AtText p i) w → Answered (EditsAs (remove_result before after w content t) new) r
   remove_text_at i h (words.AtElement q) is = absurd is
   remove_text_at i h (words.AtAttr q f) is = absurd is
   remove_text_at i h (words.AtText q j) is =
-      subst (λ (x : List ℕ). Answered (EditsAs (remove_done before after (words.AtText x j) content t) new) r) is.0 (subst (λ (n : ℕ). Answered (EditsAs (remove_done before after (words.AtText p n) content t) new) r) is.1 h)
+      subst (λ (x : List ℕ). Answered (EditsAs (remove_result before after (words.AtText x j) content t) new) r) is.0 (subst (λ (n : ℕ). Answered (EditsAs (remove_result before after (words.AtText p n) content t) new) r) is.1 h)

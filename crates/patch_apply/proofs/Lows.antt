@@ -10,7 +10,7 @@ use Rattle.xml_tree.specs.Tree.{Content, Tree, at, height}
 use Rattle.xml_names.specs.declared.names.Decl.{Decl}
 use Rattle.xml_names.specs.declared.names.Name.{Name}
 use Rattle.node_select.specs.declared.selector.PatchSelector.{PatchSelector}
-use Rattle.patch_rules.specs.PatchOperations.{Directive, NoSpace, Prefix, RootTouched, Unlocated, OperationError, WrongNodes, PatchAction, Put, NewAttr, Replace, Remove, Location, AtElement, AtAttr, AtText, attr_of, cut_element, cut_nodes, apply_action, given, is_bare, is_below, is_bound_type, is_known, locate, made, means_alike, is_off_root, spot_path, plain_value, put_at, rewritten, scope_of_put, sole_element, space_fits, suits, task_of, tested, value_in, with_attrs, within_depth, operation_word}
+use Rattle.patch_rules.specs.PatchOperations.{Directive, NoSpace, Prefix, RootTouched, Unlocated, OperationError, WrongNodes, PatchAction, Put, NewAttr, Replace, Remove, Location, AtElement, AtAttr, AtText, attr_of, cut_element, cut_nodes, apply_action, given, is_bare, is_below, is_bound_type, is_known, locate, checked_tree, means_alike, is_off_root, spot_path, plain_value, put_at, rewritten, scope_of_put, sole_element, space_fits, suits, task_of, tested, value_in, with_attrs, within_depth, operation_word}
 use Rattle.patch_rules.specs.Selectors.{Reading}
 use Rattle.patch_rules.specs.readers.AppliedOperations.{apply_operation, reading_in}
 use Rattle.patch_apply.proofs.Depths.{low_made}
@@ -33,14 +33,14 @@ low_if new false alike x is e = absurd (cc)
 low_if new true false x is e = absurd (cc)
 low_if new true true x is e = let same : new ≡ x = cc in subst Low same is
 
-made_low : (new : Tree) (alike : Bool) (x : Tree) → made new alike ≡ Ok x → Low x
+made_low : (new : Tree) (alike : Bool) (x : Tree) → checked_tree new alike ≡ Ok x → Low x
 made_low new alike x e = low_if new (within_depth new) alike x refl e
 
 -- ---- each patch action
 
 module _ (c : List (List Decl)) (content : Content) (t x : Tree) where
   abbrev attr_made : Name → List ℕ → List ℕ → Result Tree OperationError
-  attr_made name p v = made (change_at p (with_attrs (λ ats. ats ++ attr_of name v ∷ [])) t) (same_expanded (attr_name c name) (attr_name (scope_at p t) name))
+  attr_made name p v = checked_tree (change_at p (with_attrs (λ ats. ats ++ attr_of name v ∷ [])) t) (same_expanded (attr_name c name) (attr_name (scope_at p t) name))
 
   abbrev is_new : Name → List ℕ → Bool
   is_new name p = not (list_any (λ a. same_expanded (attr_name (scope_at p t) a.name) (attr_name c name)) (unwrap_or (option_map (λ e. e.attrs) (at p t)) []))
@@ -51,7 +51,7 @@ module _ (c : List (List Decl)) (content : Content) (t x : Tree) where
       let some = is_some (slice_get (nodes_of content) 0) in
       let new = put_at position p (nodes_of content) t in
       let alike = means_alike c (scope_of_put position p t) content in
-      made_low new alike x (behind_test some WrongNodes (made new alike) x (behind_test (is_off_root position p) RootTouched (tested some WrongNodes (made new alike)) x e))
+      made_low new alike x (behind_test some WrongNodes (checked_tree new alike) x (behind_test (is_off_root position p) RootTouched (tested some WrongNodes (checked_tree new alike)) x e))
   done_low (NewAttr name) location e =
       let p = spot_path location in
       behind_given (value_in content) WrongNodes (λ v. tested (is_new name p) WrongNodes (attr_made name p v)) x
@@ -59,22 +59,22 @@ module _ (c : List (List Decl)) (content : Content) (t x : Tree) where
       e
   done_low Replace (AtElement p) e =
       let alike = means_alike c (scope_around p t) content in
-      behind_given (sole_element content) WrongNodes (λ w. made (put_over p w t) alike) x (λ w h. made_low (put_over p w t) alike x h) e
+      behind_given (sole_element content) WrongNodes (λ w. checked_tree (put_over p w t) alike) x (λ w h. made_low (put_over p w t) alike x h) e
   done_low Replace (AtAttr p f) e =
-      behind_given (value_in content) WrongNodes (λ v. made (change_at p (with_attrs (rewritten f v)) t) true) x (λ v h. made_low (change_at p (with_attrs (rewritten f v)) t) true x h) e
+      behind_given (value_in content) WrongNodes (λ v. checked_tree (change_at p (with_attrs (rewritten f v)) t) true) x (λ v h. made_low (change_at p (with_attrs (rewritten f v)) t) true x h) e
   done_low Replace (AtText p i) e =
-      behind_given (value_in content) WrongNodes (λ v. made (change_at p (exchange_nodes i (suc i) (text_node v)) t) true) x
+      behind_given (value_in content) WrongNodes (λ v. checked_tree (change_at p (exchange_nodes i (suc i) (text_node v)) t) true) x
       (λ v h. made_low (change_at p (exchange_nodes i (suc i) (text_node v)) t) true x h) e
   done_low (Remove before after) (AtElement p) e =
       let new = cut_element before after p t in
-      let spaced = tested (space_fits before after p t) NoSpace (made new true) in
+      let spaced = tested (space_fits before after p t) NoSpace (checked_tree new true) in
       made_low new true x (
-      behind_test (space_fits before after p t) NoSpace (made new true) x (behind_test (is_bare content) WrongNodes spaced x (behind_test (is_below p) RootTouched (tested (is_bare content) WrongNodes spaced) x e))
+      behind_test (space_fits before after p t) NoSpace (checked_tree new true) x (behind_test (is_bare content) WrongNodes spaced x (behind_test (is_below p) RootTouched (tested (is_bare content) WrongNodes spaced) x e))
       )
   done_low (Remove before after) (AtAttr p f) e =
-      let new = change_at p (with_attrs (remove_first f)) t in made_low new true x (behind_test (is_bare content) WrongNodes (made new true) x e)
+      let new = change_at p (with_attrs (remove_first f)) t in made_low new true x (behind_test (is_bare content) WrongNodes (checked_tree new true) x e)
   done_low (Remove before after) (AtText p i) e =
-      let new = cut_nodes p i (suc i) t in made_low new true x (behind_test (is_bare content) WrongNodes (made new true) x e)
+      let new = cut_nodes p i (suc i) t in made_low new true x (behind_test (is_bare content) WrongNodes (checked_tree new true) x e)
 
 -- ---- a whole operation
 

@@ -8,12 +8,11 @@ use Rattle.xml_tree.specs.Tree.{Tree}
 use Rattle.xml_names.specs.declared.names.Attr.{Attr}
 use Rattle.xml_names.specs.declared.names.Decl.{Decl}
 use Rattle.node_select.specs.declared.selector.PatchSelector.{PatchSelector}
-use Rattle.patch_rules.specs.PatchOperations.{OperationError, Directive, Prefix, Unlocated, PatchAction, apply_action, given, is_bound_type, is_known, locate, plain_value, suits, tested}
-use Rattle.patch_rules.specs.readers.AppliedOperations.{apply_operation, reading_in}
+use Rattle.patch_rules.specs.PatchOperations.{OperationError, Directive, Prefix, Unlocated, PatchAction, apply_action, given, is_bound_type, is_known, locate, plain_value, suits, tested, locate_and_apply, operation_action, apply_by_reading}
+use Rattle.patch_rules.specs.readers.AppliedOperations.{apply_operation, reading_in, apply_selected}
 use Rattle.patch_parse.specs.Views.{IsGiven}
 use Rattle.patch_apply.specs.inner.Results.{EditsAs}
-use Rattle.patch_parse.specs.Operations.{selector_tested, task_said}
-use Rattle.patch_apply.specs.inner.Stages.{locate_and_apply, said_done, task_done}
+use Rattle.patch_parse.specs.Operations.{selector_tested}
 use Rattle.patch_parse.specs.Views.{wrong_in}
 use Rattle.patch_parse.specs.declared.operation_error.OperationError.{OperationError as CodeWrong}
 
@@ -54,27 +53,30 @@ module _ {F S A : Type 0} (mean : F → Option S) (k : S → Result A OperationE
 
 module _ (here : List (List Decl)) (sel : List ℕ) (o t : Tree) where
   abbrev next : PatchAction → PatchSelector → Result Tree OperationError
-  next task s = given (locate s t) Unlocated (λ location. apply_action here task location o.content t)
+  next task s = locate_and_apply here task s o.content t
+
+  abbrev with_action : PatchAction → Result Tree OperationError
+  with_action task = given (reading_in sel) Directive (λ reading. apply_by_reading here task reading o.content t)
 
   -- without a patch action
-  pub said_nothing : task_said o.name o.attrs ≡ None → said_done here sel o t ≡ Err Directive
-  said_nothing e = ap (λ (x : Option PatchAction). given x Directive (λ task. task_done here sel task o.content t)) e
+  pub said_nothing : operation_action o.name o.attrs ≡ None → apply_selected here sel o t ≡ Err Directive
+  said_nothing e = ap (λ (x : Option PatchAction). given x Directive with_action) e
 
-  said_some : (task : PatchAction) → task_said o.name o.attrs ≡ Some task → said_done here sel o t ≡ task_done here sel task o.content t
-  said_some task e = ap (λ (x : Option PatchAction). given x Directive (λ y. task_done here sel y o.content t)) e
+  said_some : (task : PatchAction) → operation_action o.name o.attrs ≡ Some task → apply_selected here sel o t ≡ with_action task
+  said_some task e = ap (λ (x : Option PatchAction). given x Directive with_action) e
 
   -- with a selector that is refused
-  pub said_refused : (task : PatchAction) (w : OperationError) → task_said o.name o.attrs ≡ Some task → selector_tested here sel task ≡ Err w → said_done here sel o t ≡ Err w
+  pub said_refused : (task : PatchAction) (w : OperationError) → operation_action o.name o.attrs ≡ Some task → selector_tested here sel task ≡ Err w → apply_selected here sel o t ≡ Err w
   said_refused task w e refused =
       said_some task e ∙ ends (λ r. r.means here) (next task) (reading_in sel) (λ r. suits task r.ends) (is_bound_type here task) w refused
 
   -- with a selector that is accepted
-  pub said_next : (task : PatchAction) (s : PatchSelector) → task_said o.name o.attrs ≡ Some task → selector_tested here sel task ≡ Ok s → said_done here sel o t ≡ locate_and_apply here task s o.content t
+  pub said_next : (task : PatchAction) (s : PatchSelector) → operation_action o.name o.attrs ≡ Some task → selector_tested here sel task ≡ Ok s → apply_selected here sel o t ≡ locate_and_apply here task s o.content t
   said_next task s e tests = said_some task e ∙ goes_on (λ r. r.means here) (next task) (reading_in sel) (λ r. suits task r.ends) (is_bound_type here task) s tests
 
   -- a call that refuses the selector refuses the operation
-  pub said_error : (task : PatchAction) (error : ReadError CodeWrong) (new : Tree) → task_said o.name o.attrs ≡ Some task → Answered (IsGiven {X = PatchSelector} (selector_tested here sel task)) (Err error)
-      → Answered (EditsAs (said_done here sel o t) new) (Err error)
+  pub said_error : (task : PatchAction) (error : ReadError CodeWrong) (new : Tree) → operation_action o.name o.attrs ≡ Some task → Answered (IsGiven {X = PatchSelector} (selector_tested here sel task)) (Err error)
+      → Answered (EditsAs (apply_selected here sel o t) new) (Err error)
   said_error task (Fault wrong) new e h = said_refused task (wrong_in wrong) e h
   said_error task NoMemory new e h = tt
 
@@ -82,13 +84,13 @@ module _ (here : List (List Decl)) (sel : List ℕ) (o t : Tree) where
 
 module _ (c : List (List Decl)) (o t : Tree) where
   abbrev rest : List ℕ → Result Tree OperationError
-  rest sel = tested (list_all is_known o.attrs) Directive (said_done (c ++ o.decls ∷ []) sel o t)
+  rest sel = tested (list_all is_known o.attrs) Directive (apply_selected (c ++ o.decls ∷ []) sel o t)
 
   pub without_selector : plain_value (codes "sel") o.attrs ≡ None → apply_operation c o t ≡ Err Directive
   without_selector e = ap (λ (x : Option (List ℕ)). given x Directive rest) e
 
   pub unknown_attrs : (sel : List ℕ) → plain_value (codes "sel") o.attrs ≡ Some sel → list_all is_known o.attrs ≡ false → apply_operation c o t ≡ Err Directive
-  unknown_attrs sel e unknown = ap (λ (x : Option (List ℕ)). given x Directive rest) e ∙ ap (λ b. tested b Directive (said_done (c ++ o.decls ∷ []) sel o t)) unknown
+  unknown_attrs sel e unknown = ap (λ (x : Option (List ℕ)). given x Directive rest) e ∙ ap (λ b. tested b Directive (apply_selected (c ++ o.decls ∷ []) sel o t)) unknown
 
-  pub known_attrs : (sel : List ℕ) → plain_value (codes "sel") o.attrs ≡ Some sel → list_all is_known o.attrs ≡ true → apply_operation c o t ≡ said_done (c ++ o.decls ∷ []) sel o t
-  known_attrs sel e known = ap (λ (x : Option (List ℕ)). given x Directive rest) e ∙ ap (λ b. tested b Directive (said_done (c ++ o.decls ∷ []) sel o t)) known
+  pub known_attrs : (sel : List ℕ) → plain_value (codes "sel") o.attrs ≡ Some sel → list_all is_known o.attrs ≡ true → apply_operation c o t ≡ apply_selected (c ++ o.decls ∷ []) sel o t
+  known_attrs sel e known = ap (λ (x : Option (List ℕ)). given x Directive rest) e ∙ ap (λ b. tested b Directive (apply_selected (c ++ o.decls ∷ []) sel o t)) known

@@ -8,9 +8,9 @@ use Rattle.patch_rules.specs.Replay as replay
 use Rattle.patch_rules.specs.Replay.{CopyAnswer, ReplicaContents, Patched, Removed, WrongDocument, copy_answer, documents, is_all_mine, then_next}
 use Rattle.patch_rules.specs.readers.AppliedOperations.{reading_in}
 use Rattle.patch_rules.specs.readers.Replay.{all_taken, replayed}
-use Rattle.patch_rules.specs.ReplayLaws.{HoldsSound}
-use Rattle.patch_rules.proofs.OnwardNotices.{replayed_sound}
-use Rattle.patch_rules.proofs.Outcomes.{replays}
+use Rattle.patch_laws.specs.ReplayLaws.{HoldsSound}
+use Rattle.patch_laws.proofs.OnwardNotices.{replayed_sound}
+use Rattle.patch_laws.proofs.Outcomes.{replays}
 use Rattle.patch_apply.specs.ApplyAnswers.{Applies}
 use Rattle.patch_apply.specs.inner.Results.{AppliesAs}
 use Rattle.patch_apply.specs.Views.{answer_in}

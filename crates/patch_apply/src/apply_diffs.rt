@@ -10,7 +10,7 @@ ghost use Rattle.patch_rules.specs.Replay.{Patched, Removed, is_all_mine, last_n
 ghost use Rattle.patch_rules.specs.Replay.{operation_count};
 ghost use Rattle.patch_rules.specs.readers.Replay.{all_taken, replayed, document_taken};
 ghost use Rattle.patch_rules.specs.Replay as words;
-ghost use Rattle.patch_rules.specs.ReplayLaws.{HoldsSound};
+ghost use Rattle.patch_laws.specs.ReplayLaws.{HoldsSound};
 ghost use Rattle.patch_apply.specs.ApplyAnswers.{Applies};
 ghost use Rattle.patch_apply.specs.inner.Results.{AppliesAs, AreGiven};
 ghost use Rattle.patch_apply.specs.declared.document_outcomes.DocumentOutcome.{

@@ -10,11 +10,11 @@ ghost use Rattle.xml_tree.specs.Nodes.{nodes_of, text_node};
 ghost use Rattle.xml_tree.specs.TreeScopes.{scope_at};
 ghost use Rattle.xml_tree.specs.Tree.{at, height};
 ghost use Rattle.xml_names.specs.declared.names.Decl.{Decl};
-ghost use Rattle.patch_rules.specs.PatchOperations.{attr_done, remove_done, replace_done};
-ghost use Rattle.patch_rules.specs.PatchOperations.{with_attrs};
+ghost use Rattle.patch_rules.specs.PatchOperations.{new_attr_result, remove_result, replace_result};
+ghost use Rattle.patch_rules.specs.PatchOperations.{with_attrs, has_attr_named};
 ghost use Rattle.patch_rules.specs.PatchOperations as spots;
 ghost use Rattle.patch_apply.specs.inner.Results.{EditsAs};
-ghost use Rattle.patch_apply.specs.inner.Stages.{is_there_already, take_done, value_done};
+ghost use Rattle.patch_apply.specs.inner.Stages.{drop_attr_result, set_attr_result};
 
 use crate::edits::exchange_one;
 use patch_parse::{OperationError, attr_alike, has_attr, is_bare, value_in};
@@ -78,7 +78,7 @@ fn take_at(tree: &mut Element, path: &Path, place: usize)
 // Whether the element at a path has the attribute that a name means.
 fn has_attr_at(here: &Scope<'_>, name: &Name, path: &Path, tree: &Element) -> bool
     requires { IsSome (at path.now tree.now) }
-    ensures exact { result ≡ is_there_already here.now name.now path.now tree.now }
+    ensures exact { result ≡ has_attr_named here.now name.now path.now tree.now }
 {
     let Some(element) = element_at(tree, path) else {
         unreachable!()
@@ -114,7 +114,7 @@ pub(crate) fn add_attr(
     requires place_exists { IsSome (at path.now tree.old) }
     requires height_bounded { height tree.old ≤ max_levels }
     ensures as_specified { Answered
-        (EditsAs (attr_done here.now name path.now operation.now.content tree.old) tree.new)
+        (EditsAs (new_attr_result here.now name path.now operation.now.content tree.old) tree.new)
         result }
 {
     let found = value_in(alloc, operation)?;
@@ -142,7 +142,7 @@ pub(crate) fn replace_attr(
     requires place_exists { IsSomeAnd (at path.now tree.old) (λ e. place < length e.attrs) }
     requires height_bounded { height tree.old ≤ max_levels }
     ensures as_specified { Answered
-        (EditsAs (value_done path.now place operation.now.content tree.old) tree.new) result }
+        (EditsAs (set_attr_result path.now place operation.now.content tree.old) tree.new) result }
 {
     let found = value_in(alloc, operation)?;
     let Some(value) = found else {
@@ -162,7 +162,7 @@ pub(crate) fn remove_attr(
     requires place_exists { IsSomeAnd (at path.now tree.old) (λ e. place < length e.attrs) }
     requires height_bounded { height tree.old ≤ max_levels }
     ensures as_specified { Answered
-        (EditsAs (take_done path.now place operation.now.content tree.old) tree.new) result }
+        (EditsAs (drop_attr_result path.now place operation.now.content tree.old) tree.new) result }
 {
     if !is_bare(operation) {
         return Err(ReadError::Fault(OperationError::WrongNodes));
@@ -194,7 +194,7 @@ pub(crate) fn replace_text(
         (λ e. place < length (nodes_of e.content)) }
     requires height_bounded { height tree.old ≤ max_levels }
     ensures as_specified { (c : List (List Decl))
-        → Answered (EditsAs (replace_done c
+        → Answered (EditsAs (replace_result c
         (spots.AtText path.now place) operation.now.content tree.old) tree.new) result }
 {
     let found = value_in(alloc, operation)?;
@@ -218,7 +218,7 @@ pub(crate) fn remove_text(
         (λ e. place < length (nodes_of e.content)) }
     requires height_bounded { height tree.old ≤ max_levels }
     ensures as_specified { (before after : Bool)
-        → Answered (EditsAs (remove_done before after
+        → Answered (EditsAs (remove_result before after
         (spots.AtText path.now place) operation.now.content tree.old) tree.new) result }
 {
     if !is_bare(operation) {

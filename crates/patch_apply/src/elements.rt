@@ -5,11 +5,11 @@ ghost use Rattle.xml_names.specs.Memory.{Answered};
 ghost use Rattle.xml_names.specs.Limits.{max_levels};
 ghost use Rattle.xml_tree.specs.Nodes.{nodes_of};
 ghost use Rattle.xml_tree.specs.Tree.{at, height};
-ghost use Rattle.patch_rules.specs.PatchOperations.{cut_nodes, is_space_at, nodes_at, put_done};
-ghost use Rattle.patch_rules.specs.PatchOperations.{remove_done, replace_done, space_before};
+ghost use Rattle.patch_rules.specs.PatchOperations.{cut_nodes, is_space_at, nodes_at, put_result};
+ghost use Rattle.patch_rules.specs.PatchOperations.{remove_result, replace_result, space_before};
 ghost use Rattle.patch_rules.specs.PatchOperations as spots;
 ghost use Rattle.patch_apply.specs.inner.Results.{EditsAs};
-ghost use Rattle.patch_apply.specs.inner.Stages.{gap_done, has_space_beside};
+ghost use Rattle.patch_apply.specs.inner.Stages.{insert_result, has_space_beside};
 ghost use Rattle.patch_parse.specs.Views.{position_in};
 
 use crate::edits::{
@@ -44,7 +44,7 @@ pub(crate) fn put_content(
     requires place_exists { IsSome (at path tree.old) }
     requires height_bounded { height tree.old ≤ max_levels }
     ensures as_specified { Answered
-        (EditsAs (put_done here.now (position_in position) path operation.now.content tree.old)
+        (EditsAs (put_result here.now (position_in position) path operation.now.content tree.old)
         tree.new) result }
 {
     if !is_off_root(position, &path) {
@@ -70,7 +70,7 @@ fn put_in_gap(
         (λ e. gap.now.place ≤ length (nodes_of e.content)) }
     requires height_bounded { height tree.old ≤ max_levels }
     ensures as_specified { Answered
-        (EditsAs (gap_done here.now gap.now.path gap.now.place operation.now.content tree.old)
+        (EditsAs (insert_result here.now gap.now.path gap.now.place operation.now.content tree.old)
         tree.new) result }
 {
     let nodes = operation.nodes();
@@ -96,7 +96,7 @@ pub(crate) fn replace_element(
     requires place_exists { IsSome (at path.now tree.old) }
     requires height_bounded { height tree.old ≤ max_levels }
     ensures as_specified { Answered
-        (EditsAs (replace_done here.now (spots.AtElement path.now) operation.now.content tree.old)
+        (EditsAs (replace_result here.now (spots.AtElement path.now) operation.now.content tree.old)
         tree.new) result }
 {
     let Some(new) = sole_element(operation) else {
@@ -191,7 +191,7 @@ pub(crate) fn remove_element(
     requires place_exists { IsSome (at path.now tree.old) }
     requires height_bounded { height tree.old ≤ max_levels }
     ensures as_specified { Answered
-        (EditsAs (remove_done before after (spots.AtElement path.now) operation.now.content
+        (EditsAs (remove_result before after (spots.AtElement path.now) operation.now.content
         tree.old) tree.new) result }
 {
     if !is_below(path) {

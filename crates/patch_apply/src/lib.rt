@@ -1,5 +1,4 @@
-//! Applies diff documents: a text is read as a diff document, and the diff document is applied to
-//! a replica of its document.
+//! Reads a text as a diff document, and applies it to a replica of its document.
 //! Promises upward that the answer, or the first fault with its number, is the one that
 //! `patch_rules` specifies, whoever wrote the diff document (`apply_notice`, by `Applies`), that a
 //! text is read exactly where it is a diff document (`read_notice`, by `NoticeAnswer`), and that

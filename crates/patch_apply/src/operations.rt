@@ -4,12 +4,12 @@ ghost use Rattle.xml_names.specs.Memory.{Answered};
 ghost use Rattle.xml_tree.specs.declared.scope.TheConstants.{SCOPE_LIMIT};
 ghost use Rattle.xml_names.specs.Limits.{max_levels};
 ghost use Rattle.xml_tree.specs.Tree.{height};
-ghost use Rattle.patch_rules.specs.PatchOperations.{remove_done, replace_done};
-ghost use Rattle.patch_rules.specs.readers.AppliedOperations.{apply_operation};
+ghost use Rattle.patch_rules.specs.PatchOperations.{remove_result, replace_result};
+ghost use Rattle.patch_rules.specs.PatchOperations.{locate_and_apply};
+ghost use Rattle.patch_rules.specs.readers.AppliedOperations.{apply_operation, apply_selected};
 ghost use Rattle.patch_rules.specs.PatchOperations as words;
 ghost use Rattle.patch_apply.specs.inner.Results.{EditsAs};
 ghost use Rattle.patch_apply.specs.inner.LocationViews.{IsSpot, IsThere};
-ghost use Rattle.patch_apply.specs.inner.Stages.{locate_and_apply, said_done};
 ghost use Rattle.patch_parse.specs.Views.{task_in};
 
 use crate::attributes::{add_attr, remove_attr, remove_text, replace_attr, replace_text};
@@ -34,7 +34,7 @@ fn replace(
     requires place_exists { IsThere tree.old location }
     requires height_bounded { height tree.old ≤ max_levels }
     ensures as_specified { (w : words.Location) → IsSpot tree.old location w
-        → Answered (EditsAs (replace_done here.now w operation.now.content tree.old) tree.new)
+        → Answered (EditsAs (replace_result here.now w operation.now.content tree.old) tree.new)
         result }
 {
     match location {
@@ -56,7 +56,7 @@ fn remove(
     requires place_exists { IsThere tree.old location }
     requires height_bounded { height tree.old ≤ max_levels }
     ensures as_specified { (w : words.Location) → IsSpot tree.old location w
-        → Answered (EditsAs (remove_done before after w operation.now.content tree.old) tree.new)
+        → Answered (EditsAs (remove_result before after w operation.now.content tree.old) tree.new)
         result }
 {
     match location {
@@ -135,7 +135,7 @@ fn apply_selected(
 ) -> Result<(), ReadError<OperationError>>
     requires height_bounded { height tree.old ≤ max_levels }
     ensures as_specified { Answered
-        (EditsAs (said_done here.now sel.now operation.now tree.old) tree.new) result }
+        (EditsAs (apply_selected here.now sel.now operation.now tree.old) tree.new) result }
 {
     let meant = task_of_operation(alloc, operation.name(), operation.attrs())?;
     let Some(task) = meant else {

@@ -1,5 +1,4 @@
-//! Reads diff documents: their form, and the parts of their operations, which are names, patch
-//! actions, selectors and contents.
+//! Reads diff documents: their form, and the names, patch actions, selectors and contents in them.
 //! Promises upward that each part is the one that `patch_rules` specifies, or refused with the
 //! error that it specifies, and that names are compared by what they mean in their scopes.
 //! The standards are RFC 5874 (xcap-diff) and RFC 5261 (patch operations).

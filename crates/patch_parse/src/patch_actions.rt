@@ -5,7 +5,7 @@ ghost use Rattle.std.specs.Option.{option_copied};
 ghost use Rattle.patch_rules.specs.PatchOperations.{adding, cutting, name_cut, no_declaration};
 ghost use Rattle.patch_rules.specs.PatchOperations.{add_position, name_of_text, white_space_of};
 ghost use Rattle.patch_rules.specs.PatchOperations.{task_of, type_of, with_prefix, operation_word};
-ghost use Rattle.patch_parse.specs.Operations.{task_said};
+ghost use Rattle.patch_rules.specs.PatchOperations.{operation_action};
 ghost use Rattle.patch_parse.specs.Views.{position_in, task_in};
 ghost use Rattle.patch_parse.specs.inner.DiffNames.{word_in};
 
@@ -254,7 +254,8 @@ pub fn task_of_operation(
     name: &Name,
     attrs: &[Attr],
 ) -> Result<Option<PatchAction>, AllocError>
-    ensures ok { IfOk result (λ task. option_map task_in task ≡ task_said name.now attrs.now) }
+    ensures ok { IfOk result
+        (λ task. option_map task_in task ≡ operation_action name.now attrs.now) }
 {
     let Some(word) = word_of(&name.local) else {
         return Ok(None);

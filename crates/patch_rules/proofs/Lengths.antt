@@ -1,9 +1,11 @@
 -- An element has fewer children than the print of a tree around it has bytes.
-use Rattle.std.proofs.Common.{◌≡◌, ℕ, zero, suc, ◌+◌, ◌≤◌, Bool, true, false, List, [], ◌∷◌, ◌++◌, length, Option, Some, None, option_and_then, slice_get, refl, ap, ◌∙◌, arith}
+use Rattle.std.proofs.Common.{◌≡◌, ℕ, zero, suc, ◌+◌, ◌<◌, ◌≤◌, Bool, true, false, List, [], ◌∷◌, ◌++◌, length, Option, Some, None, IsSome, option_and_then, slice_get, refl, ap, ◌∙◌, arith}
+use Rattle.std.specs.List.{AllByRecursion}
 use Rattle.xml_names.specs.Markup.{byte_len, closing, opening, print_text, print_comment}
 use Rattle.xml_tree.specs.Print.{ending, is_empty, print, print_content}
 use Rattle.xml_tree.specs.Tree.{Content, last, more, comment_node, Tree, tree_of, at, child_elements, child_elements_of}
 use Rattle.xml_names.proofs.PrintLengths.{byte_len-append, byte_len-opening}
+use Rattle.node_select.specs.Grammar.{greatest_position}
 
 -- no element has more children than there are positions
 abbrev pub HasPositions : Tree → Type 0
@@ -61,3 +63,20 @@ pub HasPositions-short : (t : Tree) → byte_len (print t) ≤ 4294967295 → Ha
 HasPositions-short t short p e there =
     let fewer = inside_shorter (length (child_elements_of e)) (is_empty e.content) e refl (few_kids e.content) in
     omega (arith, fewer, place_shorter p t e there)
+
+-- ---- the numbers of paths
+
+within : {A : Type 0} (xs : List A) (n : ℕ) (x : A) → slice_get xs n ≡ Some x → n < length xs
+within [] n x h = cc
+within (y ∷ xs) zero x h = omega arith
+within (y ∷ xs) (suc n) x h = omega (arith, within xs n x h)
+
+child_of : (o : Option Tree) (p : List ℕ) → IsSome (option_and_then (at p) o) → (k : Tree) × (o ≡ Some k) × IsSome (at p k)
+child_of None p h = cc
+child_of (Some k) p h = (k, refl, h)
+
+pub path_positions : (p : List ℕ) (t : Tree) → HasPositions t → IsSome (at p t) → AllByRecursion (λ m. m < greatest_position) p
+path_positions [] t h there = tt
+path_positions (n ∷ p) t h there =
+    let k = child_of (slice_get (child_elements_of t) n) p there in
+    (omega (arith, within (child_elements_of t) n k.0 k.1, h [] t refl), path_positions p k.0 (λ q e is. h (n ∷ q) e (ap (option_and_then (at q)) k.1 ∙ is)) k.2)

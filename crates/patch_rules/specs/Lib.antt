@@ -1,9 +1,6 @@
 pub mod Notices
 pub mod PatchOperations
-pub mod Premises
 pub mod Replay
-pub mod ReplayLaws
-pub mod SelectedNodes
 pub mod Selectors
 pub mod inner
 pub mod readers

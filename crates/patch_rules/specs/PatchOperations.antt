@@ -318,47 +318,58 @@ is_below [] = false
 is_below (n ∷ p) = true
 
 -- the new tree, once it isn't too deep and the names mean the same in the scope of their place
-abbrev pub made : Tree → Bool → Result Tree OperationError
-made new alike = tested (within_depth new) WrongNodes (tested alike Prefix (Ok new))
+abbrev pub checked_tree : Tree → Bool → Result Tree OperationError
+checked_tree new alike = tested (within_depth new) WrongNodes (tested alike Prefix (Ok new))
 
-abbrev pub put_done : List (List Decl) → Position → List ℕ → Content → Tree
+abbrev pub put_result : List (List Decl) → Position → List ℕ → Content → Tree
     → Result Tree OperationError
-put_done c position p content t =
+put_result c position p content t =
     tested (is_off_root position p) RootTouched
     (tested (is_some (slice_get (nodes_of content) 0)) WrongNodes
-    (made (put_at position p (nodes_of content) t)
+    (checked_tree (put_at position p (nodes_of content) t)
     (means_alike c (scope_of_put position p t) content)))
 
-abbrev pub attr_done : List (List Decl) → Name → List ℕ → Content → Tree
+-- whether the element at a path has an attribute of the expanded name that a name has in a scope
+abbrev pub has_attr_named : List (List Decl) → Name → List ℕ → Tree → Bool
+has_attr_named c name p t =
+    list_any (λ a. same_expanded (attr_name (scope_at p t) a.name) (attr_name c name))
+    (unwrap_or (option_map (λ e. e.attrs) (at p t)) [])
+
+-- an attribute put after the others of the element at a path
+abbrev pub add_attr_at : List ℕ → Name → List ℕ → Tree → Tree
+add_attr_at p name value = change_at p (with_attrs (λ ats. ats ++ attr_of name value ∷ []))
+
+abbrev pub new_attr_result : List (List Decl) → Name → List ℕ → Content → Tree
     → Result Tree OperationError
-attr_done c name p content t =
-    given (value_in content) WrongNodes (λ v.
-    tested (not (list_any (λ a. same_expanded (attr_name (scope_at p t) a.name) (attr_name c name))
-    (unwrap_or (option_map (λ e. e.attrs) (at p t)) [])))
-    WrongNodes
-    (made (change_at p (with_attrs (λ ats. ats ++ attr_of name v ∷ [])) t)
+new_attr_result c name p content t =
+    given (value_in content) WrongNodes (λ value.
+    tested (not (has_attr_named c name p t)) WrongNodes
+    (checked_tree (add_attr_at p name value t)
     (same_expanded (attr_name c name) (attr_name (scope_at p t) name))))
 
-abbrev pub replace_done : List (List Decl) → Location → Content → Tree → Result Tree OperationError
-replace_done c (AtElement p) content t =
+abbrev pub replace_result : List (List Decl) → Location → Content → Tree
+    → Result Tree OperationError
+replace_result c (AtElement p) content t =
     given (sole_element content) WrongNodes (λ e.
-    made (put_over p e t) (means_alike c (scope_around p t) content))
-replace_done c (AtAttr p f) content t =
+    checked_tree (put_over p e t) (means_alike c (scope_around p t) content))
+replace_result c (AtAttr p f) content t =
     given (value_in content) WrongNodes (λ v.
-    made (change_at p (with_attrs (rewritten f v)) t) true)
-replace_done c (AtText p i) content t =
+    checked_tree (change_at p (with_attrs (rewritten f v)) t) true)
+replace_result c (AtText p i) content t =
     given (value_in content) WrongNodes (λ v.
-    made (change_at p (exchange_nodes i (suc i) (text_node v)) t) true)
+    checked_tree (change_at p (exchange_nodes i (suc i) (text_node v)) t) true)
 
-abbrev pub remove_done : Bool → Bool → Location → Content → Tree → Result Tree OperationError
-remove_done before after (AtElement p) content t =
+abbrev pub remove_result : Bool → Bool → Location → Content → Tree → Result Tree OperationError
+remove_result before after (AtElement p) content t =
     tested (is_below p) RootTouched
     (tested (is_bare content) WrongNodes
-    (tested (space_fits before after p t) NoSpace (made (cut_element before after p t) true)))
-remove_done before after (AtAttr p f) content t =
-    tested (is_bare content) WrongNodes (made (change_at p (with_attrs (remove_first f)) t) true)
-remove_done before after (AtText p i) content t =
-    tested (is_bare content) WrongNodes (made (cut_nodes p i (suc i) t) true)
+    (tested (space_fits before after p t) NoSpace
+    (checked_tree (cut_element before after p t) true)))
+remove_result before after (AtAttr p f) content t =
+    tested (is_bare content) WrongNodes
+    (checked_tree (change_at p (with_attrs (remove_first f)) t) true)
+remove_result before after (AtText p i) content t =
+    tested (is_bare content) WrongNodes (checked_tree (cut_nodes p i (suc i) t) true)
 
 -- the path of the selected element, or of the element that has the selected attribute or text
 abbrev pub spot_path : Location → List ℕ
@@ -369,11 +380,12 @@ spot_path (AtText p i) = p
 abbrev pub apply_action : List (List Decl) → PatchAction → Location → Content → Tree
     → Result Tree OperationError
 apply_action c (Put position) location content t =
-    put_done c position (spot_path location) content t
-apply_action c (NewAttr name) location content t = attr_done c name (spot_path location) content t
-apply_action c Replace location content t = replace_done c location content t
+    put_result c position (spot_path location) content t
+apply_action c (NewAttr name) location content t =
+    new_attr_result c name (spot_path location) content t
+apply_action c Replace location content t = replace_result c location content t
 apply_action c (Remove before after) location content t =
-    remove_done before after location content t
+    remove_result before after location content t
 
 -- ---- the whole operation
 
@@ -383,22 +395,39 @@ is_bound_type c (NewAttr name) =
     bytes_eq name.prefix [] || is_some (prefix_uri (bindings_in c) name.prefix)
 is_bound_type c _ = true
 
--- an operation in the scope c: the tree after it, or the first thing that is wrong with it; `read`
--- gives the meaning of its selector
+-- the action, by the name and the attributes of an operation
+abbrev pub operation_action : Name → List Attr → Option PatchAction
+operation_action name attrs =
+    option_and_then (λ w.
+    task_of w (plain_value (codes "pos") attrs) (plain_value (codes "type") attrs)
+    (plain_value (codes "ws") attrs))
+    (operation_word name.local)
+
+-- an action at the location that its selector selects
+abbrev pub locate_and_apply : List (List Decl) → PatchAction → PatchSelector → Content → Tree
+    → Result Tree OperationError
+locate_and_apply here task selector content t =
+    given (locate selector t) Unlocated (λ location. apply_action here task location content t)
+
+-- an action with a selector as it is read: its end suits the action, and the prefixes of its names
+-- are bound
+abbrev pub apply_by_reading : List (List Decl) → PatchAction → Reading → Content → Tree
+    → Result Tree OperationError
+apply_by_reading here task reading content t =
+    tested (suits task reading.ends) Directive
+    (given (reading.means here) Prefix (λ selector.
+    tested (is_bound_type here task) Prefix (locate_and_apply here task selector content t)))
+
+-- an operation that has a selector, in the scope at it; `read` gives the meaning of a selector
+abbrev pub apply_selected : (List ℕ → Option Reading) → List (List Decl) → List ℕ → Tree → Tree
+    → Result Tree OperationError
+apply_selected read here sel o t =
+    given (operation_action o.name o.attrs) Directive (λ task.
+    given (read sel) Directive (λ reading. apply_by_reading here task reading o.content t))
+
+-- an operation in the scope c: the tree after it, or the first thing that is wrong with it
 abbrev pub apply_operation : (List ℕ → Option Reading) → List (List Decl) → Tree → Tree
     → Result Tree OperationError
 apply_operation read c o t =
-    let here = c ++ o.decls ∷ [] in
-    let action = option_and_then (λ w.
-    task_of w (plain_value (codes "pos") o.attrs) (plain_value (codes "type") o.attrs)
-    (plain_value (codes "ws") o.attrs))
-    (operation_word o.name.local) in
     given (plain_value (codes "sel") o.attrs) Directive (λ sel.
-    tested (list_all is_known o.attrs) Directive
-    (given action Directive (λ task.
-    given (read sel) Directive (λ selector.
-    tested (suits task selector.ends) Directive
-    (given (selector.means here) Prefix (λ s.
-    tested (is_bound_type here task) Prefix
-    (given (locate s t) Unlocated (λ location.
-    apply_action here task location o.content t))))))))
+    tested (list_all is_known o.attrs) Directive (apply_selected read (c ++ o.decls ∷ []) sel o t))

@@ -22,7 +22,7 @@ use doc_names::{DocId, print_doc_id};
 use edit_ops::{EditNote, Notes};
 use patch_rules::{element_of, empty_notice, push_plain};
 use std::alloc::{AllocError, Global};
-use tree_text::print_document;
+use tree_print::print_document;
 use xcap_io::Bytes;
 use xcap_uri::{Mode, Root};
 use xml_names::{Prefix, Text};

@@ -1,6 +1,6 @@
 -- What has a text is what a selector finds.
 use Rattle.std.proofs.Common.{◌≡◌, ℕ, Bool, true, false, cond, ◌||◌, List, [], ◌∷◌, Option, Some, None, IsSome, is_some, refl, sym, ap, ◌∙◌, option_map}
-use Rattle.tree_text.specs.AttributeBodyPrints.{body_print}
+use Rattle.tree_print.specs.AttributeBodyPrints.{body_print}
 use Rattle.std.specs.List.{find, list_any}
 use Rattle.std.specs.Option.{option_and_then}
 use Rattle.xml_tree.specs.Tree.{Tree, at}

@@ -6,7 +6,7 @@ use Rattle.xml_names.specs.Scopes.{bindings_in}
 use Rattle.xml_tree.specs.TreeScopes.{scope_at}
 use Rattle.xml_tree.specs.Print.{print}
 use Rattle.xml_names.specs.declared.names.Decl.{Decl}
-use Rattle.tree_text.specs.AttributeBodyPrints.{body_print}
+use Rattle.tree_print.specs.AttributeBodyPrints.{body_print}
 use Rattle.node_select.specs.Selection.{selected_in, is_attr}
 use Rattle.node_select.specs.declared.selector.End.{End}
 use Rattle.node_select.specs.declared.selector.End.TheVariants.{Element, Attribute, Namespaces}

@@ -1,7 +1,7 @@
-//! Bodies of replies: the error document of a 409 (`error_document`), the text of the node that a
-//! selector finds (`found_text`), and whether a node that is put has a place (`has_place`).
-//! Upward: an error document has exactly the bytes `conflict_bytes`, exactly the nodes that a
-//! selector finds have a text (`texts_are_those_of_found_nodes`), and below the root an element
+//! Bodies of replies: the error document of a 409, and the text of the node that a selector finds.
+//! They are `error_document` and `found_text`; `has_place` says whether a node that is put has a
+//! place. Upward: an error document has exactly the bytes `conflict_bytes`, exactly the nodes that
+//! a selector finds have a text (`texts_are_those_of_found_nodes`), and below the root an element
 //! has a place exactly where its parent exists. The standard is RFC 4825, sections 6 to 8, 10 and
 //! 11.
 //! `alt-value` and `phrase` are not written. `namespace::*` lists the default namespace first,

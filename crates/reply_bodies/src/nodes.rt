@@ -6,14 +6,14 @@ ghost use Rattle.xml_names.specs.Limits.{max_levels};
 ghost use Rattle.xml_tree.specs.Print.{print};
 ghost use Rattle.xml_names.specs.Scopes.{bindings_in};
 ghost use Rattle.xml_tree.specs.Tree.{at, height, last, tree_of};
-ghost use Rattle.tree_text.specs.AttributeBodyPrints.{body_print};
+ghost use Rattle.tree_print.specs.AttributeBodyPrints.{body_print};
 ghost use Rattle.node_select.specs.Selection.{is_attr};
 ghost use Rattle.reply_bodies.specs.Nodes.{encoded, found_text, node_media, node_text, text_at};
 
 use node_select::{End, Selector, find_attr, select};
 use reply_text::MediaType;
 use std::alloc::Global;
-use tree_text::{print_att_value, print_element};
+use tree_print::{print_att_value, print_element};
 use xcap_io::Bytes;
 use xml_names::{Attr, Decl, Name, NoMemory, Text};
 use xml_tree::{Element, Path, Scope, element_at};

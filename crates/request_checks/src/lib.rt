@@ -1,9 +1,9 @@
-//! What a request's head asks: its method, whether it is allowed, the media type of its body, and
-//! the outcome of its conditions. Upward: each is a function of the head alone (`method_of`,
-//! `is_allowed`, `has_type`, `HasOutcome`); the fields `If-Match` and `If-None-Match` have exactly
-//! one reading by the grammar (`ConditionsAnswer`), and the conditions one outcome and one reply
-//! (`IsStop`). The standards are RFC 9110, sections 5.6.1, 8.3, 8.4, 8.8.3, 9.3 and 13, and RFC
-//! 4825, sections 5.7 and 8.
+//! What a request's head asks: method and right, the body's media type, and the conditions'
+//! outcome. Upward: each is a function of the head alone (`method_of`, `is_allowed`, `has_type`,
+//! `HasOutcome`); the fields `If-Match` and `If-None-Match` have exactly one reading by the
+//! grammar (`ConditionsAnswer`), and the conditions one outcome and one reply (`IsStop`). The
+//! standards are RFC 9110, sections 5.6.1, 8.3, 8.4, 8.8.3, 9.3 and 13, and RFC 4825, sections 5.7
+//! and 8.
 //! The lines of a condition field are joined by commas before it is read: a tag may go over two
 //! lines, and two lines `*` have no reading.
 #![tactic(auto)]

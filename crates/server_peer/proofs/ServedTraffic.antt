@@ -13,7 +13,7 @@ use Rattle.http_serve.specs.FixedReplies.{fixed_reply}
 use Rattle.http_serve.specs.ReplyBytes.{InBytes}
 use Rattle.http_wire.specs.declared.close_reason.CloseReason.{CloseReason}
 use Rattle.http_wire.specs.declared.close_reason.CloseReason.TheVariants.{Closed, ReadFailed, WriteFailed}
-use Rattle.xcap_machine.specs.SubscriberVersions.{FollowedStep}
+use Rattle.xcap_machine.specs.Machine.{ValidStep}
 use Rattle.xcap_server.proofs.KnownBytes.{line_counts}
 use Rattle.server_peer.specs.inner.Ends.{end_state}
 use Rattle.server_peer.specs.ServedBytes.{whole}
@@ -28,7 +28,7 @@ never before now b n h = omega (arith, b, n, h)
 
 -- where neither count rose the connection was closed
 closes : (root : List ℕ) (ended : CloseReason) (m next : State) (old new : StreamState) (asked : List ℕ) (passed : Traffic) (edits : List Edit) → old.read_faults ≡ 0 → new.read_faults ≡ 0 → old.write_faults ≡ 0 → new.write_faults ≡ 0 → FaultsBy ended old.read_faults new.read_faults old.write_faults new.write_faults
-    → Serves (InBytes (FollowedStep root)) fixed_reply ended m (counted ended asked passed) next edits → Serves (InBytes (FollowedStep root)) fixed_reply Closed m (whole asked passed.taken) next edits
+    → Serves (InBytes (ValidStep root)) fixed_reply ended m (counted ended asked passed) next edits → Serves (InBytes (ValidStep root)) fixed_reply Closed m (whole asked passed.taken) next edits
 closes root Closed m next old new asked passed edits r r' w w' faults s = s
 closes root ReadFailed m next old new asked passed edits r r' w w' faults s = absurd (never old.read_faults new.read_faults r r' faults.0)
 closes root WriteFailed m next old new asked passed edits r r' w w' faults s = absurd (never old.write_faults new.write_faults w w' faults.1)
@@ -36,12 +36,12 @@ closes root WriteFailed m next old new asked passed edits r r' w w' faults s = a
 module _ {W : Type 0} (Keeps : List Edit → W → W → Type 0) where
   -- the bytes taken are all replies
   pub answered : (root : List ℕ) (ended : CloseReason) (m next : State) (old new : StreamState) (w w' : W) (asked : List ℕ) (name : GName) → old ≡ end_state asked no_traffic name → new.read_faults ≡ 0 → new.write_faults ≡ 0
-      → ServesStream (InBytes (FollowedStep root)) Keeps ended m next old new w w' → (edits : List Edit) × Serves (InBytes (FollowedStep root)) fixed_reply Closed m (whole asked new.taken) next edits
+      → ServesStream (InBytes (ValidStep root)) Keeps ended (record { machine = m; stream = old; watchers = w }) (record { machine = next; stream = new; watchers = w' }) → (edits : List Edit) × Serves (InBytes (ValidStep root)) fixed_reply Closed m (whole asked new.taken) next edits
   answered root ended m next old new w w' asked name is r' t' s =
       let told : old.inward.left ≡ Some asked = ap (λ (l : StreamState). l.inward.left) is in
       let truthful : IsTruthful old.inward = λ found. absurd (true≢false (sym found ∙ ap (λ (l : StreamState). l.inward.ended) is)) in
       let r : old.read_faults ≡ 0 = ap (λ (l : StreamState). l.read_faults) is in
       let t : old.write_faults ≡ 0 = ap (λ (l : StreamState). l.write_faults) is in
       let taken : s.passed.taken ≡ new.taken = sym (s.took ∙ ap (λ (l : StreamState). l.taken ++ s.passed.taken) is) in
-      let all = closes root ended m next old new asked s.passed s.edits r r' t t' s.faults (line_counts Keeps root ended m next old new w w' asked told truthful s) in
-      (s.edits, subst (λ (l : List ℕ). Serves (InBytes (FollowedStep root)) fixed_reply Closed m (whole asked l) next s.edits) taken all)
+      let all = closes root ended m next old new asked s.passed s.edits r r' t t' s.faults (line_counts Keeps root ended (record { machine = m; stream = old; watchers = w }) (record { machine = next; stream = new; watchers = w' }) asked told truthful s) in
+      (s.edits, subst (λ (l : List ℕ). Serves (InBytes (ValidStep root)) fixed_reply Closed m (whole asked l) next s.edits) taken all)

@@ -10,7 +10,7 @@ use Rattle.edit_ops.specs.declared.edit.Edit.{Edit}
 use Rattle.store_core.specs.Contents.{Represents}
 use Rattle.store_core.specs.ValidStates.{IsValidState}
 use Rattle.store_core.specs.State.{State}
-use Rattle.xcap_machine.specs.SubscriberVersions.{FollowedStep}
+use Rattle.xcap_machine.specs.Machine.{ValidStep}
 use Rattle.xcap_machine.specs.Servers.{ServerState}
 use Rattle.server_peer.specs.Rooms.{RepliesState, with_replies}
 
@@ -25,7 +25,7 @@ pub record Replies (old new : ServerState) (asked replies : List ℕ) (m : State
   pub kept : IsValidState next
   pub stands : Represents new.content next
   pub edits : List Edit
-  pub serves : Serves (InBytes (FollowedStep old.root)) fixed_reply Closed m (whole asked replies)
+  pub serves : Serves (InBytes (ValidStep old.root)) fixed_reply Closed m (whole asked replies)
       next
       edits
 

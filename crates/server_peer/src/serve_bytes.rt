@@ -16,8 +16,8 @@ pub(crate) struct Replied {
 // Serves these bytes as one connection. The front of the replies is kept, as far as it fits into
 // `room`. No watcher is notified.
 pub(crate) fn reply_to(alloc: Global, server: &mut Server, asked: &[u8], room: &mut [u8]) -> Replied
-    ensures replies_to_bytes { FillsRoom server.old server.new asked.now room.old room.new
-        result.held result.is_over }
+    ensures replies_to_bytes { FillsRoom server.old server.new asked.now room.old
+        (record { room = room.new; held = result.held; is_over = result.is_over }) }
 {
     server.store().represents_valid_state();
     let mut end = ServerEnd::new(asked, room);

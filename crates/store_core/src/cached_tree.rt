@@ -12,7 +12,7 @@ use crate::staged_tree::StagedTree;
 use edit_ops::{Change, Staged};
 use std::alloc::Global;
 use std::marker::Model;
-use tree_text::print_document;
+use tree_print::print_document;
 use xcap_io::Bytes;
 use xml_tree::Element;
 

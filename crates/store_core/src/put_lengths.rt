@@ -13,7 +13,7 @@ use crate::NoMemory;
 use crate::root_tests::is_within;
 use edit_ops::{Change, element_len};
 use std::alloc::Global;
-use tree_text::print_document;
+use tree_print::print_document;
 use xcap_io::Bytes;
 use xml_tree::{Element, printed_len};
 

@@ -19,7 +19,7 @@ use Rattle.tree_text.specs.readers.TagNameFaults.{counted_back, first_of_tag, ta
 use Rattle.tree_text.specs.Pieces.{Markup, Inner, StartTag, with_pieces}
 use Rattle.xml_tokens.specs.readers.Tokens.{read_chars}
 use Rattle.tree_text.specs.readers.Texts.{markup_follows, other_follows, read_markup, read_tag, read_behind_tag, read_element}
-use Rattle.xml_tokens.specs.readers.Words.{bang, instruction_start}
+use Rattle.xml_markup.specs.readers.Words.{bang, instruction_start}
 use Rattle.xml_tokens.proofs.Loops.{finish, start, valued_ok, valued_err, valued_stops}
 
 abbrev dressed_read : StartTag → Result (Content × List ℕ) (Stop FaultKind) → Result (Tree × List ℕ) (Stop FaultKind)

@@ -1,16 +1,13 @@
 pub mod ByteResults
 pub mod ChildLemmas
-pub mod CommentLemmas
 pub mod ContentFronts
 pub mod ElementLemmas
-pub mod EscapeLemmas
 pub mod JudgeLemmas
 pub mod JudgeTags
 pub mod MeaningLemmas
 pub mod NamespaceLemmas
 pub mod NumberLemmas
 pub mod OneAnswer
-pub mod PrintLemmas
 pub mod PrintedContent
 pub mod PrintedElements
 pub mod PrintedNames

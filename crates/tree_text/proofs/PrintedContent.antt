@@ -9,13 +9,15 @@ use Rattle.xml_names.specs.Comments.{is_kept_char, hyphens_apart, is_comment}
 use Rattle.xml_tree.specs.Edits.{with_text_before, with_text, with_elem, with_comment}
 use Rattle.xml_names.specs.Markup.{print_comment, print_text, text_escape}
 use Rattle.xml_tree.specs.Tree.{Content, last, more, comment_node, more_of, Tree}
-use Rattle.xml_tokens.specs.readers.Words.{comment_start, dashes, section_end, greater}
+use Rattle.xml_tokens.specs.readers.Words.{section_end, greater}
+use Rattle.xml_markup.specs.readers.Words.{comment_start, dashes}
 use Rattle.xml_tokens.specs.declared.fault_kind.FaultKind.{FaultKind}
 use Rattle.xml_tokens.specs.Tokens.{is_raw}
 use Rattle.xml_tokens.specs.Values.{line_ends}
 use Rattle.tree_text.specs.Pieces.{Markup, Reference, Section, Comment, Instruction, Inner, with_markup, with_pieces}
 use Rattle.xml_tokens.specs.readers.Tokens.{read_reference, read_chars}
-use Rattle.tree_text.specs.readers.Texts.{read_section, read_comment, read_instruction, read_markup, markup_follows, read_content}
+use Rattle.tree_text.specs.readers.Texts.{read_markup, markup_follows, read_content}
+use Rattle.xml_markup.specs.readers.Markup.{read_section, read_comment, read_instruction}
 use Rattle.xml_tokens.proofs.ReadFronts.{Reads, reads_valued, reads_before, reads_behind, reads_left, reads_right, reads_word, AreBetween, between_none, between_more, reads_between}
 use Rattle.tree_text.proofs.PrintedValues.{both, not_true, longer, Stands, as_it_is, as_reference, plain_text, text_stands}
 

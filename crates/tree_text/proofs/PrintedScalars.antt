@@ -14,7 +14,7 @@ use Rattle.xml_tree.specs.Tree.{Content, last, more, comment_node, Tree}
 use Rattle.xml_names.specs.declared.names.Name.{Name}
 use Rattle.xml_names.specs.declared.names.Decl.{Decl}
 use Rattle.xml_names.specs.declared.names.Attr.{Attr}
-use Rattle.tree_text.specs.AttributeBodyPrints.{body_escape, body_print}
+use Rattle.tree_print.specs.AttributeBodyPrints.{body_escape, body_print}
 use Rattle.tree_text.proofs.PrintedValues.{both}
 use Rattle.tree_text.proofs.PrintedNames.{IsWritten, IsPrinted, ArePrinted, attr_for, as_attrs}
 use Rattle.tree_text.proofs.PrintedTags.{printed_all}

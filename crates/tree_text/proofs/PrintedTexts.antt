@@ -21,9 +21,10 @@ use Rattle.xml_tokens.specs.declared.fault_kind.FaultKind.{FaultKind}
 use Rattle.tree_text.specs.Faults.{body_result, in_quotes, spelling_of, TextAnswer, BodyAnswer, text_result as told}
 use Rattle.tree_text.specs.Grammar.{document, spelling}
 use Rattle.tree_text.specs.FaultKinds.{faults}
-use Rattle.tree_text.specs.AttributeBodyPrints.{body_escape, body_print}
-use Rattle.xml_tokens.specs.readers.Tokens.{read_mark_if, read_declaration_if, read_spaces, read_dropped}
-use Rattle.tree_text.specs.readers.Texts.{misc_follows, read_prolog_misc, read_prolog, read_epilog, read_element, read_text, read_spelling}
+use Rattle.tree_print.specs.AttributeBodyPrints.{body_escape, body_print}
+use Rattle.xml_tokens.specs.readers.Tokens.{read_spaces}
+use Rattle.xml_markup.specs.readers.Markup.{read_mark_if, read_declaration_if, read_dropped, misc_follows, read_prolog_misc, read_prolog, read_epilog}
+use Rattle.tree_text.specs.readers.Texts.{read_element, read_text, read_spelling}
 use Rattle.tree_text.specs.readers.Whole.{text_read, body_read}
 use Rattle.tree_text.proofs.ReadAnswers.{text_answer, body_answer}
 use Rattle.xml_tokens.proofs.ReadFronts.{Reads, reads_valued, reads_before, reads_behind, reads_none, reads_more, AreBetween, reads_between}

@@ -6,7 +6,7 @@ use Rattle.xml_grammar.specs.TextReading.{Reader, head_is, read_run}
 use Rattle.xml_names.specs.Characters.{is_char}
 use Rattle.xml_names.specs.Markup.{text_escape, value_escape}
 use Rattle.xml_tokens.specs.declared.fault_kind.FaultKind.{FaultKind}
-use Rattle.tree_text.specs.AttributeBodyPrints.{body_escape}
+use Rattle.tree_print.specs.AttributeBodyPrints.{body_escape}
 use Rattle.xml_tokens.specs.Tokens.{is_raw, is_raw_in}
 use Rattle.xml_tokens.specs.readers.Tokens.{read_reference, reference_follows, read_value}
 use Rattle.tree_text.specs.readers.Texts.{read_whole_reference, read_spelling}

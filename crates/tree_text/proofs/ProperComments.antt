@@ -9,12 +9,12 @@ use Rattle.xml_grammar.specs.readers.Functions.{read_up_to}
 use Rattle.xml_grammar.proofs.Exact.{Outcome, Exact}
 use Rattle.xml_grammar.proofs.ClosedRules.{anything}
 use Rattle.xml_grammar.proofs.UpTo.{exact_up_to}
-use Rattle.xml_tokens.specs.readers.Words.{dashes}
+use Rattle.xml_markup.specs.readers.Words.{dashes}
 use Rattle.xml_tokens.specs.declared.fault_kind.FaultKind.{FaultKind}
 use Rattle.tree_text.specs.FaultKinds.{faults}
 use Rattle.xml_tokens.specs.Values.{line_ends}
-use Rattle.tree_text.specs.Grammar.{comment}
-use Rattle.tree_text.proofs.CommentLemmas.{read_is_comment}
+use Rattle.xml_markup.specs.Grammar.{comment}
+use Rattle.xml_markup.proofs.CommentLemmas.{read_is_comment}
 use Rattle.tree_text.proofs.ReadTexts.{some_dashes, dashes_chars}
 
 -- what is spelled up to the hyphens is read

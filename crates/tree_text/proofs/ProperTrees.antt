@@ -15,14 +15,15 @@ use Rattle.xml_tree.proofs.EverywhereLaws.{Letters-append}
 use Rattle.xml_grammar.specs.Rules.{Mark, Rule, Split, AllPass, Each, word, sequence, many, judged, optional, keeping_first, keeping_second}
 use Rattle.xml_grammar.specs.Answers.{IsCalm, IsSpelled}
 use Rattle.xml_grammar.proofs.Laws.{Lawful}
-use Rattle.xml_tokens.specs.readers.Words.{byte_order_mark}
+use Rattle.xml_markup.specs.readers.Words.{byte_order_mark}
 use Rattle.xml_tokens.specs.declared.fault_kind.FaultKind.{FaultKind}
 use Rattle.xml_tokens.specs.declared.fault_kind.FaultKind.TheVariants.{Depth}
 use Rattle.tree_text.specs.Pieces.{Markup, Reference, Section, Comment, Instruction, Inner, with_markup, with_pieces}
 use Rattle.tree_text.specs.FaultKinds.{is_fault, faults}
 use Rattle.tree_text.specs.Names.{IsWrong, inside_tag as inside}
-use Rattle.xml_tokens.specs.Tokens.{is_raw, chars, dropped, IsForeign, xml_declaration}
-use Rattle.tree_text.specs.Grammar.{section, markup, content, start_tag, end_tag, behind_tag, element, prolog, epilog, document}
+use Rattle.xml_tokens.specs.Tokens.{is_raw, chars}
+use Rattle.xml_markup.specs.Grammar.{dropped, IsForeign, xml_declaration, section, prolog, epilog}
+use Rattle.tree_text.specs.Grammar.{markup, content, start_tag, end_tag, behind_tag, element, document}
 use Rattle.tree_text.proofs.JudgeTags.{is_wrong_fault}
 use Rattle.tree_text.proofs.ReadParts.{led_tag}
 use Rattle.tree_text.proofs.ReadDocuments.{lawful_document}

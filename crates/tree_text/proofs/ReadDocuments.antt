@@ -26,14 +26,16 @@ use Rattle.xml_grammar.proofs.LedRules.{Led, led_then, led_valued, led_before, l
 use Rattle.xml_grammar.proofs.Tests.{passed_covers, failed_covers, exact_either_head, exact_optional_head, exact_either_next}
 use Rattle.xml_grammar.proofs.SpacedRules.{blank_some_of, Leads, leads_weaker, leads_behind, Spaced, spaced_run, spaced_behind, spaced_optional, exact_spaced_optional}
 use Rattle.xml_grammar.proofs.Whole.{ends, heads_ends, inside_ends, answers_whole}
-use Rattle.xml_tokens.specs.readers.Words.{instruction_start, instruction_end, declaration_start, one_dot, encoding, standalone, yes, not_alone, bang, doctype, byte_order_mark}
+use Rattle.xml_markup.specs.readers.Words.{instruction_start, instruction_end, declaration_start, one_dot, encoding, standalone, yes, not_alone, bang, doctype, byte_order_mark}
 use Rattle.xml_tokens.specs.declared.fault_kind.FaultKind.{FaultKind}
 use Rattle.xml_tokens.specs.declared.fault_kind.FaultKind.TheVariants.{Encoded, Doctyped}
 use Rattle.tree_text.specs.FaultKinds.{is_fault, rank, faults}
-use Rattle.xml_tokens.specs.Tokens.{spaces, is_quote, dropped, version_number, is_encoding_char, encoding_name, yes_or_no, pseudo_attribute, xml_declaration, is_our_encoding, IsForeign}
-use Rattle.tree_text.specs.Grammar.{comment, is_target, instructed, instruction, element, misc, prolog, epilog, document}
-use Rattle.xml_tokens.specs.readers.Tokens.{read_spaces, read_dropped, read_version_number, read_encoding_name, read_yes_or_no, read_declared, read_xml_declaration, encoding_fault, declaration_follows}
-use Rattle.tree_text.specs.readers.Texts.{read_element, read_misc, misc_follows, read_prolog_misc, read_prolog, less_follows, read_epilog, read_text}
+use Rattle.xml_tokens.specs.Tokens.{spaces, is_quote, is_encoding_char}
+use Rattle.xml_markup.specs.Grammar.{dropped, version_number, encoding_name, yes_or_no, pseudo_attribute, xml_declaration, is_our_encoding, IsForeign, comment, is_target, instructed, instruction, misc, prolog, epilog}
+use Rattle.tree_text.specs.Grammar.{element, document}
+use Rattle.xml_tokens.specs.readers.Tokens.{read_spaces}
+use Rattle.xml_markup.specs.readers.Markup.{read_dropped, read_version_number, read_encoding_name, read_yes_or_no, read_declared, read_xml_declaration, encoding_fault, declaration_follows, read_misc, misc_follows, read_prolog_misc, read_prolog, less_follows, read_epilog}
+use Rattle.tree_text.specs.readers.Texts.{read_element, read_text}
 use Rattle.tree_text.proofs.ReadParts.{NoSpace, quote_no_space, exact_spaces, exact_equals, lawful_equals, quiet_equals, same, apart}
 use Rattle.tree_text.proofs.ReadTexts.{closed_comment, lawful_comment, led_comment, led_bang_comment, closed_instruction, lawful_instruction, led_instruction}
 use Rattle.tree_text.proofs.ReadElements.{both_true, led_element, lawful_element, exact_element}

@@ -18,13 +18,16 @@ use Rattle.xml_grammar.proofs.ClosedRules.{anything, heads_unless, exact_only}
 use Rattle.xml_grammar.proofs.Shapes.{exact_before, exact_behind, exact_name_of, covered_first, starts_behind}
 use Rattle.xml_grammar.proofs.LedRules.{Led, led_word, led_valued, led_behind, led_either, led_weaker, led_shorter, starts_led, led_covers, next_true, next_is}
 use Rattle.xml_grammar.proofs.Tests.{exact_either_head, exact_either_next, next_covers, other_covers}
-use Rattle.xml_tokens.specs.readers.Words.{greater, comment_start, dashes, section_start, section_end, instruction_start, instruction_end, bang_bracket}
+use Rattle.xml_tokens.specs.readers.Words.{greater, section_end}
+use Rattle.xml_markup.specs.readers.Words.{comment_start, dashes, section_start, instruction_start, instruction_end, bang_bracket}
 use Rattle.xml_tokens.specs.declared.fault_kind.FaultKind.{FaultKind}
 use Rattle.xml_tokens.specs.Values.{line_ends}
 use Rattle.tree_text.specs.Pieces.{Markup, Reference, Section, Comment, Instruction, Inner}
 use Rattle.xml_tokens.specs.Tokens.{is_raw}
-use Rattle.tree_text.specs.Grammar.{comment, section, is_target, instructed, instruction, markup}
-use Rattle.tree_text.specs.readers.Texts.{read_comment, read_section, read_instructed, read_instruction, read_markup}
+use Rattle.tree_text.specs.Grammar.{markup}
+use Rattle.xml_markup.specs.Grammar.{comment, section, is_target, instructed, instruction}
+use Rattle.tree_text.specs.readers.Texts.{read_markup}
+use Rattle.xml_markup.specs.readers.Markup.{read_comment, read_section, read_instructed, read_instruction}
 use Rattle.xml_tokens.proofs.NameFronts.{NoName, space_no_name}
 use Rattle.tree_text.proofs.ReadParts.{NoSpace, exact_name, closed_reference, starts_reference, same, apart}
 

@@ -10,7 +10,7 @@ use Rattle.tree_text.specs.Grammar.{attribute, start_tag}
 use Rattle.tree_text.specs.Names.{widths}
 use Rattle.xml_tokens.specs.Values.{written}
 use Rattle.tree_text.specs.Pieces.{StartTag}
-use Rattle.xml_tokens.specs.readers.Ends.{EndsWith}
+use Rattle.xml_grammar.specs.readers.Ends.{EndsWith}
 use Rattle.tree_text.specs.readers.Texts.{read_attribute, read_tag}
 use Rattle.tree_text.proofs.JudgeTags.{tag_sizes}
 use Rattle.tree_text.proofs.ReadParts.{closed_attribute, closed_tag}

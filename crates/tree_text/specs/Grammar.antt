@@ -1,25 +1,29 @@
 -- The texts that documents and fragments are read from, rule by rule: XML 1.0, fifth edition, and
--- Namespaces in XML 1.0, without document types; names, references, character data, values and the
--- XML declaration are in `xml_tokens/Tokens`. The numbers in brackets are the productions of XML. A
--- rule says which texts it spells, as which values, and its events where a text breaks off in it.
-use Rattle.std.specs.Prelude.{◌≡◌, ℕ, zero, suc, ◌+◌, Bool, true, false, ◌==◌, not, List, [], ◌∷◌}
-use Rattle.std.specs.Prelude.{◌++◌, length, codes}
-use Rattle.xml_names.specs.Characters.{is_char, is_space, is_name_start}
+-- Namespaces in XML 1.0, without document types; names, references, character data and values are
+-- in `xml_tokens/Tokens`, comments, CDATA sections, instructions, the XML declaration and what
+-- surrounds the root element in `xml_markup/Grammar`. The numbers in brackets are the productions
+-- of XML. A rule says which texts it spells, as which values, and its events where a text breaks
+-- off in it.
+use Rattle.std.specs.Prelude.{◌≡◌, ℕ, zero, suc, ◌+◌, Bool, true, false, List, [], ◌∷◌, ◌++◌}
+use Rattle.std.specs.Prelude.{length, codes}
+use Rattle.xml_names.specs.Characters.{is_name_start}
 use Rattle.xml_tree.specs.Tree.{Content, last, Tree}
 use Rattle.xml_names.specs.declared.names.Name.{Name}
 use Rattle.xml_names.specs.declared.names.Decl.{Decl}
-use Rattle.xml_grammar.specs.Rules.{Rule, never, empty, one, word, run, up_to, sequence, either}
-use Rattle.xml_grammar.specs.Rules.{many, valued, sized, only, atomic, marked, judged, trap}
-use Rattle.xml_grammar.specs.Rules.{optional, between, keeping_first, keeping_second, quoted}
+use Rattle.xml_grammar.specs.Rules.{Rule, never, empty, word, run, sequence, either, many, valued}
+use Rattle.xml_grammar.specs.Rules.{sized, atomic, marked, judged, optional, between}
+use Rattle.xml_grammar.specs.Rules.{keeping_first, keeping_second, quoted}
 use Rattle.xml_tokens.specs.declared.fault_kind.FaultKind.{FaultKind}
-use Rattle.xml_tokens.specs.declared.fault_kind.FaultKind.TheVariants.{Doctyped, Depth}
+use Rattle.xml_tokens.specs.declared.fault_kind.FaultKind.TheVariants.{Depth}
+use Rattle.xml_markup.specs.Grammar.{dropped, comment, section, instruction, xml_declaration}
+use Rattle.xml_markup.specs.Grammar.{IsForeign, prolog, epilog}
 use Rattle.tree_text.specs.declared.raw_attribute.RawAttribute.{RawAttribute}
-use Rattle.xml_tokens.specs.Values.{line_ends, written, same_letters, value_spelled}
+use Rattle.xml_tokens.specs.Values.{written, value_spelled}
 use Rattle.tree_text.specs.Pieces.{Markup, Reference, Section, Comment, Instruction, Inner}
 use Rattle.tree_text.specs.Pieces.{StartTag, with_pieces}
 use Rattle.tree_text.specs.Names.{IsWrong, element_of, inside_tag}
-use Rattle.xml_tokens.specs.Tokens.{IsForeign, chars, dropped, equals, is_quote, is_raw, name}
-use Rattle.xml_tokens.specs.Tokens.{qname, reference, some_spaces, spaces, value, xml_declaration}
+use Rattle.xml_tokens.specs.Tokens.{chars, equals, is_quote, is_raw, qname, reference}
+use Rattle.xml_tokens.specs.Tokens.{some_spaces, spaces, value}
 
 -- ---- tags
 
@@ -52,32 +56,6 @@ end_tag n =
     (keeping_second (word (written n)) (keeping_second spaces (word (codes ">"))))
 
 -- ---- content
-
--- [15] Comment: `<!--`, Chars without `--` that don't end in `-`, `-->`; so its first `--` is
--- right before the final `>`
-abbrev pub comment : Rule FaultKind (List ℕ)
-comment =
-    valued line_ends
-    (keeping_second (word (codes "<!--"))
-    (keeping_first (up_to is_char (codes "--")) (word (codes ">"))))
-
--- [18] CDSect: `<![CDATA[`, Chars up to the first `]]>`
-abbrev pub section : Rule FaultKind (List ℕ)
-section = valued line_ends (keeping_second (word (codes "<![CDATA[")) (up_to is_char (codes "]]>")))
-
--- [17] PITarget: an NCName that isn't `xml`, ignoring ASCII case
-abbrev pub is_target : List ℕ → Bool
-is_target n = not (same_letters n (codes "xml"))
-
--- what follows a target: nothing, or white space and Chars, up to the first `?>`
-abbrev pub instructed : Rule FaultKind (Unit {0})
-instructed =
-    either (dropped (keeping_second (one is_space) (up_to is_char (codes "?>"))))
-    (word (codes "?>"))
-
--- [16] PI: `<?`, a target and what follows it
-abbrev pub instruction : Rule FaultKind (Unit {0})
-instruction = keeping_second (word (codes "<?")) (keeping_second (only is_target name) instructed)
 
 -- what is between runs of characters: a reference, a CDATA section, a comment, an instruction or
 -- an element
@@ -115,22 +93,6 @@ element (suc n) scope depth =
     behind_tag (element n (inside_tag scope t) (depth + 1)) t.name t.is_empty)))
 
 -- ---- documents
-
--- [27] Misc: comments and instructions, with optional white space around each; outside the root
--- element they spell nothing
-abbrev pub misc : Rule FaultKind (Unit {0})
-misc = either (dropped comment) instruction
-
-abbrev pub miscs : Rule FaultKind (Unit {0}) → Rule FaultKind (Unit {0})
-miscs one_more = dropped (between (dropped spaces) one_more)
-
--- [22] prolog, without the XML declaration: `<!` before the root element is marked, where
--- `DOCTYPE` follows
-abbrev pub prolog : Rule FaultKind (Unit {0})
-prolog = miscs (either (trap Doctyped (codes "<!") (codes "DOCTYPE")) misc)
-
-abbrev pub epilog : Rule FaultKind (Unit {0})
-epilog = miscs misc
 
 -- [1] document: optionally a byte order mark (U+FEFF), optionally an XML declaration, Misc, one
 -- element, Misc. A fragment has the same form, in a scope.

@@ -1,8 +1,6 @@
-pub mod AttributeBodyPrints
 pub mod FaultKinds
 pub mod Faults
 pub mod Grammar
 pub mod Names
 pub mod Pieces
-pub mod inner
 pub mod readers

@@ -14,10 +14,11 @@ ghost use Rattle.tree_text.specs.readers.Whole.{BodyFaultOf, body_read};
 
 use crate::fault::ValueFault;
 use std::alloc::Global;
+use xml_grammar::{is_over, split_first};
 use xml_names::{ReadError, Text};
 use xml_tokens::{
-    Class, ParseError, is_over, is_quote, no_text, place, push_piece, push_raw, reference,
-    reference_follows, run, split_first,
+    Class, ParseError, is_quote, no_text, place, push_piece, push_raw, reference,
+    reference_follows, run,
 };
 
 /// A reference, read whole or not at all, and what follows it.

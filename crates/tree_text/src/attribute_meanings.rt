@@ -5,8 +5,9 @@ ghost use Rattle.tree_text.specs.readers.Bindings.{AreOpenNamespaces, lists, num
 ghost use Rattle.tree_text.specs.readers.Meanings.{Means};
 
 use crate::bindings::Bindings;
-use crate::names::{declared_prefix, declares, is_nothing};
+use crate::names::{declared_prefix, declares};
 use crate::raw_attribute::RawAttribute;
+use tree_print::is_nothing;
 use xml_names::{LocalName, Name};
 
 /// The meaning of a name in a start tag.

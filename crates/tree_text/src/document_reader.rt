@@ -6,19 +6,37 @@ ghost use Rattle.xml_tree.specs.declared.scope.TheConstants.{SCOPE_LIMIT};
 ghost use Rattle.xml_tree.specs.Proper.{ProperIn};
 ghost use Rattle.xml_tree.specs.Tree.{height};
 ghost use Rattle.tree_text.specs.Faults.{TextAnswer};
-ghost use Rattle.xml_tokens.specs.readers.Results.{GivesAll};
+ghost use Rattle.xml_tokens.specs.readers.Results.{Gives, GivesAll};
 ghost use Rattle.xml_names.specs.Memory.{Answered};
-ghost use Rattle.tree_text.specs.readers.Texts.{read_text};
+ghost use Rattle.tree_text.specs.readers.Texts.{read_element, read_text};
 ghost use Rattle.tree_text.specs.readers.Whole.{FaultOf, text_read};
 
 use crate::bindings::Bindings;
 use crate::elements::element;
 use crate::fault::TextFault;
-use crate::markup::{epilog, prolog};
 use std::alloc::Global;
+use xml_grammar::is_over;
+use xml_markup::{declaration_if, epilog, mark_if, prolog};
 use xml_names::ReadError;
-use xml_tokens::{FaultKind, ParseError, declaration_if, is_over, mark_if, place};
+use xml_tokens::{FaultKind, ParseError, place};
 use xml_tree::{Element, Scope};
+
+/// The root element that a text begins with, with at most this many levels, and what follows it.
+fn root_element<'a>(
+    alloc: Global,
+    text: &'a str,
+    scope: &Scope<'_>,
+    depth: usize,
+) -> Result<(Element, &'a str), ParseError<'a>>
+    requires { length scope.now + depth ≤ SCOPE_LIMIT }
+    ensures reads_rule { Gives (λ x. (x.0, chars x.1.now)) result
+        (read_element depth scope.now 1 (chars text.now)) }
+{
+    let mut bindings = Bindings::from_scope(alloc, scope)?;
+    let read = element(alloc, text, &mut bindings, 1, depth);
+    drop(bindings);
+    read
+}
 
 /// The root element of a whole text, with at most this many levels.
 fn root<'a>(
@@ -34,10 +52,10 @@ fn root<'a>(
     let rest = mark_if(text);
     let rest = declaration_if(rest)?;
     let rest = prolog(rest)?;
-    let mut bindings = Bindings::from_scope(alloc, scope)?;
-    let (root, rest) = element(alloc, rest, &mut bindings, 1, depth)?;
+    let (root, rest) = root_element(alloc, rest, scope, depth)?;
     let rest = epilog(rest)?;
     if !is_over(rest) {
+        drop(root);
         return Err(ParseError::Syntax(rest));
     }
     Ok(root)

@@ -20,16 +20,16 @@ ghost use Rattle.tree_text.specs.readers.Views.{tag_in};
 
 use crate::bindings::Bindings;
 use crate::empty_elements::push_bare;
-use crate::markup::{comment, instruction, section};
 use crate::names::{declares, decls_of, first_of_tag};
 use crate::raw_attribute::RawAttribute;
 use crate::start_tags::{RawStartTag, whole_tag};
 use std::alloc::{AllocError, Global};
+use xml_grammar::{are_next, count, is_either_next, is_first, is_next, split_first};
+use xml_markup::{comment, instruction, section};
 use xml_names::{Attr, Decl, Name, Text};
 use xml_tokens::{
-    Class, FaultKind, ParseError, are_next, before, content_run, count, end_tag, is_either_next,
-    is_first, is_next, lines, owned_name, reference, run, split_first, starts, starts_with_name,
-    text_of,
+    Class, FaultKind, ParseError, before, content_run, end_tag, lines, owned_name, reference, run,
+    starts, starts_with_name, text_of,
 };
 use xml_tree::{Element, last_elem};
 
@@ -487,6 +487,15 @@ fn push_child<'a>(
     Ok(rest)
 }
 
+/// The empty element of a start tag.
+fn empty_element(alloc: Global, start_tag: &RawStartTag<'_>) -> Result<Element, AllocError>
+    ensures bare { IfOk result
+        (λ made. made ≡ tree_of (name_in start_tag.now.written) [] [] (last [])) }
+{
+    let name = owned_name(alloc, &start_tag.written)?;
+    Ok(Element::new(alloc, name))
+}
+
 /// An element at this depth, with at most this many levels, and what follows it.
 pub fn element<'a>(
     alloc: Global,
@@ -506,8 +515,7 @@ pub fn element<'a>(
     };
     let mut raw_attribute = Vec::new(alloc);
     let start_tag = whole_tag(alloc, text, &mut raw_attribute)?;
-    let name = owned_name(alloc, &start_tag.written)?;
-    let mut element = Element::new(alloc, name);
+    let mut element = empty_element(alloc, &start_tag)?;
     let rest = fill(
         alloc,
         text,
@@ -518,5 +526,6 @@ pub fn element<'a>(
         &start_tag,
         &mut element,
     )?;
+    drop(raw_attribute);
     Ok((element, rest))
 }

@@ -9,8 +9,9 @@ ghost use Rattle.tree_text.specs.readers.Views.{BeginsWithLocal};
 
 use crate::start_tags::RawStartTag;
 use std::alloc::{AllocError, Global};
+use xml_grammar::{nothing, split_first};
 use xml_names::{LocalName, Name, Prefix};
-use xml_tokens::{RawName, nothing, owned_name, split_first};
+use xml_tokens::{RawName, owned_name};
 use xml_tree::{Element, Node};
 
 /// Reserves capacity for one more node, exactly one where there is none: most elements have one

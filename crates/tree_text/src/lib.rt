@@ -1,7 +1,7 @@
-//! Reading and printing texts of XML documents, fragments and attribute bodies.
+//! Reading texts of XML documents, fragments and attribute bodies.
 //! Promises upward that a text is read exactly as its grammar says, each fault with its place
-//! (`TextAnswer`, `BodyAnswer`), that the printed bytes are the print of the tree, and that
-//! prints are read back (`prints_are_read_back`).
+//! (`TextAnswer`, `BodyAnswer`), and that what `tree_print` prints is read back
+//! (`prints_are_read_back`).
 //! The standards are XML 1.0 (fifth edition) and Namespaces in XML 1.0, for the texts of RFC
 //! 4825.
 //! A foreign encoding is reported before every other fault, at the end of its declaration, and
@@ -14,14 +14,10 @@ mod bindings;
 mod document_reader;
 mod elements;
 mod empty_elements;
-mod escapes;
 mod fault;
-mod markup;
 mod names;
 mod namespaces;
-mod output;
 mod print_laws;
-mod printing;
 mod raw_attribute;
 mod reading_laws;
 mod start_tags;
@@ -33,5 +29,5 @@ pub use fault::{TextFault, ValueFault};
 pub use print_laws::{
     prints_are_read_back, prints_spell_what_was_printed, scopes_leave_xmlns_unbound,
 };
-pub use printing::{print_att_value, print_document, print_element};
 pub use reading_laws::{bodies_have_one_answer, texts_have_one_answer};
+pub use tree_print::{print_att_value, print_document, print_element};

@@ -20,16 +20,9 @@ use crate::raw_attribute::RawAttribute;
 use crate::start_tags::RawStartTag;
 use std::alloc::{AllocError, Global};
 use std::collections::BTreeSet;
+use tree_print::is_nothing;
 use xml_names::{Decl, Name, Prefix, Text, is_xml, is_xmlns};
 use xml_tokens::{FaultKind, RawName, opening};
-
-/// Whether a prefix is empty.
-#[inline(always)]
-pub fn is_nothing(prefix: &Prefix) -> bool
-    ensures exact { result ≡ bytes_eq prefix.now [] }
-{
-    prefix.is_empty()
-}
 
 /// Whether a declared prefix is empty: the default namespace is declared.
 fn is_default(prefix: &str) -> bool

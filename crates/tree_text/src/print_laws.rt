@@ -12,7 +12,7 @@ ghost use Rattle.xml_names.specs.declared.names.Decl.{Decl};
 ghost use Rattle.tree_text.specs.Faults.{BodyAnswer, TextAnswer};
 ghost use Rattle.tree_text.specs.Grammar.{document, spelling};
 ghost use Rattle.tree_text.specs.FaultKinds.{faults};
-ghost use Rattle.tree_text.specs.AttributeBodyPrints.{body_print};
+ghost use Rattle.tree_print.specs.AttributeBodyPrints.{body_print};
 
 /// Prints are read back: the bytes of the print of a tree, as a document or by itself, are read
 /// as the tree, in the scope in which it is proper and with at least as many levels as it has;

@@ -16,10 +16,11 @@ ghost use Rattle.tree_text.specs.readers.Views.{BeginsWithLocal, tag_in};
 use crate::raw_attribute::RawAttribute;
 use crate::text_span::Size;
 use std::alloc::Global;
+use xml_grammar::{behind_next, is_next};
 use xml_names::{Name, Text};
 use xml_tokens::{
-    Class, ParseError, RawName, behind_next, equals, front_qname, is_next, is_space_next, letter,
-    own_qname, quote, run, sign, spaces, starts_with_name, value, word,
+    Class, ParseError, RawName, equals, front_qname, is_space_next, letter, own_qname, quote, run,
+    sign, spaces, starts_with_name, value, word,
 };
 
 /// A start tag, or the tag of an empty element, without its raw attributes.

@@ -1,9 +1,9 @@
 //! The number of characters in a part of a text.
 ghost use Rattle.std.specs.Prelude.{◌≡◌, ◌-◌, chars, length};
-ghost use Rattle.xml_tokens.specs.readers.Ends.{EndsWith};
+ghost use Rattle.xml_grammar.specs.readers.Ends.{EndsWith};
 
 use std::marker::Model;
-use xml_tokens::{count, text_before};
+use xml_grammar::{count, text_before};
 
 /// How many characters a text has, counted on demand, which is rare. Contracts see the number.
 #[derive(Drop)]

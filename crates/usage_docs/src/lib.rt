@@ -1,6 +1,6 @@
-//! The document types resource-lists and rls-services as one table of element kinds, with their
-//! keys and references, and the computed documents: the index of services and the capabilities
-//! document.
+//! The document types as one table of element kinds, their keys and references, and computed
+//! documents. The types are resource-lists and rls-services; computed are the index of services
+//! and the capabilities document.
 //! Promises upward the exact validity of a document (`IsValidDocument`), the form of its
 //! references (`MeetsConstraints`), its first clash of keys (`IsFirstClash`), its first fault
 //! (`HasFirstFault`), and the exact computed documents.

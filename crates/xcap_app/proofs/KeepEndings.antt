@@ -26,7 +26,7 @@ use Rattle.store_core.specs.State.{State, first_state}
 use Rattle.store_core.proofs.KeptAfter.{kept-first}
 use Rattle.xcap_machine.specs.Answers.{unchanged}
 use Rattle.xcap_machine.specs.Requests.{IsAnswer}
-use Rattle.xcap_machine.specs.SubscriberVersions.{FollowedStep}
+use Rattle.xcap_machine.specs.Machine.{ValidStep}
 use Rattle.xcap_server.specs.LoggedServers.{ServesPortLogged}
 use Rattle.xcap_server.specs.ReplayedRequests.{Redoing, Refuses, ResultsFrom}
 use Rattle.xcap_machine.specs.Servers.{ServerState}
@@ -46,7 +46,7 @@ stands_for_none s empty = record { state = first_state 1; kept = kept-first 1 (o
 
 module _ (input input' : StreamState) (journal journal' : JournalState) (s s' : ServerState) (empty : s.content ≡ record { documents = []; next = 1 }) (about : s'.root ≡ s.root) where
   abbrev Restarted : Result LogState RestartFault → Type 0
-  Restarted result = Restarts ResultsFrom Refuses input input' journal journal' s s' result
+  Restarted result = Restarts ResultsFrom Refuses (record { source = input; journal = journal; replayer = s }) (record { source = input'; journal = journal'; replayer = s' }) result
 
   abbrev old_journal : (result : Result LogState RestartFault) (r : Restarted result) → State → OldJournal
   old_journal result r state = record { bytes = r.bytes; requests = r.requests; rest = r.rest; state = state }
@@ -133,9 +133,9 @@ not_failed faults h = grind (arith, nat_tests)
 has_failed : (faults : ℕ) → nat_lt 0 faults ≡ true → 0 < faults
 has_failed faults h = grind (arith, nat_tests)
 
-module _ {W : Type 0} (Keeps : List Edit → W → W → Type 0) (address : List ℕ) (count : ℕ) (served : ServeSummary) (read : OldJournal) (s s' : ServerState) (log' : LogState) (journal journal' : JournalState) (old new : ServiceState W) (listening : StreamState)
+module _ {W : Type 0} (Keeps : List Edit → W → W → Type 0) (address : List ℕ) (count : ℕ) (served : ServeSummary) (read : OldJournal) (s s' : ServerState) (log log' : LogState) (journal journal' : JournalState) (old new : ServiceState W) (listening : StreamState)
     (none : journal.faults ≡ 0) (fits : Fits log' journal') (redone : Redoing s.root (first_state 1) read.requests read.state) (listens : listening ≡ listening_at old.port address)
-    (v : ServesPortLogged Keeps count served read.requests s s' read.state log' journal journal' listening new.port old.watchers new.watchers) where
+    (v : ServesPortLogged Keeps (record { most = count; served = served }) (record { machine = read.state; requests = read.requests; failures = 0 }) (record { machine = record { machine = s; log = log; journal = journal }; stream = listening; watchers = old.watchers }) (record { machine = record { machine = s'; log = log'; journal = journal' }; stream = new.port; watchers = new.watchers })) where
   abbrev arguments : ServiceArguments
   arguments = record { address = address; root = s.root; count = count }
 
@@ -155,14 +155,14 @@ module _ {W : Type 0} (Keeps : List Edit → W → W → Type 0) (address : List
     next = v.next;
     valid = v.kept;
     serves =
-        subst (λ (l : StreamState). ServesPort (InBytes (LoggedStep (FollowedStep s.root))) Keeps count served (booked read.state read.requests 0) (booked v.next v.serves.accepted failures) l new.port old.watchers new.watchers) listens
-        (subst (λ (n : ℕ). ServesPort (InBytes (LoggedStep (FollowedStep s.root))) Keeps count served (booked read.state read.requests 0) (booked v.next v.serves.accepted n) listening new.port old.watchers new.watchers) so v.serves.serves);
+        subst (λ (l : StreamState). ServesPort (InBytes (LoggedStep (ValidStep s.root))) Keeps (record { most = count; served = served }) (record { machine = booked read.state read.requests 0; stream = l; watchers = old.watchers }) (record { machine = booked v.next v.serves.accepted failures; stream = new.port; watchers = new.watchers })) listens
+        (subst (λ (n : ℕ). ServesPort (InBytes (LoggedStep (ValidStep s.root))) Keeps (record { most = count; served = served }) (record { machine = booked read.state read.requests 0; stream = listening; watchers = old.watchers }) (record { machine = booked v.next v.serves.accepted n; stream = new.port; watchers = new.watchers })) so v.serves.serves);
     redone = v.redone (first_state 1) redone;
     told = v.serves.holds.told;
     written = v.serves.holds.split ∙ ap (λ (l : List ℕ). text v.serves.accepted ++ l) behind;
     behind =
-        subst (λ (l : List ℕ). (l ≡ []) ⊎ ((request : Request) × IsRecordable request × Accepts (FollowedStep s.root) v.next request × IsFirstOf l (record_of request))) behind
-        (behind_by ((request : Request) × IsRecordable request × Accepts (FollowedStep s.root) v.next request × IsFirstOf v.serves.holds.rest (record_of request)) v.serves.holds.rest log'.is_torn v.serves.holds.behind);
+        subst (λ (l : List ℕ). (l ≡ []) ⊎ ((request : Request) × IsRecordable request × Accepts (ValidStep s.root) v.next request × IsFirstOf l (record_of request))) behind
+        (behind_by ((request : Request) × IsRecordable request × Accepts (ValidStep s.root) v.next request × IsFirstOf v.serves.holds.rest (record_of request)) v.serves.holds.rest log'.is_torn v.serves.holds.behind);
   }
 
   -- writing failed
@@ -175,7 +175,7 @@ module _ {W : Type 0} (Keeps : List Edit → W → W → Type 0) (address : List
   kept_whole well =
       let now : journal'.faults ≡ 0 = not_failed journal'.faults well in
       served_kept [] 0 (no_failures v.serves.failures journal'.faults now (subst (λ (n : ℕ). RoseBy v.serves.failures n journal'.faults) none v.serves.bound))
-      (nothing_behind ((request : Request) × IsRecordable request × Accepts (FollowedStep s.root) v.next request × IsFirstOf v.serves.holds.rest (record_of request)) v.serves.holds.rest log'.len (length journal'.held) journal'.faults log'.is_torn now fits v.serves.holds.behind)
+      (nothing_behind ((request : Request) × IsRecordable request × Accepts (ValidStep s.root) v.next request × IsFirstOf v.serves.holds.rest (record_of request)) v.serves.holds.rest log'.len (length journal'.held) journal'.faults log'.is_torn now fits v.serves.holds.behind)
 
   pub kept_done : nat_lt 0 journal'.faults ≡ false → IsComplete served.stop → KeepsOn Keeps IsWritten HasFailed arguments Done read old new
   kept_done well complete = (served, kept_whole well, complete)

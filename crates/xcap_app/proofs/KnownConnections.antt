@@ -65,7 +65,7 @@ module _ {M E : Type 0} (Step : M → Request → List ℕ → M → Option E �
   -- wanted.
   pub all_served : {W : Type 0} (Keeps : List E → W → W → Type 0) (served : ServeSummary) (machine next : M) (all : List (List ℕ)) (old new : StreamState) (w w' : W)
       → old.port.to_come ≡ Some all → old.port.faults ≡ 0 → new.port.faults ≡ 0 → old.read_faults ≡ 0 → new.read_faults ≡ 0 → old.write_faults ≡ 0 → new.write_faults ≡ 0
-      → ServesPort Step Keeps (length all) served machine next old new w w'
+      → ServesPort Step Keeps (record { most = length all; served = served }) (record { machine = machine; stream = old; watchers = w }) (record { machine = next; stream = new; watchers = w' })
       → (connections : List Traffic) × (map (λ c. c.given) connections ≡ all) × (map (λ c. c.ended) connections ≡ map (λ c. true) connections) × (edits : List E) × ServesAll Step fixed_reply machine connections next edits 0 0 0 0
   all_served Keeps served machine next all old new w w' told f g r r' t t' v =
       let came : Came (Some all) new.port.to_come v.connections = subst (λ (o : Option (List (List ℕ))). Came o new.port.to_come v.connections) told v.came in

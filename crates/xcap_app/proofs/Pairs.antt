@@ -3,7 +3,7 @@ use Rattle.std.proofs.Common.{◌≡◌, ℕ, List, [], ◌∷◌, ap, subst}
 use Rattle.std.specs.Borrow.{GName}
 use Rattle.store_core.specs.ValidStates.{IsValidState}
 use Rattle.store_core.specs.State.{State}
-use Rattle.xcap_machine.specs.SubscriberVersions.{FollowedStep}
+use Rattle.xcap_machine.specs.Machine.{ValidStep}
 use Rattle.edit_ops.specs.declared.edit.Edit.{Edit}
 use Rattle.xcap_io.specs.Causes.{Aside, StreamState}
 use Rattle.xcap_io.specs.Pairs.{pair_state}
@@ -37,11 +37,11 @@ just_written input output input' output' t = record {
 module _ {W : Type 0} (Keeps : List Edit → W → W → Type 0) where
   pub by_pair : (root : List ℕ) (ended : CloseReason) (m m' : State) (input output input' output' made : StreamState) (a o a' o' : GName) (w w' : W)
       → made ≡ pair_state input output (a ∷ o ∷ []) → IsValidState m'
-      → ServesStream (InBytes (FollowedStep root)) Keeps ended m m' made (pair_state input' output' (a' ∷ o' ∷ [])) w w'
+      → ServesStream (InBytes (ValidStep root)) Keeps ended (record { machine = m; stream = made; watchers = w }) (record { machine = m'; stream = pair_state input' output' (a' ∷ o' ∷ []); watchers = w' })
       → ServesInput Keeps root m ended (record { input = input; output = output; watchers = w }) (record { input = input'; output = output'; watchers = w' })
   by_pair root ended m m' input output input' output' made a o a' o' w w' was kept s =
-      let on : ServesStream (InBytes (FollowedStep root)) Keeps ended m m' (pair_state input output (a ∷ o ∷ [])) (pair_state input' output' (a' ∷ o' ∷ [])) w w' =
-      subst (λ (l : StreamState). ServesStream (InBytes (FollowedStep root)) Keeps ended m m' l (pair_state input' output' (a' ∷ o' ∷ [])) w w') was s in
+      let on : ServesStream (InBytes (ValidStep root)) Keeps ended (record { machine = m; stream = pair_state input output (a ∷ o ∷ []); watchers = w }) (record { machine = m'; stream = pair_state input' output' (a' ∷ o' ∷ []); watchers = w' }) =
+      subst (λ (l : StreamState). ServesStream (InBytes (ValidStep root)) Keeps ended (record { machine = m; stream = l; watchers = w }) (record { machine = m'; stream = pair_state input' output' (a' ∷ o' ∷ []); watchers = w' })) was s in
       let t : Through input output input' output' = through input output input' output' on.exchanges.same_holds on.exchanges.same_aside in
       record {
         state = m';

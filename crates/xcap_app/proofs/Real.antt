@@ -6,7 +6,7 @@ use Rattle.store_core.specs.State.{first_state}
 use Rattle.http_wire.specs.ServedConnections.{Serves as ServesOne, ServesAll}
 use Rattle.http_wire.specs.declared.close_reason.CloseReason.TheVariants.{Closed}
 use Rattle.http_serve.specs.FixedReplies.{fixed_reply}
-use Rattle.xcap_machine.specs.SubscriberVersions.{FollowedStep}
+use Rattle.xcap_machine.specs.Machine.{ValidStep}
 use Rattle.http_serve.specs.ReplyBytes.{InBytes}
 use Rattle.http_serve.specs.Ports.{Stops}
 use Rattle.http_serve.specs.declared.accept_loop.StopReason.{StopReason}
@@ -129,7 +129,7 @@ module _ {W : Type 0} (Keeps : List Edit → W → W → Type 0) where
       record {
         state = r.state;
         edits = r.edits;
-        serves = subst (λ (t : Traffic). ServesOne (InBytes (FollowedStep root)) fixed_reply Closed (first_state 1) t r.state r.edits) is r.serves;
+        serves = subst (λ (t : Traffic). ServesOne (InBytes (ValidStep root)) fixed_reply Closed (first_state 1) t r.state r.edits) is r.serves;
         told = r.told;
       }
 
@@ -149,7 +149,7 @@ module _ {W : Type 0} (Keeps : List Edit → W → W → Type 0) where
         record {
           state = s.state;
           edits = v.edits;
-          serves = subst (λ (l : List Traffic). ServesAll (InBytes (FollowedStep root)) fixed_reply (first_state 1) l s.state v.edits port.read_faults port'.read_faults port.write_faults port'.write_faults) (sym all) v.serves;
+          serves = subst (λ (l : List Traffic). ServesAll (InBytes (ValidStep root)) fixed_reply (first_state 1) l s.state v.edits port.read_faults port'.read_faults port.write_faults port'.write_faults) (sym all) v.serves;
           told = v.kept;
         },
         counted,
@@ -198,7 +198,7 @@ module _ {W : Type 0} (Keeps : List Edit → W → W → Type 0) where
         read = subst (λ (bytes : List ℕ). Whole bytes journal.requests journal.rest) (sym given) reads.whole;
         torn = reads.torn;
         redone = reads.records.redone;
-        serves = subst (λ (l : List Traffic). ServesAll (InBytes (LoggedStep (FollowedStep root))) fixed_reply (record { machine = journal.state; requests = journal.requests; failures = 0 }) l (record { machine = kept.next; requests = kept.accepted; failures = 0 }) v.edits
+        serves = subst (λ (l : List Traffic). ServesAll (InBytes (LoggedStep (ValidStep root))) fixed_reply (record { machine = journal.state; requests = journal.requests; failures = 0 }) l (record { machine = kept.next; requests = kept.accepted; failures = 0 }) v.edits
             port.read_faults port'.read_faults port.write_faults port'.write_faults) (sym all) v.serves;
         counted = carried_all served.stop count served.connections (carried port') v.connections (listening_at port address) port' untold v.stop complete all v.count;
         all_redone = kept.redone;

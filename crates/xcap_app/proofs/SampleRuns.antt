@@ -13,7 +13,6 @@ use Rattle.store_core.specs.Contents.{Represents, StoreContents as Content}
 use Rattle.store_core.specs.ValidStates.{IsValidState}
 use Rattle.store_core.specs.State.{State}
 use Rattle.xcap_machine.specs.Machine.{ValidStep}
-use Rattle.xcap_machine.specs.SubscriberVersions.{SubscribersHold}
 use Rattle.xcap_machine.specs.Servers.{ServerState}
 use Rattle.xcap_app.specs.StatusRecorders.{Noted, NotedStep, none_noted}
 use Rattle.xcap_app.specs.SampleRequests.{all_connections, connections_from, root_text}
@@ -26,14 +25,13 @@ use Rattle.xcap_app.proofs.KnownConnections.{all_served}
 -- the answer of a server, whose status was recorded
 pub answers_noting : (old new : NotingState) (server server' : ServerState) (statuses : List ℕ) (room : ℕ) (request : Request) (reply : SentReply) (status : ℕ) (edit : Option Edit)
     → record { server = server; statuses = statuses; room = room } ≡ old → new ≡ record { server = server'; statuses = statuses ++ status ∷ []; room = room } → status ≡ reply.status → server'.root ≡ server.root
-    → ((m : State) → IsValidState m → Represents server.content m → (next : State) × ValidStep server.root m request reply next edit × Represents server'.content next)
-    → ((m : State) → IsValidState m → Represents server.content m → SubscribersHold server.root m request reply) → AnswersNoting old request reply new edit
-answers_noting old new server server' statuses room request reply status edit was is noted same steps holds =
+    → ((m : State) → IsValidState m → Represents server.content m → (next : State) × ValidStep server.root m request reply next edit × Represents server'.content next) → AnswersNoting old request reply new edit
+answers_noting old new server server' statuses room request reply status edit was is noted same steps =
     let before : NotingState = record { server = server; statuses = statuses; room = room } in
     let after : NotingState = record { server = server'; statuses = statuses ++ status ∷ []; room = room } in
     let one : AnswersNoting before request reply after edit = record {
       same_root = same;
-      follows = λ m kept stands. let t = steps m kept stands in (t.0, t.1.2, t.2, (t.1, holds m kept stands));
+      follows = λ m kept stands. let t = steps m kept stands in (t.0, t.1.2, t.2, t.1);
       notes = ap (λ (n : ℕ). statuses ++ n ∷ []) noted;
     } in
     subst (λ (o : NotingState). AnswersNoting o request reply new edit) was (subst (λ (n : NotingState). AnswersNoting before request reply n edit) (sym is) one)
@@ -41,9 +39,9 @@ answers_noting old new server server' statuses room request reply status edit wa
 -- what a port that never fails served
 pub serves_them : {W : Type 0} (Keeps : List Edit → W → W → Type 0) (served : ServeSummary) (root : List ℕ) (all : List (List ℕ)) (s s' : NotingState) (count : ℕ) (old new : StreamState) (w w' : W) (m : Noted)
     → count ≡ length all → old.port.to_come ≡ Some all → old.port.faults ≡ 0 → new.port.faults ≡ 0 → old.read_faults ≡ 0 → new.read_faults ≡ 0 → old.write_faults ≡ 0 → new.write_faults ≡ 0 → RepresentsRecorded root s m
-    → ServesPort (InBytes AnswersNoting) Keeps count served s s' old new w w' → ServesThem root all s' m
+    → ServesPort (InBytes AnswersNoting) Keeps (record { most = count; served = served }) (record { machine = s; stream = old; watchers = w }) (record { machine = s'; stream = new; watchers = w' }) → ServesThem root all s' m
 serves_them Keeps served root all s s' count old new w w' m many told f f' r r' t t' stands v =
-    let v' : ServesPort (InBytes AnswersNoting) Keeps (length all) served s s' old new w w' = subst (λ (n : ℕ). ServesPort (InBytes AnswersNoting) Keeps n served s s' old new w w') many v in
+    let v' : ServesPort (InBytes AnswersNoting) Keeps (record { most = length all; served = served }) (record { machine = s; stream = old; watchers = w }) (record { machine = s'; stream = new; watchers = w' }) = subst (λ (n : ℕ). ServesPort (InBytes AnswersNoting) Keeps (record { most = n; served = served }) (record { machine = s; stream = old; watchers = w }) (record { machine = s'; stream = new; watchers = w' })) many v in
     let by = port_by (InBytes AnswersNoting) (InBytes (NotedStep root)) (RepresentsRecorded root) (noted_step root) Keeps (length all) served s s' m old new w w' stands v' in
     let done = all_served (InBytes (NotedStep root)) Keeps served m by.0 all old new w w' told f f' r r' t t' by.2 in
     record { connections = done.0; all_bytes = done.1; all_ends = done.2; next = by.0; edits = done.3; stands = by.1; serves = done.4 }

@@ -4,7 +4,7 @@ use Rattle.store_core.specs.Contents.{Represents, StoreContents as Content}
 use Rattle.store_core.specs.ValidStates.{IsValidState}
 use Rattle.store_core.specs.State.{State, first_state}
 use Rattle.store_core.proofs.KeptAfter.{kept-first}
-use Rattle.xcap_machine.specs.SubscriberVersions.{FollowedStep}
+use Rattle.xcap_machine.specs.Machine.{ValidStep}
 use Rattle.edit_ops.specs.declared.edit.Edit.{Edit}
 use Rattle.xcap_io.specs.Causes.{StreamState}
 use Rattle.xcap_io.specs.Connections.{listening_at}
@@ -29,14 +29,14 @@ begun c e = subst (λ d. Represents d (first_state 1)) (sym e) refl
 module _ {W : Type 0} (Keeps : List Edit → W → W → Type 0) where
   -- what a new server did on a port that listens
   pub served_address : (arguments : ServiceArguments) (served : ServeSummary) (before content : Content) (old new : ServiceState W) (listening : StreamState) → before ≡ record { documents = []; next = 1 } → listening ≡ listening_at old.port arguments.address
-      → ((m : State) → IsValidState m → Represents before m → (next : State) × IsValidState next × Represents content next × ServesPort (InBytes (FollowedStep arguments.root)) Keeps arguments.count served m next listening new.port old.watchers new.watchers)
+      → ((m : State) → IsValidState m → Represents before m → (next : State) × IsValidState next × Represents content next × ServesPort (InBytes (ValidStep arguments.root)) Keeps (record { most = arguments.count; served = served }) (record { machine = m; stream = listening; watchers = old.watchers }) (record { machine = next; stream = new.port; watchers = new.watchers }))
       → ServesAddress Keeps arguments served old new
   served_address arguments served before content old new listening is_new listens serves =
       let s = serves (first_state 1) (kept-first 1 (omega arith)) (begun before is_new) in
       record {
         state = s.0;
         kept = s.1;
-        serves = subst (λ (l : StreamState). ServesPort (InBytes (FollowedStep arguments.root)) Keeps arguments.count served (first_state 1) s.0 l new.port old.watchers new.watchers) listens s.3;
+        serves = subst (λ (l : StreamState). ServesPort (InBytes (ValidStep arguments.root)) Keeps (record { most = arguments.count; served = served }) (record { machine = first_state 1; stream = l; watchers = old.watchers }) (record { machine = s.0; stream = new.port; watchers = new.watchers })) listens s.3;
       }
 
   -- and where their number was printed

@@ -4,7 +4,7 @@ use Rattle.http_wire.specs.declared.request.Request.{Request}
 use Rattle.http_serve.specs.ReplyBytes.{InBytes}
 use Rattle.edit_ops.specs.declared.edit.Edit.{Edit}
 use Rattle.store_core.proofs.KeptAfter.{kept-first}
-use Rattle.xcap_machine.specs.SubscriberVersions.{FollowedStep}
+use Rattle.xcap_machine.specs.Machine.{ValidStep}
 use Rattle.xcap_app.specs.StatusRecorders.{Noted, NotedStep, none_noted}
 use Rattle.xcap_app.specs.SampleRequests.{root_text}
 use Rattle.xcap_app.specs.inner.RecorderSteps.{AnswersNoting, NotingState, RepresentsRecorded, is_new}
@@ -15,7 +15,7 @@ pub noted_step : (root : List ℕ) (s s' : NotingState) (m : Noted) (request : R
 noted_step root s s' m request bytes edit here a =
     let t = a.step.follows m.state here.kept here.stands in
     let statuses : List ℕ = m.statuses ++ a.reply.status ∷ [] in
-    let step : FollowedStep root m.state request a.reply t.0 edit = subst (λ (r : List ℕ). FollowedStep r m.state request a.reply t.0 edit) here.same_root t.3 in (
+    let step : ValidStep root m.state request a.reply t.0 edit = subst (λ (r : List ℕ). ValidStep r m.state request a.reply t.0 edit) here.same_root t.3 in (
       record { state = t.0; statuses = statuses },
       record {
         same_root = a.step.same_root ∙ here.same_root;

@@ -25,7 +25,7 @@ use Rattle.store_core.specs.ValidStates.{IsValidState}
 use Rattle.store_core.specs.State.{State, first_state}
 use Rattle.xcap_machine.specs.Answers.{unchanged}
 use Rattle.xcap_machine.specs.Requests.{IsAnswer}
-use Rattle.xcap_machine.specs.SubscriberVersions.{FollowedStep}
+use Rattle.xcap_machine.specs.Machine.{ValidStep}
 use Rattle.xcap_server.specs.ReplayedRequests.{Redoing}
 use Rattle.xcap_app.specs.Frames.{JustWritten}
 use Rattle.xcap_app.specs.RunStates.{IoStreams, KeepState, ServiceState, journals, keeping}
@@ -137,17 +137,28 @@ module _ {W : Type 0} (Keeps : List Edit → W → W → Type 0)
     pub accepted : List Request
     pub next : State
     pub valid : IsValidState next
-    pub serves : ServesPort (InBytes (LoggedStep (FollowedStep arguments.root))) Keeps
-        arguments.count kept.served
-        (record { machine = journal.state; requests = journal.requests; failures = 0 })
-        (record { machine = next; requests = accepted; failures = kept.failures })
-        (listening_at old.port arguments.address) new.port old.watchers new.watchers
+    pub serves : ServesPort (InBytes (LoggedStep (ValidStep arguments.root))) Keeps
+        (record { most = arguments.count; served = kept.served })
+        (record {
+          machine = record {
+            machine = journal.state;
+            requests = journal.requests;
+            failures = 0;
+          };
+          stream = listening_at old.port arguments.address;
+          watchers = old.watchers;
+        })
+        (record {
+          machine = record { machine = next; requests = accepted; failures = kept.failures };
+          stream = new.port;
+          watchers = new.watchers;
+        })
     pub redone : Redoing arguments.root (first_state 1) accepted next
     pub told : All IsRecordedRequest accepted
     pub written : IsWritten (text accepted ++ kept.rest)
     pub behind : (kept.rest ≡ [])
         ⊎ ((request : Request) × IsRecordable request
-        × Accepts (FollowedStep arguments.root) next request
+        × Accepts (ValidStep arguments.root) next request
         × IsFirstOf kept.rest (record_of request))
 
   -- After the old journal: all connections were served, and all records written; or writing

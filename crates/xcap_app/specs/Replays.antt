@@ -3,7 +3,7 @@
 use Rattle.std.specs.Prelude.{◌≡◌, ℕ, List}
 use Rattle.store_core.specs.ValidStates.{IsValidState}
 use Rattle.store_core.specs.State.{State, first_state}
-use Rattle.xcap_machine.specs.SubscriberVersions.{FollowedStep}
+use Rattle.xcap_machine.specs.Machine.{ValidStep}
 use Rattle.edit_ops.specs.declared.edit.Edit.{Edit}
 use Rattle.xcap_io.specs.Histories.{Traffic}
 use Rattle.xcap_io.specs.StreamTraffic.{Gave, Took}
@@ -36,7 +36,7 @@ module _ {W : Type 0} (Keeps : List Edit → W → W → Type 0) where
     pub gave : Gave old.input.inward new.input.inward passed.given
     pub found_end : passed.ended ≡ new.input.inward.ended
     pub took : Took old.output.taken new.output.taken passed.taken
-    pub serves : Serves (InBytes (FollowedStep root)) fixed_reply ended before passed state edits
+    pub serves : Serves (InBytes (ValidStep root)) fixed_reply ended before passed state edits
     pub told : Keeps edits old.watchers new.watchers
     pub faults : FaultsBy ended old.input.read_faults new.input.read_faults
         old.output.write_faults new.output.write_faults

@@ -3,7 +3,7 @@
 use Rattle.std.specs.Prelude.{◌≡◌, ℕ, ◌⊎◌, List, ◌++◌, codes, decimal}
 use Rattle.store_core.specs.ValidStates.{IsValidState}
 use Rattle.store_core.specs.State.{State, first_state}
-use Rattle.xcap_machine.specs.SubscriberVersions.{FollowedStep}
+use Rattle.xcap_machine.specs.Machine.{ValidStep}
 use Rattle.edit_ops.specs.declared.edit.Edit.{Edit}
 use Rattle.xcap_io.specs.Connections.{ListenFailed, listening_at}
 use Rattle.http_serve.specs.Ports.{ServesPort}
@@ -44,9 +44,14 @@ module _ {W : Type 0} (Keeps : List Edit → W → W → Type 0) where
       (old new : ServiceState W) : Type 0 where
     pub state : State
     pub kept : IsValidState state
-    pub serves : ServesPort (InBytes (FollowedStep arguments.root)) Keeps arguments.count served
-        (first_state 1) state (listening_at old.port arguments.address) new.port
-        old.watchers new.watchers
+    pub serves : ServesPort (InBytes (ValidStep arguments.root)) Keeps
+        (record { most = arguments.count; served = served })
+        (record {
+          machine = first_state 1;
+          stream = listening_at old.port arguments.address;
+          watchers = old.watchers;
+        })
+        (record { machine = state; stream = new.port; watchers = new.watchers })
 
   -- All connections were served, and their number was written, or a part of it where the output
   -- failed; or the port doesn't listen or failed to begin a connection, and nothing was written;

@@ -4,7 +4,7 @@ use Rattle.reply_text.specs.ReplyHeads.{SentReply}
 use Rattle.http_wire.specs.declared.request.Request.{Request}
 use Rattle.edit_ops.specs.declared.edit.Edit.{Edit}
 use Rattle.store_core.specs.State.{State, first_state}
-use Rattle.xcap_machine.specs.SubscriberVersions.{FollowedStep}
+use Rattle.xcap_machine.specs.Machine.{ValidStep}
 
 -- a state, and the statuses so far, in order
 pub record Noted : Type 0 where
@@ -18,5 +18,5 @@ none_noted = record { state = first_state 1; statuses = [] }
 -- A step of the machine, whose reply's status is appended to the others.
 pub record NotedStep (root : List ℕ) (m : Noted) (request : Request) (reply : SentReply)
     (next : Noted) (edit : Option Edit) : Type 0 where
-  pub step : FollowedStep root m.state request reply next.state edit
+  pub step : ValidStep root m.state request reply next.state edit
   pub notes : next.statuses ≡ m.statuses ++ reply.status ∷ []

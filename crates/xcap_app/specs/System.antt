@@ -10,7 +10,7 @@ use Rattle.xcap_server.specs.ReplayedRequests.{Redoing}
 use Rattle.http_wire.specs.ServedConnections.{Serves, ServesAll}
 use Rattle.http_wire.specs.declared.close_reason.CloseReason.TheVariants.{Closed}
 use Rattle.http_serve.specs.FixedReplies.{fixed_reply}
-use Rattle.xcap_machine.specs.SubscriberVersions.{FollowedStep}
+use Rattle.xcap_machine.specs.Machine.{ValidStep}
 use Rattle.http_serve.specs.ReplyBytes.{InBytes}
 use Rattle.xcap_io.specs.Connections.{carried}
 use Rattle.doc_names.specs.declared.doc_id.DocId.{DocId}
@@ -44,7 +44,7 @@ module _ {W : Type 0} (Keeps : List Edit → W → W → Type 0) where
   pub record AnswersAll (root : List ℕ) (old new : RunState W) : Type 0 where
     pub state : State
     pub edits : List Edit
-    pub serves : ServesAll (InBytes (FollowedStep root)) fixed_reply (first_state 1)
+    pub serves : ServesAll (InBytes (ValidStep root)) fixed_reply (first_state 1)
         (carried new.port) state edits
         old.port.read_faults new.port.read_faults old.port.write_faults new.port.write_faults
     pub told : Keeps edits old.watchers new.watchers
@@ -54,7 +54,7 @@ module _ {W : Type 0} (Keeps : List Edit → W → W → Type 0) where
   pub record AnswersInput (root : List ℕ) (old new : RunState W) : Type 0 where
     pub state : State
     pub edits : List Edit
-    pub serves : Serves (InBytes (FollowedStep root)) fixed_reply Closed (first_state 1)
+    pub serves : Serves (InBytes (ValidStep root)) fixed_reply Closed (first_state 1)
         (record {
           given = new.input.inward.given;
           ended = new.input.inward.ended;
@@ -77,7 +77,7 @@ module _ {W : Type 0} (Keeps : List Edit → W → W → Type 0) where
     pub read : Whole new.input.inward.given requests rest
     pub torn : IsTorn rest
     pub redone : Redoing root (first_state 1) requests state
-    pub serves : ServesAll (InBytes (LoggedStep (FollowedStep root))) fixed_reply
+    pub serves : ServesAll (InBytes (LoggedStep (ValidStep root))) fixed_reply
         (record { machine = state; requests = requests; failures = 0 }) (carried new.port)
         (record { machine = next; requests = accepted; failures = 0 }) edits
         old.port.read_faults new.port.read_faults old.port.write_faults new.port.write_faults

@@ -7,8 +7,8 @@ ghost use Rattle.xcap_app.specs.Messages.{Tells};
 ghost use Rattle.xcap_app.specs.declared.exit.Exit.{Exit};
 
 use crate::arguments::command_of;
-use crate::asking::{run_delete, run_fetch, run_follow, run_put};
 use crate::check::check;
+use crate::client_runs::{run_delete, run_fetch, run_follow, run_put};
 use crate::command::Command;
 use crate::exit::Exit;
 use crate::keep::keep;

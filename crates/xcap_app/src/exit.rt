@@ -1,7 +1,7 @@
 // How a run ends: its status, and its message on the stream for errors.
 ghost use Rattle.std.specs.Prelude.{◌≡◌, IfOk, OnErr};
 ghost use Rattle.xcap_app.specs.Exits.{IsRefused, status_of, words_of};
-ghost use Rattle.xcap_app.specs.inner.Exits.{said};
+ghost use Rattle.xcap_app.specs.inner.Exits.{message_bytes};
 
 use crate::journal_refusal::JournalRefusal;
 use crate::refusal::Refusal;
@@ -40,7 +40,7 @@ pub(crate) enum Message {
 
 impl Message {
     pub(crate) fn as_slice(&self) -> &[u8]
-        ensures exact { result.now ≡ said self.now }
+        ensures exact { result.now ≡ message_bytes self.now }
     {
         match self {
             Message::Fixed(words) => words,
@@ -77,7 +77,7 @@ impl Exit {
     /// allocate.
     #[tactic(auto, unfolding(crate::specs::Exits::usage_line))]
     pub(crate) fn words(&self, alloc: Global) -> Result<Message, AllocError>
-        ensures ok { IfOk result (λ words. said words ≡ words_of self.now) }
+        ensures ok { IfOk result (λ words. message_bytes words ≡ words_of self.now) }
         ensures err_is_refusal { OnErr result (IsRefused self.now) }
     {
         match self {

@@ -9,10 +9,10 @@
 #![tactic(auto)]
 
 mod arguments;
-mod asking;
 mod check;
 mod check_verdict;
 mod client_arguments;
+mod client_runs;
 mod command;
 mod entry_point;
 mod exit;

@@ -1,5 +1,6 @@
-//! The client: requests written to a sink, responses read from a source, and the calls that fetch,
-//! put and remove a resource by one exchange over a connection of its own.
+//! The client: requests written, responses read, and the calls that fetch, put and remove a
+//! resource. A request goes to a sink, a response comes from a source, and a call is one exchange
+//! over a connection of its own.
 //! Promises upward that on the connection the peer took exactly the request, or a proper prefix of
 //! it where a write failed (`write_request`, `ConnectsOnce`); that the answer is the meaning of
 //! the response's bytes, of which there is one (`SaysResponse`, `bytes_say_one_thing`); and that

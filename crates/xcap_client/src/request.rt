@@ -30,8 +30,9 @@ fn write_pieces<S: Sink>(
     write_buffer: &mut WriteBuffer,
     pieces: &[&[u8]],
 ) -> Result<(), Failed>
-    ensures appends_pieces { Adds (S.state sink.old) write_buffer.old
-        (S.state sink.new) write_buffer.new result
+    ensures appends_pieces { Adds
+        (record { sink = S.state sink.old; held = write_buffer.old })
+        (record { sink = S.state sink.new; held = write_buffer.new }) result
         (flat_map (λ piece. piece.now) pieces.now) }
 {
     'pieces: for piece in pieces {

@@ -18,7 +18,7 @@ use reply_text::{MediaType, Reply};
 use request_checks::{Method, condition_reply, document_media};
 use std::alloc::Global;
 use store_core::Store;
-use tree_text::print_document;
+use tree_print::print_document;
 use xml_tree::Element;
 
 // The reply with a document that is printed here, and only where the conditions pass.

@@ -1,5 +1,6 @@
-//! GET and HEAD: of documents and their nodes, of feeds (what became of a document or an element
-//! since a version), and of flat lists (a service's addresses with references resolved).
+//! GET and HEAD of documents and their nodes, of feeds, and of flat lists. A feed is what became
+//! of a document or an element since a version, a flat list a service's addresses with references
+//! resolved.
 //! Promises upward for each the exact reply of the machine on the store's contents (clause
 //! `machine_reply` of `get_document`, `get_node`, `get_feed`, `get_element_feed` and `get_flat`),
 //! and that the contents are unchanged.

@@ -16,7 +16,7 @@ use reply_text::{MediaType, Reply};
 use request_checks::{Method, for_method};
 use std::alloc::{AllocError, Global};
 use store_core::Store;
-use tree_text::print_document;
+use tree_print::print_document;
 use xcap_uri::Root;
 use xml_names::{ReadError, Text};
 use xml_tree::Element;

@@ -5,7 +5,7 @@ use Rattle.std.proofs.Math.Seq.{take-suc}
 use Rattle.std.proofs.lemmas.List.{map-append, take-set, drop_all, drop-set-lt}
 use Rattle.xcap_io.specs.Connections.{Comes, Connects, Next, OnlyNext}
 use Rattle.xcap_io.specs.Histories.{Traffic, carried_by}
-use Rattle.xcap_io.specs.Memory.{MemoryStream, MemoryLines, MemoryPeer, MemoryPort, begun_anew, begin_next, BeginsLine, line_at, line_traffic, lines_begun, next_number, no_line, peer_state, port_state, present_line}
+use Rattle.xcap_io.specs.Memory.{MemoryStream, MemoryLines, MemoryPeer, MemoryPort, reset_line, begin_next, BeginsLine, line_at, line_traffic, lines_begun, next_number, no_line, peer_state, port_state, present_line}
 
 -- the next stream is the one that begins
 pub comes_next : (lines : List MemoryStream) (at : ℕ) (line : MemoryStream) → at < length lines → line.left ≡ (line_at lines at).left
@@ -31,7 +31,7 @@ line_begins : (old : MemoryPort) (until_fault : Option ℕ) → next_number old.
     → Next (port_state old) (port_state (record old { lines = begin_next old.lines; until_fault = until_fault }))
 line_begins old until_fault within =
     let at : ℕ = next_number old.lines.present in
-    let line : MemoryStream = begun_anew (line_at old.lines.lines at) in
+    let line : MemoryStream = reset_line (line_at old.lines.lines at) in
     record {
       comes = comes_next old.lines.lines at line within refl;
       begins = ap (λ (l : List Traffic). record { earlier = l; is_present = true })
@@ -65,7 +65,7 @@ line_connects : (old : MemoryPeer) (until_fault : Option ℕ) (address : List �
     → Connects (peer_state old) (peer_state (record { lines = begin_next old.lines; until_fault = until_fault; addresses = address ∷ old.addresses; faults = old.faults })) address
 line_connects old until_fault address within =
     let at : ℕ = next_number old.lines.present in
-    let line : MemoryStream = begun_anew (line_at old.lines.lines at) in
+    let line : MemoryStream = reset_line (line_at old.lines.lines at) in
     record {
       comes = comes_next old.lines.lines at line within refl;
       begins = ap (λ (l : List Traffic). record { earlier = l; is_present = true })

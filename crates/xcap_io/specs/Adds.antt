@@ -4,15 +4,21 @@ use Rattle.xcap_io.specs.Causes.{StreamState, OnlyWrites}
 use Rattle.xcap_io.specs.StreamTraffic.{Took}
 use Rattle.xcap_io.specs.Streams.{TookProperPrefix}
 
+-- A sink, and the bytes that are buffered for it.
+pub record BufferedSink : Type 0 where
+  pub sink : StreamState
+  pub held : List ℕ
+
 -- the bytes were handed over or are buffered, after what was buffered before
-abbrev pub Gathers : List ℕ → List ℕ → List ℕ → List ℕ → List ℕ → Type 0
-Gathers old held new held' bytes =
-    (over : List ℕ) × Took old new over × (held ++ bytes ≡ over ++ held')
+abbrev pub Gathers : BufferedSink → BufferedSink → List ℕ → Type 0
+Gathers old new bytes =
+    (over : List ℕ) × Took old.sink.taken new.sink.taken over
+    × (old.held ++ bytes ≡ over ++ new.held)
 
 -- All bytes were handed over or are buffered; or at a failure a proper prefix of the buffered
 -- bytes and these was handed over.
-pub record Adds {E : Type 0} (old : StreamState) (held : List ℕ) (new : StreamState)
-    (held' : List ℕ) (result : Result (Unit {0}) E) (bytes : List ℕ) : Type 0 where
-  pub taken : MatchResult result (λ _. Gathers old.taken held new.taken held' bytes) (λ _.
-      TookProperPrefix old.taken new.taken (held ++ bytes))
-  pub only_writes : OnlyWrites old new result
+pub record Adds {E : Type 0} (old new : BufferedSink) (result : Result (Unit {0}) E)
+    (bytes : List ℕ) : Type 0 where
+  pub taken : MatchResult result (λ _. Gathers old new bytes) (λ _.
+      TookProperPrefix old.sink.taken new.sink.taken (old.held ++ bytes))
+  pub only_writes : OnlyWrites old.sink new.sink result

@@ -3,7 +3,7 @@
 use Rattle.std.specs.Prelude.{◌≡◌, ◌≢◌, ℕ, zero, suc, ◌+◌, ◌-◌, ◌<◌, ◌==◌, min, List, [], ◌∷◌, ◌++◌}
 use Rattle.std.specs.Prelude.{length, map, take, drop, Bool, true, false, Option, None, Some}
 use Rattle.std.specs.Prelude.{Result, Ok, Err, option_map, unwrap_or, IsErr, ◌⊎◌, slice_index_or}
-use Rattle.std.specs.Prelude.{slice_set}
+use Rattle.std.specs.Prelude.{slice_set, MatchOption}
 use Rattle.xcap_io.specs.Causes.{Begun, StreamState, greatest_count, no_port, no_peer}
 use Rattle.xcap_io.specs.Histories.{Traffic}
 
@@ -110,14 +110,14 @@ next_number None = 0
 next_number (Some i) = i + 1
 
 -- the stream, over which nothing has passed
-abbrev pub begun_anew : MemoryStream → MemoryStream
-begun_anew line = record line { given = []; ended = false; taken = [] }
+abbrev pub reset_line : MemoryStream → MemoryStream
+reset_line line = record line { given = []; ended = false; taken = [] }
 
 -- the next stream begins
 abbrev pub begin_next : MemoryLines → MemoryLines
 begin_next m =
     let at = next_number m.present in
-    record m { lines = slice_set m.lines at (begun_anew (line_at m.lines at)); present = Some at }
+    record m { lines = slice_set m.lines at (reset_line (line_at m.lines at)); present = Some at }
 
 -- whether a stream was left, and so began
 abbrev pub BeginsLine : MemoryLines → MemoryLines → Bool → Type 0
@@ -125,31 +125,31 @@ BeginsLine old new true = (next_number old.present < length old.lines) × (new �
 BeginsLine old new false = (next_number old.present ≡ length old.lines) × (new ≡ old)
 
 -- a fault counter after a call
-abbrev pub counted : {T E : Type 0} → Result T E → ℕ → ℕ
-counted (Ok x) faults = faults
-counted (Err e) faults = one_more faults
+abbrev pub count_after : {T E : Type 0} → Result T E → ℕ → ℕ
+count_after (Ok x) faults = faults
+count_after (Err e) faults = one_more faults
 
 -- a read reads from the present stream; where there is none, it finds the end of the input
-abbrev pub LinesRead : {E : Type 0} → Option ℕ → MemoryLines → MemoryLines → ℕ → Result ℕ E → Type 0
-LinesRead None old new wanted result = (result ≡ Ok 0) × (new ≡ old)
-LinesRead (Some i) old new wanted result =
+abbrev pub LinesRead : {E : Type 0} → MemoryLines → MemoryLines → ℕ → Result ℕ E → Type 0
+LinesRead old new wanted result = MatchOption old.present
+    ((result ≡ Ok 0) × (new ≡ old))
+    (λ i.
     (line : MemoryStream) × MemoryRead (line_at old.lines i) line wanted result
     × (new ≡ record old {
       lines = slice_set old.lines i line;
-      read_faults = counted result old.read_faults;
-    })
+      read_faults = count_after result old.read_faults;
+    }))
 
 -- a write writes to the present stream; where there is none, it fails
-abbrev pub LinesWrite : {E : Type 0} → Option ℕ → MemoryLines → MemoryLines → List ℕ → Result ℕ E
-    → Type 0
-LinesWrite None old new piece result =
-    IsErr result × (new ≡ record old { write_faults = one_more old.write_faults })
-LinesWrite (Some i) old new piece result =
+abbrev pub LinesWrite : {E : Type 0} → MemoryLines → MemoryLines → List ℕ → Result ℕ E → Type 0
+LinesWrite old new piece result = MatchOption old.present
+    (IsErr result × (new ≡ record old { write_faults = one_more old.write_faults }))
+    (λ i.
     (line : MemoryStream) × MemoryWrite (line_at old.lines i) line piece result
     × (new ≡ record old {
       lines = slice_set old.lines i line;
-      write_faults = counted result old.write_faults;
-    })
+      write_faults = count_after result old.write_faults;
+    }))
 
 -- streams in memory as one stream
 abbrev pub lines_state : MemoryLines → StreamState

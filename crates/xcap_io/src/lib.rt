@@ -1,5 +1,5 @@
-//! Byte sources and sinks, ports that accept connections and peers that make them, in memory and
-//! over real streams and TCP sockets. Each call adds the bytes that it read or wrote to the
+//! Byte sources and sinks, ports and peers, in memory and over real streams and TCP sockets. Ports
+//! accept connections, and peers make them. Each call adds the bytes that it read or wrote to the
 //! stream's state (`Gave`, `Took`, `Next`, `Connects`); bytes read are the next ones left where
 //! the stream shows them, and a call fails only if a fault counter rose (`Counts`, `CountRises`).
 //! The model is this project's own; no standard defines it.
@@ -19,8 +19,8 @@ mod streams;
 mod tcp;
 mod tcp_peer;
 mod traffic_log;
+mod whole_writes;
 mod write_buffer;
-mod writing;
 
 pub use address_history::AddressHistory;
 pub use bytes::Bytes;
@@ -34,5 +34,5 @@ pub use streams::{Failed, Line, Peer, Port, Sink, Source, fault};
 pub use tcp::TcpPort;
 pub use tcp_peer::TcpPeer;
 pub use traffic_log::TrafficLog;
+pub use whole_writes::write_all;
 pub use write_buffer::{WriteBuffer, flush, put};
-pub use writing::write_all;

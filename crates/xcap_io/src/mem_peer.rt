@@ -76,7 +76,7 @@ impl Source for MemPeer {
         ensures appends_read { GivesReadBytes (peer_state self.old).inward
             (peer_state self.new).inward result buf.new }
         ensures only_reads { OnlyReads (peer_state self.old) (peer_state self.new) result }
-        ensures as_memory_form { LinesRead self.old.lines.present self.old.lines self.new.lines
+        ensures as_memory_form { LinesRead self.old.lines self.new.lines
             (length buf.old) result }
         ensures rest_unchanged { self.new ≡ record self.old { lines = self.new.lines } }
     {
@@ -91,8 +91,7 @@ impl Sink for MemPeer {
         ensures appends_written { TakesWrittenBytes (peer_state self.old).taken
             (peer_state self.new).taken result piece.now }
         ensures only_writes { OnlyWrites (peer_state self.old) (peer_state self.new) result }
-        ensures as_memory_form { LinesWrite self.old.lines.present self.old.lines self.new.lines
-            piece.now result }
+        ensures as_memory_form { LinesWrite self.old.lines self.new.lines piece.now result }
         ensures rest_unchanged { self.new ≡ record self.old { lines = self.new.lines } }
     {
         self.lines.write(piece)

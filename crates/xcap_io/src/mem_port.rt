@@ -99,7 +99,7 @@ impl Source for MemPort {
         ensures appends_read { GivesReadBytes (port_state self.old).inward
             (port_state self.new).inward result buf.new }
         ensures only_reads { OnlyReads (port_state self.old) (port_state self.new) result }
-        ensures as_memory_form { LinesRead self.old.lines.present self.old.lines self.new.lines
+        ensures as_memory_form { LinesRead self.old.lines self.new.lines
             (length buf.old) result }
         ensures rest_unchanged { self.new ≡ record self.old { lines = self.new.lines } }
     {
@@ -114,8 +114,7 @@ impl Sink for MemPort {
         ensures appends_written { TakesWrittenBytes (port_state self.old).taken
             (port_state self.new).taken result piece.now }
         ensures only_writes { OnlyWrites (port_state self.old) (port_state self.new) result }
-        ensures as_memory_form { LinesWrite self.old.lines.present self.old.lines self.new.lines
-            piece.now result }
+        ensures as_memory_form { LinesWrite self.old.lines self.new.lines piece.now result }
         ensures rest_unchanged { self.new ≡ record self.old { lines = self.new.lines } }
     {
         self.lines.write(piece)

@@ -2,7 +2,7 @@
 ghost use Rattle.std.specs.Prelude.{◌≡◌, ◌<◌, ◌≤◌, [], false, length, IfOk, IfSome, Some, min};
 ghost use Rattle.std.specs.Io.{ReadsAtMost};
 ghost use Rattle.xcap_io.specs.Causes.{OnlyReads, OnlyWrites};
-ghost use Rattle.xcap_io.specs.Memory.{begun_anew, MemoryRead, MemoryWrite, line_state};
+ghost use Rattle.xcap_io.specs.Memory.{reset_line, MemoryRead, MemoryWrite, line_state};
 ghost use Rattle.xcap_io.specs.inner.Memory.{Gives};
 ghost use Rattle.xcap_io.specs.StreamTraffic.{GivesReadBytes, TakesWrittenBytes};
 ghost use Rattle.xcap_io.specs.Streams.{WritesSome};
@@ -95,7 +95,7 @@ impl MemStream {
 
     /// Forgets what has passed, for a new connection over this stream.
     pub(crate) fn begin(&mut self)
-        ensures begins_anew { self.new ≡ begun_anew self.old }
+        ensures begins_anew { self.new ≡ reset_line self.old }
     {
         self.held = 0;
         self.log = TrafficLog::new();

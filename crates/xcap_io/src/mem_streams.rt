@@ -85,8 +85,7 @@ impl Source for MemStreams {
         ensures appends_read { GivesReadBytes (lines_state self.old).inward
             (lines_state self.new).inward result buf.new }
         ensures only_reads { OnlyReads (lines_state self.old) (lines_state self.new) result }
-        ensures as_memory_form { LinesRead self.old.present self.old self.new
-            (length buf.old) result }
+        ensures as_memory_form { LinesRead self.old self.new (length buf.old) result }
     {
         let Some(at) = self.present else {
             return Ok(0);
@@ -106,7 +105,7 @@ impl Sink for MemStreams {
         ensures appends_written { TakesWrittenBytes (lines_state self.old).taken
             (lines_state self.new).taken result piece.now }
         ensures only_writes { OnlyWrites (lines_state self.old) (lines_state self.new) result }
-        ensures as_memory_form { LinesWrite self.old.present self.old self.new piece.now result }
+        ensures as_memory_form { LinesWrite self.old self.new piece.now result }
     {
         let Some(at) = self.present else {
             return Err(fault(&mut self.write_faults));

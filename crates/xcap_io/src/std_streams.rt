@@ -1,6 +1,4 @@
-// Real streams. These few lines are the trusted edge: no contract says that the bytes a system
-// call gives come from the stream, or that the bytes it takes go there. Contracts see which bytes
-// each call gave and took.
+// Real streams. Contracts see which bytes each call of the system gave and took.
 ghost use Rattle.std.specs.Prelude.{◌≡◌, ◌<◌, [], length};
 ghost use Rattle.std.specs.Io.{ReadsAtMost};
 ghost use Rattle.std.specs.Io.KnownBytes.{ReadConsumes, WriteAppends};
@@ -70,7 +68,7 @@ impl<R: Read> Source for StdSource<R> {
         ensures from_stream { ReadConsumes (R.remaining self.old.reader)
             (R.remaining self.new.reader) result buf.new }
     {
-        match self.reader.read(buf) {
+        match system_calls::read(&mut self.reader, buf) {
             Ok(count) => {
                 self.log.record_read(&buf[..count]);
                 Ok(count)
@@ -135,7 +133,7 @@ impl<W: Write> Sink for StdSink<W> {
         ensures to_stream { WriteAppends (W.contents self.old.writer)
             (W.contents self.new.writer) result piece.now }
     {
-        match self.writer.write(piece) {
+        match system_calls::write(&mut self.writer, piece) {
             Ok(count) if count > 0 => {
                 self.log.record_write(&piece[..count]);
                 Ok(count)

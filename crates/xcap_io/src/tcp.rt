@@ -1,7 +1,5 @@
-// Accepted connections over real sockets, and what outgoing ones share with them. These few lines
-// are the trusted edge: no contract says that the bytes a system call gives came over the network,
-// or that the bytes it takes go there. Contracts see which bytes each call gave and took, and on
-// which connection.
+// Accepted connections over real sockets, and what outgoing ones share with them. Contracts see
+// which bytes each call of the system gave and took, and on which connection.
 ghost use Rattle.std.specs.Prelude.{◌≡◌, ◌<◌, ◌≤◌, [], None, Some, false, length, take, IfOk, OnOk};
 ghost use Rattle.std.specs.Prelude.{OnErr, IsSome, IfSome, IsTrue, MatchResult};
 ghost use Rattle.std.specs.Io.{ReadsAtMost};
@@ -18,9 +16,10 @@ use crate::address_history::AddressHistory;
 use crate::streams::fault;
 use crate::traffic_log::TrafficLog;
 use crate::{Failed, Line, Port, Sink, Source};
-use std::io::{ErrorKind, Read, Write};
-use std::net::{Net, OpenListener, OpenStream, TcpListener};
+use std::io::{Read, Write};
+use std::net::{Net, OpenListener, OpenStream};
 use std::time::{Clock, Duration, Instant};
+use system_calls::Accepted;
 
 /// How many connections in a row may break before they are accepted, until `next` fails.
 const BROKEN_CONNECTIONS: u32 = 100;
@@ -101,13 +100,14 @@ pub(crate) fn read_from<S: Read>(
     ensures in_bounds { ReadsAtMost result buf.new }
     ensures faults_never_fall { Counts faults.old faults.new result }
     ensures count_never_falls { faults.old ≤ faults.new }
-    ensures from_stream { ReadsStream S.remaining stream.old stream.new result buf.new }
+    ensures from_stream { ReadsStream
+        (record { bytes = S.remaining; old = stream.old; new = stream.new }) result buf.new }
     ensures logs_traffic { MatchResult result
         (λ n. log.new.history ≡ with_given log.old.history (take n buf.new))
         (λ _. log.new.history ≡ log.old.history) }
 {
     match stream {
-        Some(stream) => match stream.read(buf) {
+        Some(stream) => match system_calls::read(stream, buf) {
             Ok(count) => {
                 log.record_read(&buf[..count]);
                 Ok(count)
@@ -129,13 +129,14 @@ pub(crate) fn write_to<S: Write>(
     ensures in_bounds { WritesSome result piece.now }
     ensures faults_never_fall { Counts faults.old faults.new result }
     ensures count_never_falls { faults.old ≤ faults.new }
-    ensures to_stream { WritesStream S.contents stream.old stream.new result piece.now }
+    ensures to_stream { WritesStream
+        (record { bytes = S.contents; old = stream.old; new = stream.new }) result piece.now }
     ensures logs_traffic { MatchResult result
         (λ n. log.new.history ≡ with_taken log.old.history (take n piece.now))
         (λ _. log.new.history ≡ log.old.history) }
 {
     match stream {
-        Some(stream) => match stream.write(piece) {
+        Some(stream) => match system_calls::write(stream, piece) {
             Ok(count) if count > 0 => {
                 log.record_write(&piece[..count]);
                 Ok(count)
@@ -160,40 +161,34 @@ fn accept_next<L: OpenListener>(listener: &Option<L>) -> Option<L::Stream>
 // The next connection that did not break before it was accepted.
 fn accept_whole<L: OpenListener>(listener: &L) -> Option<L::Stream> {
     for _ in 0..BROKEN_CONNECTIONS {
-        match listener.accept() {
-            Ok((stream, _)) => return Some(stream),
-            Err(fault) if fault.kind() == ErrorKind::ConnectionAborted => (),
-            Err(_) => return None,
+        match system_calls::accept(listener) {
+            Accepted::Connection(stream) => return Some(stream),
+            Accepted::Broken => (),
+            Accepted::Failed => return None,
         }
     }
     None
 }
 
-// Writes are few and large here, so they are sent without Nagle's delay. A socket that can't do so
-// works all the same.
-pub(crate) fn send_at_once<S: OpenStream>(stream: &S) {
-    let _ = stream.set_nodelay(true);
-}
-
-// Limits each call on this stream to 10 seconds. A socket that can't do so works all the same.
-fn wait_briefly<S: OpenStream>(stream: &S) {
-    let limit = Some(Duration::from_secs(10));
-    let _ = stream.set_read_timeout(limit);
-    let _ = stream.set_write_timeout(limit);
+// Sends what is written at once, as writes are few and large here, and limits each call on this
+// stream to 10 seconds. A socket that can't do so works all the same.
+fn set_options<S: OpenStream>(stream: &S) {
+    let limit = Duration::from_secs(10);
+    system_calls::set_nodelay(stream);
+    system_calls::set_read_timeout(stream, limit);
+    system_calls::set_write_timeout(stream, limit);
 }
 
 // The moment after which calls on a connection that begins now fail: in 5 minutes. None where the
 // clock can't be read.
 fn last_moment<C: Clock>(clock: &C) -> Option<Instant> {
-    Instant::now(clock)
-        .ok()?
-        .checked_add(Duration::from_secs(300))
+    system_calls::now(clock)?.checked_add(Duration::from_secs(300))
 }
 
 // Whether this moment has passed.
 fn has_passed<C: Clock>(clock: &C, moment: Option<Instant>) -> bool {
-    match (Instant::now(clock), moment) {
-        (Ok(now), Some(moment)) => now > moment,
+    match (system_calls::now(clock), moment) {
+        (Some(now), Some(moment)) => now > moment,
         _ => false,
     }
 }
@@ -206,8 +201,11 @@ impl<N: Net + Clock + Drop> Source for TcpPort<N> {
             (⟦<TcpPort<N> as Line>⟧.state self.new).inward result buf.new }
         ensures only_reads { OnlyReads
             (⟦<TcpPort<N> as Line>⟧.state self.old) (⟦<TcpPort<N> as Line>⟧.state self.new) result }
-        ensures from_stream { ReadsStream N.Stream.remaining self.old.stream self.new.stream result
-            buf.new }
+        ensures from_stream { ReadsStream (record {
+          bytes = N.Stream.remaining;
+          old = self.old.stream;
+          new = self.new.stream;
+        }) result buf.new }
         ensures same_listener { self.new.listener ≡ self.old.listener }
     {
         if has_passed(&self.net, self.last_moment) {
@@ -225,8 +223,11 @@ impl<N: Net + Clock + Drop> Sink for TcpPort<N> {
             (⟦<TcpPort<N> as Line>⟧.state self.new).taken result piece.now }
         ensures only_writes { OnlyWrites
             (⟦<TcpPort<N> as Line>⟧.state self.old) (⟦<TcpPort<N> as Line>⟧.state self.new) result }
-        ensures to_stream { WritesStream N.Stream.contents self.old.stream self.new.stream result
-            piece.now }
+        ensures to_stream { WritesStream (record {
+          bytes = N.Stream.contents;
+          old = self.old.stream;
+          new = self.new.stream;
+        }) result piece.now }
         ensures same_listener { self.new.listener ≡ self.old.listener }
     {
         if has_passed(&self.net, self.last_moment) {
@@ -250,7 +251,7 @@ impl<N: Net + Clock + Drop> Port for TcpPort<N> {
         ensures same_listener { OnErr result (self.new.listener ≡ self.old.listener) }
         ensures same_stream { self.new.stream ≡ self.old.stream }
     {
-        match TcpListener::bind(&self.net, address) {
+        match system_calls::listen(&self.net, address) {
             Ok(listener) => {
                 self.listener = Some(listener);
                 self.addresses.add(address.as_bytes());
@@ -281,8 +282,7 @@ impl<N: Net + Clock + Drop> Port for TcpPort<N> {
         self.log.end();
         match accept_next(&self.listener) {
             Some(stream) => {
-                send_at_once(&stream);
-                wait_briefly(&stream);
+                set_options(&stream);
                 self.last_moment = last_moment(&self.net);
                 self.stream = Some(stream);
                 self.log.begin();

@@ -1,6 +1,4 @@
-// Outgoing connections over real sockets. They are part of the trusted edge, like accepted ones:
-// no contract says that the bytes a system call gives came over the network, or that the bytes it
-// takes go there.
+// Outgoing connections over real sockets.
 ghost use Rattle.std.specs.Prelude.{◌≡◌, ◌<◌, [], None, false, length, OnOk, OnErr, IsSome};
 ghost use Rattle.std.specs.Io.{ReadsAtMost};
 ghost use Rattle.xcap_io.specs.Causes.{OnlyReads, OnlyWrites, inward_of, no_inward, no_port};
@@ -12,10 +10,10 @@ ghost use Rattle.xcap_io.specs.Streams.{WritesSome};
 
 use crate::address_history::AddressHistory;
 use crate::streams::fault;
-use crate::tcp::{read_from, send_at_once, write_to};
+use crate::tcp::{read_from, write_to};
 use crate::traffic_log::TrafficLog;
 use crate::{Failed, Line, Peer, Sink, Source};
-use std::net::{Net, TcpStream};
+use std::net::Net;
 
 /// Makes connections over TCP. Contracts see the address of each, what passed over it, and the
 /// fault counters; not what is left to read. Running out of memory inside a call is a fault like
@@ -83,8 +81,11 @@ impl<N: Net + Drop> Source for TcpPeer<N> {
             (⟦<TcpPeer<N> as Line>⟧.state self.new).inward result buf.new }
         ensures only_reads { OnlyReads
             (⟦<TcpPeer<N> as Line>⟧.state self.old) (⟦<TcpPeer<N> as Line>⟧.state self.new) result }
-        ensures from_stream { ReadsStream N.Stream.remaining self.old.stream self.new.stream result
-            buf.new }
+        ensures from_stream { ReadsStream (record {
+          bytes = N.Stream.remaining;
+          old = self.old.stream;
+          new = self.new.stream;
+        }) result buf.new }
     {
         read_from(&mut self.stream, &mut self.log, &mut self.read_faults, buf)
     }
@@ -98,8 +99,11 @@ impl<N: Net + Drop> Sink for TcpPeer<N> {
             (⟦<TcpPeer<N> as Line>⟧.state self.new).taken result piece.now }
         ensures only_writes { OnlyWrites
             (⟦<TcpPeer<N> as Line>⟧.state self.old) (⟦<TcpPeer<N> as Line>⟧.state self.new) result }
-        ensures to_stream { WritesStream N.Stream.contents self.old.stream self.new.stream result
-            piece.now }
+        ensures to_stream { WritesStream (record {
+          bytes = N.Stream.contents;
+          old = self.old.stream;
+          new = self.new.stream;
+        }) result piece.now }
     {
         write_to(
             &mut self.stream,
@@ -127,9 +131,10 @@ impl<N: Net + Drop> Peer for TcpPeer<N> {
         // The present connection is closed first.
         self.stream = None;
         self.log.end();
-        match TcpStream::connect(&self.net, address) {
+        match system_calls::connect(&self.net, address) {
             Ok(stream) => {
-                send_at_once(&stream);
+                // Requests are few and large, so they are sent at once.
+                system_calls::set_nodelay(&stream);
                 self.stream = Some(stream);
                 self.addresses.add(address.as_bytes());
                 self.log.begin();

@@ -70,8 +70,9 @@ impl WriteBuffer {
 /// prefix of them was taken.
 #[tactic(auto, using(crate::proofs::BufferPieces::adding))]
 pub fn flush<S: Sink>(sink: &mut S, write_buffer: &mut WriteBuffer) -> Result<(), Failed>
-    ensures flushes_in_order { Adds (S.state sink.old) write_buffer.old
-        (S.state sink.new) write_buffer.new result [] }
+    ensures flushes_in_order { Adds
+        (record { sink = S.state sink.old; held = write_buffer.old })
+        (record { sink = S.state sink.new; held = write_buffer.new }) result [] }
     ensures leaves_nothing_gathered { OnOk result (write_buffer.new ≡ []) }
 {
     write_all(sink, write_buffer.as_slice())?;
@@ -87,8 +88,9 @@ pub fn put<S: Sink>(
     write_buffer: &mut WriteBuffer,
     piece: &[u8],
 ) -> Result<(), Failed>
-    ensures appends_piece { Adds (S.state sink.old) write_buffer.old
-        (S.state sink.new) write_buffer.new result piece.now }
+    ensures appends_piece { Adds
+        (record { sink = S.state sink.old; held = write_buffer.old })
+        (record { sink = S.state sink.new; held = write_buffer.new }) result piece.now }
 {
     if piece.len() <= write_buffer.room() {
         write_buffer.hold(piece);

@@ -1,5 +1,5 @@
-//! Laws of the abstract machine for an auditor, each the contract of a public function that does
-//! nothing: what is promised whatever requests come. No code, and no crate stands on it.
+//! Laws of the abstract machine for an auditor: what is promised whatever requests come. Each is
+//! the contract of a public function that does nothing. No code, and no crate stands on it.
 //! Promised are, among others, `strangers_learn_nothing`, `no_lost_update`,
 //! `only_the_addressed_changes`, `limits_hold_in_every_state` and `changes_are_told_once`.
 //! The standards are RFC 4825, 4826, 5874, 5875 and RFC 9110 (sections 8.8, 9.3.2 and 13).

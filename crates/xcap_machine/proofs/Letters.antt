@@ -17,8 +17,8 @@ use Rattle.doc_names.specs.declared.doc_id.DocId.{DocId}
 use Rattle.doc_names.specs.declared.doc_id.Home.{Home}
 use Rattle.doc_names.specs.declared.doc_id.Home.TheVariants.{Global, User}
 use Rattle.xcap_uri.specs.Roots.{IsRoot, is_authority_char, is_segment_char, is_some_of, path_in}
-use Rattle.patch_rules.proofs.Prefixes.{both}
-use Rattle.patch_rules.proofs.ProperOperations.{chars-append}
+use Rattle.patch_laws.proofs.Prefixes.{both}
+use Rattle.patch_laws.proofs.ProperOperations.{chars-append}
 
 -- ---- names of documents
 

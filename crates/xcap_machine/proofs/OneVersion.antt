@@ -7,7 +7,7 @@ use Rattle.doc_names.specs.Equality.{same_id}
 use Rattle.doc_names.specs.declared.doc_id.DocId.{DocId}
 use Rattle.edit_ops.specs.Notes.{Note}
 use Rattle.patch_rules.specs.Replay.{Patched, Same}
-use Rattle.patch_rules.specs.ReplayLaws.{answer_for}
+use Rattle.patch_laws.specs.ReplayLaws.{answer_for}
 use Rattle.store_core.specs.DocumentChanges.{document_in, document_name, stored_name}
 use Rattle.store_core.specs.Contents.{Represents, stored_of, StoreContents as Content}
 use Rattle.store_core.specs.ValidStates.{FollowFrom}

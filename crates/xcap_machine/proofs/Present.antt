@@ -16,10 +16,10 @@ use Rattle.edit_ops.specs.Changes.{edited}
 use Rattle.edit_ops.specs.Notes.{Note, tag_after, tree_after}
 use Rattle.patch_rules.specs.Replay.{CopyAnswer, CopyFault, Fetch, ReplicaContents, Patched, Removed, Replays, Same}
 use Rattle.patch_rules.specs.Notices.{aggregate_notice, gone_notice, patching_notice, tags_notice}
-use Rattle.patch_rules.specs.Premises.{AreFew, AreTold, IsTold}
-use Rattle.patch_rules.specs.ReplayLaws.{answer_for}
-use Rattle.patch_rules.proofs.OtherNotices.{gone_read, gone_replayed, same_replayed, tags_read, tags_replayed}
-use Rattle.patch_rules.proofs.LawStatements.{aggregate_read, aggregate_replayed, patching_read, patching_replayed}
+use Rattle.patch_laws.specs.Premises.{AreFew, AreTold, IsTold}
+use Rattle.patch_laws.specs.ReplayLaws.{answer_for}
+use Rattle.patch_laws.proofs.OtherNotices.{gone_read, gone_replayed, same_replayed, tags_read, tags_replayed}
+use Rattle.patch_laws.proofs.LawStatements.{aggregate_read, aggregate_replayed, patching_read, patching_replayed}
 use Rattle.store_core.specs.DocumentChanges.{document_in, document_name}
 use Rattle.store_core.specs.Contents.{Represents, StoreContents as Content}
 use Rattle.store_core.specs.History.{AreSound, IsSince, Leads}

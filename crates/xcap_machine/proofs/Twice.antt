@@ -1,7 +1,7 @@
 -- A PUT that was accepted, made again: its place is what was put, its plan replaces that by
 -- itself, and every tree is unchanged.
 use Rattle.std.specs.Prelude.{nat_le}
-use Rattle.tree_text.specs.AttributeBodyPrints.{body_print}
+use Rattle.tree_print.specs.AttributeBodyPrints.{body_print}
 use Rattle.std.specs.Bool.{MatchBool}
 use Rattle.std.proofs.Common.{◌≡◌, ℕ, suc, ◌+◌, ◌-◌, Bool, true, false, List, [], ◌∷◌, ◌++◌, length, find, map, is_some, Option, None, Some, IsSome, option_map, option_and_then, Result, Ok, Err, refl, sym, ap, subst, ◌∙◌}
 use Rattle.std.specs.Option.{option_or as or_else}

@@ -11,7 +11,6 @@ use Rattle.xcap_uri.specs.Targets.{TargetResult}
 use Rattle.xcap_uri.specs.declared.target.Mode.{Mode}
 use Rattle.xcap_uri.specs.declared.target.Mode.TheVariants.{NoPatching}
 use Rattle.xcap_uri.specs.declared.target.Target.TheVariants.{Feed}
-use Rattle.edit_ops.specs.declared.edit.Edit.{Edit}
 use Rattle.patch_rules.specs.Notices.{most_notice_levels}
 use Rattle.patch_rules.specs.Replay.{CopyAnswer, ReplicaContents, Removed, Replays, is_notice}
 use Rattle.reply_text.specs.ReplyHeads.{SentReply}
@@ -22,7 +21,6 @@ use Rattle.store_core.specs.DocumentChanges.{document_in, document_name}
 use Rattle.store_core.specs.Contents.{stock_of}
 use Rattle.store_core.specs.Since.{Unknown, since}
 use Rattle.store_core.specs.State.{Document, State, Version, versions}
-use Rattle.xcap_machine.specs.Machine.{ValidStep}
 use Rattle.xcap_machine.specs.Subscribers.{answer_between, fetch_between, subscribed}
 
 -- the body is the text of a diff document, and a replica with contents `held` that applies it gets
@@ -75,9 +73,3 @@ SubscribersHold root m request reply =
     (mode : Mode) (tag : ℕ) (id : DocId) → TargetResult root request.target (Ok (Feed mode tag id))
     → method_of request.method ≡ Get
     → SubscriberHolds m mode tag id reply
-
--- a step of the machine from a valid state to a valid one, whose reply keeps subscribers up to
--- date
-abbrev pub FollowedStep : List ℕ → State → Request → SentReply → State → Option Edit → Type 0
-FollowedStep root m request reply next edit =
-    ValidStep root m request reply next edit × SubscribersHold root m request reply

@@ -6,7 +6,7 @@ use Rattle.doc_names.specs.declared.doc_id.DocId.{DocId}
 use Rattle.xcap_uri.specs.PrintedNames.{is_name_of}
 use Rattle.edit_ops.specs.Notes.{Note}
 use Rattle.patch_rules.specs.Replay.{CopyAnswer, Fetch, ReplicaContents, Patched, Replays, Same}
-use Rattle.patch_rules.specs.ReplayLaws.{IsReadBack}
+use Rattle.patch_laws.specs.ReplayLaws.{IsReadBack}
 use Rattle.store_core.specs.DocumentChanges.{document_in, document_name}
 use Rattle.store_core.specs.Contents.{Represents, StoreContents}
 use Rattle.store_core.specs.ValidStates.{IsValidState}

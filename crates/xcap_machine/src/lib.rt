@@ -1,9 +1,9 @@
-//! The abstract machine: for each request in a state of the documents the one allowed reply and
-//! the next state; and its laws. No code.
+//! The abstract machine: for each request in a state the one allowed reply and the next state.
+//! Definitions and laws, no code.
 //! Promises upward one meaning for the crates that read, write and serve (`Step`, `IsAnswer`):
 //! exactly one answer to each request, no change by a refused one, valid states alone
-//! (`each_request_has_one_answer`, `what_is_refused_changes_nothing`, `every_state_stays_valid`), and
-//! subscribers that have the server's document (`notices_are_applied_in_order`).
+//! (`each_request_has_one_answer`, `what_is_refused_changes_nothing`, `every_state_stays_valid`),
+//! and subscribers that have the server's document (`notices_are_applied_in_order`).
 //! The standards are RFC 4825 (sections 6 to 8, 11), 4826 (4.4), 9110 (13), 5874 and 5875.
 //! Replies are parts here, not bytes: `InBytes` of `http_serve` makes bytes of them. An answer
 //! depends on what is stored now; the next state has all versions.

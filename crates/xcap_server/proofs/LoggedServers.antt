@@ -9,7 +9,6 @@ use Rattle.request_checks.specs.Methods.{is_reading, method_of}
 use Rattle.request_checks.specs.declared.method.Method.{Method}
 use Rattle.request_checks.specs.declared.method.Method.TheVariants.{Get, Head, Put, Delete, Other}
 use Rattle.xcap_io.specs.Causes.{StreamState, RoseBy}
-use Rattle.xcap_uri.specs.Roots.{IsRoot, authority_of, path_of}
 use Rattle.edit_journal.specs.Journals.{JournalState}
 use Rattle.edit_journal.specs.Logs.{AddsRecord, LogState}
 use Rattle.edit_journal.specs.Records.{IsRecordable, method_number, record_of, recorded}
@@ -25,7 +24,6 @@ use Rattle.xcap_machine.specs.Machine.{ValidStep, Step, answer_as, content_after
 use Rattle.xcap_machine.specs.Requests.{IsAnswer}
 use Rattle.xcap_machine.proofs.Steps.{answer_closes}
 use Rattle.xcap_machine.proofs.Ways.{Way, changes, stays as changes_nothing, way_of}
-use Rattle.xcap_machine.specs.SubscriberVersions.{FollowedStep}
 use Rattle.xcap_put.specs.Decisions.{Decides, answer_of}
 use Rattle.xcap_put.specs.declared.decision.Decision.{Decision}
 use Rattle.http_serve.specs.declared.machine.MachineReply.{MachineReply}
@@ -42,7 +40,7 @@ use Rattle.xcap_machine.specs.Servers.{ServerState}
 use Rattle.xcap_server.specs.inner.Servers.{AnswersRequest, CarriesOut}
 use Rattle.xcap_server.proofs.DecisionAnswers.{answered_so}
 use Rattle.xcap_server.proofs.CloseLemmas.{makes_too}
-use Rattle.xcap_server.proofs.ServerStates.{IsRooted, StandsAt, follows_at}
+use Rattle.xcap_server.proofs.ServerStates.{StandsAt, follows_at}
 
 -- ---- only PUT and DELETE make changes
 
@@ -125,7 +123,7 @@ module _ (old new : ServerState) (request : Request) (s : Stored) (d : Decision)
 
   -- a request that makes no change
   pub answered_unchanged : (a : MachineReply Edit) (log : LogState) (journal : JournalState) → is_some (answer_of d).made ≡ false → answer_as a.reply a.edit ≡ answer_of d → new.content ≡ content_after_answer s.content (answer_of d).made
-      → Answers AnswersRequest old log journal request a.reply a.edit new log journal
+      → Answers AnswersRequest (record { machine = old; log = log; journal = journal }) request a.reply (record { machine = new; log = log; journal = journal }) a.edit
   answered_unchanged a log journal none gives makes =
       let is_none : (answer_of d).made ≡ None = no_made (answer_of d).made none in
       let no : a.edit ≡ None = no_edit a.edit (ap (λ (x : Answer). x.made) gives ∙ is_none) in
@@ -141,7 +139,7 @@ module _ (old new : ServerState) (request : Request) (s : Stored) (d : Decision)
 
   -- its record was added
   pub answered_entered : (a : MachineReply Edit) (log log' : LogState) (journal journal' : JournalState) → is_some (answer_of d).made ≡ true → answer_as a.reply a.edit ≡ answer_of d → new.content ≡ content_after_answer s.content (answer_of d).made
-      → IsLoggable request → AddsRecord log journal (record_of request) (Ok tt) log' journal' → Answers AnswersRequest old log journal request a.reply a.edit new log' journal'
+      → IsLoggable request → AddsRecord (record { log = log; journal = journal }) (record_of request) (Ok tt) (record { log = log'; journal = journal' }) → Answers AnswersRequest (record { machine = old; log = log; journal = journal }) request a.reply (record { machine = new; log = log'; journal = journal' }) a.edit
   answered_entered a log log' journal journal' some gives makes loggable adds =
       let made = some_made (answer_of d).made some in
       let told = some_edit a.edit made.0 (ap (λ (x : Answer). x.made) gives ∙ made.1) in
@@ -150,7 +148,7 @@ module _ (old new : ServerState) (request : Request) (s : Stored) (d : Decision)
 
   -- its record couldn't be added
   pub answered_failed : (a : MachineReply Edit) (log log' : LogState) (journal journal' : JournalState) → is_some (answer_of d).made ≡ true → a.reply ≡ plain 500 request.closes → a.edit ≡ None → new.content ≡ s.content
-      → IsLoggable request → AddsRecord log journal (record_of request) (Err Failed) log' journal' → Answers AnswersRequest old log journal request a.reply a.edit new log' journal'
+      → IsLoggable request → AddsRecord (record { log = log; journal = journal }) (record_of request) (Err Failed) (record { log = log'; journal = journal' }) → Answers AnswersRequest (record { machine = old; log = log; journal = journal }) request a.reply (record { machine = new; log = log'; journal = journal' }) a.edit
   answered_failed a log log' journal journal' some reply none holds loggable adds =
       let made = some_made (answer_of d).made some in
       not_entered none (accepts_so old request (answer_of d) made.0 made.1 decides.answers) reply (same_server old new root (holds ∙ same)) (is_recordable some loggable) adds
@@ -158,10 +156,10 @@ module _ (old new : ServerState) (request : Request) (s : Stored) (d : Decision)
   module _ {E : Type 0} (r : Result (MachineReply Edit) E) (s' : Stored) (holds : new.content ≡ s'.content) where
     -- its record was added, or it couldn't be
     pub carried_out : (fault : Result (Unit {0}) AppendFault) (log log' : LogState) (journal journal' : JournalState) → is_some (answer_of d).made ≡ true → CarriesOut s d request fault r s'
-        → IsLoggable request → AddsRecord log journal (record_of request) fault log' journal' → IfOk r (λ a. Answers AnswersRequest old log journal request a.reply a.edit new log' journal')
+        → IsLoggable request → AddsRecord (record { log = log; journal = journal }) (record_of request) fault (record { log = log'; journal = journal' }) → IfOk r (λ a. Answers AnswersRequest (record { machine = old; log = log; journal = journal }) request a.reply (record { machine = new; log = log'; journal = journal' }) a.edit)
     carried_out fault log log' journal journal' some does loggable adds = by r fault does adds
       where
-        by : (r : Result (MachineReply Edit) E) (fault : Result (Unit {0}) AppendFault) → CarriesOut s d request fault r s' → AddsRecord log journal (record_of request) fault log' journal' → IfOk r (λ a. Answers AnswersRequest old log journal request a.reply a.edit new log' journal')
+        by : (r : Result (MachineReply Edit) E) (fault : Result (Unit {0}) AppendFault) → CarriesOut s d request fault r s' → AddsRecord (record { log = log; journal = journal }) (record_of request) fault (record { log = log'; journal = journal' }) → IfOk r (λ a. Answers AnswersRequest (record { machine = old; log = log; journal = journal }) request a.reply (record { machine = new; log = log'; journal = journal' }) a.edit)
         by (Ok a) (Ok x) does adds = answered_entered a log log' journal journal' some does.0 (holds ∙ does.1) loggable adds
         by (Ok a) (Err Failed) does adds = answered_failed a log log' journal journal' some does.0 does.1 (holds ∙ does.2) loggable adds
         by (Ok a) (Err NoMemory) does adds = absurd does
@@ -178,10 +176,10 @@ module _ (old new : ServerState) (request : Request) (s : Stored) (d : Decision)
 
     -- memory ran out before anything was done
     pub carried_nothing : {J : Type 0} (fault : Result (Unit {0}) AppendFault) (log log' : LogState) (journal journal' : JournalState) (j j' : J) → CarriesOut s d request fault r s' → (fault ≡ Err NoMemory → j' ≡ j)
-        → AddsRecord log journal (record_of request) fault log' journal' → OnErr r ((new ≡ old) × (log' ≡ log) × (j' ≡ j))
+        → AddsRecord (record { log = log; journal = journal }) (record_of request) fault (record { log = log'; journal = journal' }) → OnErr r ((new ≡ old) × (log' ≡ log) × (j' ≡ j))
     carried_nothing {J} fault log log' journal journal' j j' does quiet adds = by r fault does quiet adds
       where
-        by : (r : Result (MachineReply Edit) E) (fault : Result (Unit {0}) AppendFault) → CarriesOut s d request fault r s' → (fault ≡ Err NoMemory → j' ≡ j) → AddsRecord log journal (record_of request) fault log' journal' → OnErr r ((new ≡ old) × (log' ≡ log) × (j' ≡ j))
+        by : (r : Result (MachineReply Edit) E) (fault : Result (Unit {0}) AppendFault) → CarriesOut s d request fault r s' → (fault ≡ Err NoMemory → j' ≡ j) → AddsRecord (record { log = log; journal = journal }) (record_of request) fault (record { log = log'; journal = journal' }) → OnErr r ((new ≡ old) × (log' ≡ log) × (j' ≡ j))
         by (Ok a) fault does quiet adds = tt
         by (Err e) (Ok x) does quiet adds = absurd does
         by (Err e) (Err Failed) does quiet adds = absurd does
@@ -194,12 +192,12 @@ redoing_more root (r ∷ requests) m n n' request reply e (reply', mid, e', firs
 
 -- ---- the machine of the root
 
-module _ (root : List ℕ) (rooted : IsRoot root (authority_of root) (path_of root)) where
+module _ (root : List ℕ) where
   -- a request that either machine would accept
-  forth : (s : ServerState) (m : State) → StandsAt root s m → (request : Request) → Accepts AnswersRequest s request → Accepts (FollowedStep root) m request
-  forth s m here request a = let f = follows_at root rooted s a.1 m request a.0 (Some a.2) here a.3 in (a.0, f.0, a.2, f.2)
+  forth : (s : ServerState) (m : State) → StandsAt root s m → (request : Request) → Accepts AnswersRequest s request → Accepts (ValidStep root) m request
+  forth s m here request a = let f = follows_at root s a.1 m request a.0 (Some a.2) here a.3 in (a.0, f.0, a.2, f.2)
 
-  back : (s : ServerState) (m : State) → StandsAt root s m → (request : Request) → Accepts (FollowedStep root) m request → Accepts AnswersRequest s request
+  back : (s : ServerState) (m : State) → StandsAt root s m → (request : Request) → Accepts (ValidStep root) m request → Accepts AnswersRequest s request
   back s m here request a =
       let made = told_as a.2 in (
         a.0,
@@ -208,7 +206,7 @@ module _ (root : List ℕ) (rooted : IsRoot root (authority_of root) (path_of ro
         record {
           does = record {
             answers = subst (λ (c : StoreContents). IsAnswer s.root c request (answer_as a.0 (Some a.2))) (sym here.stands)
-                (subst (λ (r : List ℕ). IsAnswer r (stock_of m) request (answer_as a.0 (Some a.2))) (sym here.same_root) a.3.0.1.answers);
+                (subst (λ (r : List ℕ). IsAnswer r (stock_of m) request (answer_as a.0 (Some a.2))) (sym here.same_root) a.3.1.answers);
             goes_on = refl;
           };
           same_root = refl;
@@ -217,62 +215,62 @@ module _ (root : List ℕ) (rooted : IsRoot root (authority_of root) (path_of ro
 
   -- the answer to a request
   pub answers_at : (s s' : ServerState) (m : State) (log log' : LogState) (journal journal' : JournalState) (request : Request) (reply : SentReply) (edit : Option Edit) → StandsAt root s m
-      → Answers AnswersRequest s log journal request reply edit s' log' journal' → (m' : State) × StandsAt root s' m' × Answers (FollowedStep root) m log journal request reply edit m' log' journal'
+      → Answers AnswersRequest (record { machine = s; log = log; journal = journal }) request reply (record { machine = s'; log = log'; journal = journal' }) edit → (m' : State) × StandsAt root s' m' × Answers (ValidStep root) (record { machine = m; log = log; journal = journal }) request reply (record { machine = m'; log = log'; journal = journal' }) edit
   answers_at s s' m log log' journal journal' request reply edit here (stays none step same log_same journal_same) =
-      let f = follows_at root rooted s s' m request reply None here step in (f.0, f.1, stays none f.2 f.2.0.1.goes_on log_same journal_same)
+      let f = follows_at root s s' m request reply None here step in (f.0, f.1, stays none f.2 f.2.1.goes_on log_same journal_same)
   answers_at s s' m log log' journal journal' request reply edit here (entered made is step can adds) =
-      let f = follows_at root rooted s s' m request reply (Some made) here step in (f.0, f.1, entered made is f.2 can adds)
+      let f = follows_at root s s' m request reply (Some made) here step in (f.0, f.1, entered made is f.2 can adds)
   answers_at s s' m log log' journal journal' request reply edit here (not_entered none accepts is same can adds) =
       (m, subst (λ (x : ServerState). StandsAt root x m) (sym same) here, not_entered none (forth s m here request accepts) is refl can adds)
 
   -- ---- requests as their records have them
 
   -- the same change is made
-  recorded_step : (m m' : State) (request : Request) (reply : SentReply) (e : Edit) → FollowedStep root m request reply m' (Some e) → (reply' : SentReply) × ValidStep root m (recorded request) reply' m' (Some e)
+  recorded_step : (m m' : State) (request : Request) (reply : SentReply) (e : Edit) → ValidStep root m request reply m' (Some e) → (reply' : SentReply) × ValidStep root m (recorded request) reply' m' (Some e)
   recorded_step m m' request reply e f =
-      let kept = f.0.0 in
-      let step : Step root m request reply m' (Some e) = f.0.1 in
+      let kept = f.0 in
+      let step : Step root m request reply m' (Some e) = f.1 in
       let reads = (writes root (stock_of m) request (answer_as reply (Some e)) (told_as e) refl step.answers).1 in
       let other = makes_too (told_as e) request false (answer_as reply (Some e)) refl root (stock_of m) reads step.answers in (
         other.0.reply,
         (
           kept,
           record { answers = subst (λ (o : Option Made). IsAnswer root (stock_of m) (recorded request) (record { reply = other.0.reply; made = o })) other.2 other.1; goes_on = step.goes_on },
-          f.0.2,
+          f.2,
         ),
       )
 
-  redoing_answer : (start m m' : State) (requests : List Request) (request : Request) (reply : SentReply) (edit : Option Edit) → Redoing root start requests m → FollowedStep root m request reply m' edit → Redoing root start (requests ++ accepted request edit) m'
-  redoing_answer start m m' requests request reply None redone f = subst (λ (rs : List Request). Redoing root start rs m') (sym (append-nil requests)) (subst (λ (x : State). Redoing root start requests x) (sym f.0.1.goes_on) redone)
+  redoing_answer : (start m m' : State) (requests : List Request) (request : Request) (reply : SentReply) (edit : Option Edit) → Redoing root start requests m → ValidStep root m request reply m' edit → Redoing root start (requests ++ accepted request edit) m'
+  redoing_answer start m m' requests request reply None redone f = subst (λ (rs : List Request). Redoing root start rs m') (sym (append-nil requests)) (subst (λ (x : State). Redoing root start requests x) (sym f.1.goes_on) redone)
   redoing_answer start m m' requests request reply (Some e) redone f =
       let other = recorded_step m m' request reply e f in
       redoing_more root requests start m m' (recorded request) other.0 e redone other.1
 
   redoing_answers : (start m m' : State) (log log' : LogState) (journal journal' : JournalState) (requests : List Request) (request : Request) (reply : SentReply) (edit : Option Edit) → Redoing root start requests m
-      → Answers (FollowedStep root) m log journal request reply edit m' log' journal' → Redoing root start (requests ++ accepted request edit) m'
+      → Answers (ValidStep root) (record { machine = m; log = log; journal = journal }) request reply (record { machine = m'; log = log'; journal = journal' }) edit → Redoing root start (requests ++ accepted request edit) m'
   redoing_answers start m m' log log' journal journal' requests request reply edit redone (stays none step same log_same journal_same) =
-      redoing_answer start m m' requests request reply edit redone (subst (λ (e : Option Edit). FollowedStep root m request reply m' e) (sym none) step)
+      redoing_answer start m m' requests request reply edit redone (subst (λ (e : Option Edit). ValidStep root m request reply m' e) (sym none) step)
   redoing_answers start m m' log log' journal journal' requests request reply edit redone (entered made is step can adds) =
-      redoing_answer start m m' requests request reply edit redone (subst (λ (e : Option Edit). FollowedStep root m request reply m' e) (sym is) step)
+      redoing_answer start m m' requests request reply edit redone (subst (λ (e : Option Edit). ValidStep root m request reply m' e) (sym is) step)
   redoing_answers start m m' log log' journal journal' requests request reply edit redone (not_entered none accepts is same can adds) =
       subst (λ (rs : List Request). Redoing root start rs m') (sym (append-nil requests) ∙ ap (λ (e : Option Edit). requests ++ accepted request e) (sym none))
       (subst (λ (x : State). Redoing root start requests x) (sym same) redone)
 
 -- ---- the server's own calls
 
-module _ (s now s' : ServerState) (is : s ≡ now) (rooted : IsRooted s) (log log' : LogState) (journal journal' : JournalState) (request : Request) where
+module _ (s now s' : ServerState) (is : s ≡ now) (log log' : LogState) (journal journal' : JournalState) (request : Request) where
   here_at : (m : State) → IsValidState m → Represents now.content m → StandsAt now.root s m
   here_at m kept stands = record { same_root = ap (λ (x : ServerState). x.root) is; kept = kept; stands = subst (λ (x : ServerState). Represents x.content m) (sym is) stands }
 
   abbrev IsAnswered : MachineReply Edit → Type 0
-  IsAnswered a = Answers AnswersRequest s log journal request a.reply a.edit s' log' journal'
+  IsAnswered a = Answers AnswersRequest (record { machine = s; log = log; journal = journal }) request a.reply (record { machine = s'; log = log'; journal = journal' }) a.edit
 
   logged_at : (m : State) → IsValidState m → Represents now.content m → (a : MachineReply Edit) → IsAnswered a
-      → (m' : State) × StandsAt now.root s' m' × Answers (FollowedStep now.root) m log journal request a.reply a.edit m' log' journal'
-  logged_at m kept stands a answers = answers_at now.root (subst IsRooted is rooted) s s' m log log' journal journal' request a.reply a.edit (here_at m kept stands) answers
+      → (m' : State) × StandsAt now.root s' m' × Answers (ValidStep now.root) (record { machine = m; log = log; journal = journal }) request a.reply (record { machine = m'; log = log'; journal = journal' }) a.edit
+  logged_at m kept stands a answers = answers_at now.root s s' m log log' journal journal' request a.reply a.edit (here_at m kept stands) answers
 
   pub answered_logged : {E : Type 0} (r : Result (MachineReply Edit) E) → IfOk r IsAnswered
-      → IfOk r (λ a. (m : State) → IsValidState m → Represents now.content m → AnswersLogged now s' m log log' journal journal' request a)
+      → IfOk r (λ a. (m : State) → IsValidState m → Represents now.content m → AnswersLogged m (record { machine = now; log = log; journal = journal }) (record { machine = s'; log = log'; journal = journal' }) request a)
   answered_logged (Err e) h = tt
   answered_logged (Ok a) h = λ m kept stands.
       let o = logged_at m kept stands a h in
@@ -296,23 +294,23 @@ module _ (s now s' : ServerState) (is : s ≡ now) (rooted : IsRooted s) (log lo
   records_logged (Ok a) h same requests logs =
       let m = logs.stands.state in
       let o = logged_at m logs.stands.kept logs.stands.stands a h in
-      let holds : HoldsLog (Accepts (FollowedStep now.root) o.0) log' (requests ++ accepted request a.edit) journal'.held =
-      holds_after (FollowedStep now.root) m o.0 log log' journal journal' request a.reply a.edit requests o.2 logs.holds in
+      let holds : HoldsLog (Accepts (ValidStep now.root) o.0) log' (requests ++ accepted request a.edit) journal'.held =
+      holds_after (ValidStep now.root) m o.0 log log' journal journal' request a.reply a.edit requests o.2 logs.holds in
       let redone : Redoing now.root (first_state 1) (requests ++ accepted request a.edit) o.0 =
-      redoing_answers now.root (subst IsRooted is rooted) (first_state 1) m o.0 log log' journal journal' requests request a.reply a.edit logs.stands.redone o.2 in
+      redoing_answers now.root (first_state 1) m o.0 log log' journal journal' requests request a.reply a.edit logs.stands.redone o.2 in
       let root : s'.root ≡ now.root = same_root_after a h in
       by_root root o.0 o.1.kept o.1.stands redone holds
     where
       by_root : s'.root ≡ now.root → (m' : State) → IsValidState m' → Represents s'.content m' → Redoing now.root (first_state 1) (requests ++ accepted request a.edit) m'
-          → HoldsLog (Accepts (FollowedStep now.root) m') log' (requests ++ accepted request a.edit) journal'.held → Logs s' log' journal' (requests ++ accepted request a.edit)
+          → HoldsLog (Accepts (ValidStep now.root) m') log' (requests ++ accepted request a.edit) journal'.held → Logs s' log' journal' (requests ++ accepted request a.edit)
       by_root root m' kept stands redone holds = record {
         stands = record { state = m'; kept = kept; redone = subst (λ (r : List ℕ). Redoing r (first_state 1) (requests ++ accepted request a.edit) m') (sym root) redone; stands = stands };
-        holds = subst (λ (r : List ℕ). HoldsLog (Accepts (FollowedStep r) m') log' (requests ++ accepted request a.edit) journal'.held) (sym root) holds;
+        holds = subst (λ (r : List ℕ). HoldsLog (Accepts (ValidStep r) m') log' (requests ++ accepted request a.edit) journal'.held) (sym root) holds;
       }
 
 -- ---- connections
 
-module _ (root : List ℕ) (rooted : IsRoot root (authority_of root) (path_of root)) (start : State) (first : List Request) where
+module _ (root : List ℕ) (start : State) (first : List Request) where
   -- the bookkeeping of a server, and that of the machine
   record Beside (s : Booked ServerState) (b : Booked State) : Type 0 where
     here : StandsAt root s.machine b.machine
@@ -321,15 +319,15 @@ module _ (root : List ℕ) (rooted : IsRoot root (authority_of root) (path_of ro
     redone : (origin : State) → Redoing root origin first start → Redoing root origin b.requests b.machine
 
   beside_on : (s s' : Booked ServerState) (b : Booked State) (request : Request) (reply : SentReply) (edit : Option Edit) → Beside s b → LoggedStep AnswersRequest s request reply s' edit
-      → (b' : Booked State) × Beside s' b' × LoggedStep (FollowedStep root) b request reply b' edit
+      → (b' : Booked State) × Beside s' b' × LoggedStep (ValidStep root) b request reply b' edit
   beside_on s s' b request reply edit so (answered step requests failures) =
-      let f = follows_at root rooted s.machine s'.machine b.machine request reply edit so.here step in (
+      let f = follows_at root s.machine s'.machine b.machine request reply edit so.here step in (
         record { machine = f.0; requests = b.requests ++ accepted request edit; failures = b.failures },
         record {
           here = f.1;
           same_requests = requests ∙ ap (λ (rs : List Request). rs ++ accepted request edit) so.same_requests;
           same_failures = failures ∙ so.same_failures;
-          redone = λ origin redone. redoing_answer root rooted origin b.machine f.0 b.requests request reply edit (so.redone origin redone) f.2;
+          redone = λ origin redone. redoing_answer root origin b.machine f.0 b.requests request reply edit (so.redone origin redone) f.2;
         },
         answered f.2 refl refl,
       )
@@ -341,26 +339,25 @@ module _ (root : List ℕ) (rooted : IsRoot root (authority_of root) (path_of ro
       same_failures = ap (λ (x : Booked ServerState). x.failures) same ∙ ap (λ (n : ℕ). n + 1) so.same_failures;
       redone = so.redone;
     },
-    not_logged (forth root rooted s.machine b.machine so.here request accepts) is refl none,
+    not_logged (forth root s.machine b.machine so.here request accepts) is refl none,
   )
 
   beside_step : (s s' : Booked ServerState) (b : Booked State) (request : Request) (bytes : List ℕ) (edit : Option Edit) → Beside s b → InBytes (LoggedStep AnswersRequest) s request bytes s' edit
-      → (b' : Booked State) × Beside s' b' × InBytes (LoggedStep (FollowedStep root)) b request bytes b' edit
+      → (b' : Booked State) × Beside s' b' × InBytes (LoggedStep (ValidStep root)) b request bytes b' edit
   beside_step s s' b request bytes edit so a =
       let o = beside_on s s' b request a.reply edit so a.step in (o.0, o.1, record { reply = a.reply; written = a.written; step = o.2 })
 
-module _ {W : Type 0} (Keeps : List Edit → W → W → Type 0) (s now s' : ServerState) (is : s ≡ now) (rooted : IsRooted s) (most : ℕ) (served : ServeSummary) (log log' : LogState) (journal journal' : JournalState)
+module _ {W : Type 0} (Keeps : List Edit → W → W → Type 0) (s now s' : ServerState) (is : s ≡ now) (most : ℕ) (served : ServeSummary) (log log' : LogState) (journal journal' : JournalState)
     (port port' : StreamState) (watchers watchers' : W) where
   -- what was served
   pub port_logged : ((requests : List Request) → HoldsLog (Accepts AnswersRequest s) log requests journal.held
-      → ServesLogged AnswersRequest Keeps most served requests s s' log' journal journal' port port' watchers watchers')
-      → (m : State) (requests : List Request) → IsValidState m → Represents now.content m → HoldsLog (Accepts (FollowedStep now.root) m) log requests journal.held
-      → ServesPortLogged Keeps most served requests now s' m log' journal journal' port port' watchers watchers'
+      → ServesLogged AnswersRequest Keeps (record { most = most; served = served }) requests (record { machine = record { machine = s; log = log; journal = journal }; stream = port; watchers = watchers }) (record { machine = record { machine = s'; log = log'; journal = journal' }; stream = port'; watchers = watchers' }))
+      → (m : State) (requests : List Request) → IsValidState m → Represents now.content m → HoldsLog (Accepts (ValidStep now.root) m) log requests journal.held
+      → ServesPortLogged Keeps (record { most = most; served = served }) (record { machine = m; requests = requests; failures = 0 }) (record { machine = record { machine = now; log = log; journal = journal }; stream = port; watchers = watchers }) (record { machine = record { machine = s'; log = log'; journal = journal' }; stream = port'; watchers = watchers' })
   port_logged all m requests kept stands holds =
-      let on_root : IsRooted now = subst IsRooted is rooted in
       let here : StandsAt now.root s m = record { same_root = ap (λ (x : ServerState). x.root) is; kept = kept; stands = subst (λ (x : ServerState). Represents x.content m) (sym is) stands } in
-      let v = all requests (holds_so (Accepts (FollowedStep now.root) m) (Accepts AnswersRequest s) log requests journal.held (back now.root on_root s m here) holds) in
-      let o = port_by (InBytes (LoggedStep AnswersRequest)) (InBytes (LoggedStep (FollowedStep now.root))) (Beside now.root on_root m requests) (beside_step now.root on_root m requests) Keeps most served
+      let v = all requests (holds_so (Accepts (ValidStep now.root) m) (Accepts AnswersRequest s) log requests journal.held (back now.root s m here) holds) in
+      let o = port_by (InBytes (LoggedStep AnswersRequest)) (InBytes (LoggedStep (ValidStep now.root))) (Beside now.root m requests) (beside_step now.root m requests) Keeps most served
       (record { machine = s; requests = requests; failures = 0 }) (record { machine = s'; requests = v.accepted; failures = v.failures }) (record { machine = m; requests = requests; failures = 0 }) port port' watchers watchers'
       (record { here = here; same_requests = refl; same_failures = refl; redone = λ origin redone. redone }) v.serves in
       record {
@@ -372,8 +369,8 @@ module _ {W : Type 0} (Keeps : List Edit → W → W → Type 0) (s now s' : Ser
           accepted = o.0.requests;
           failures = o.0.failures;
           serves = o.2;
-          holds = subst (λ (rs : List Request). HoldsLog (Accepts (FollowedStep now.root) o.0.machine) log' rs journal'.held) o.1.same_requests
-              (holds_so (Accepts AnswersRequest s') (Accepts (FollowedStep now.root) o.0.machine) log' v.accepted journal'.held (forth now.root on_root s' o.0.machine o.1.here) v.holds);
+          holds = subst (λ (rs : List Request). HoldsLog (Accepts (ValidStep now.root) o.0.machine) log' rs journal'.held) o.1.same_requests
+              (holds_so (Accepts AnswersRequest s') (Accepts (ValidStep now.root) o.0.machine) log' v.accepted journal'.held (forth now.root s' o.0.machine o.1.here) v.holds);
           bound = subst (λ (n : ℕ). RoseBy n journal.faults journal'.faults) o.1.same_failures v.bound;
         };
         redone = o.1.redone;

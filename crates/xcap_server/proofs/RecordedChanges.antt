@@ -21,7 +21,6 @@ use Rattle.xcap_machine.specs.Machine.{ValidStep, answer_as, told_as}
 use Rattle.xcap_machine.specs.Requests.{IsAnswer}
 use Rattle.xcap_machine.proofs.Ways.{Way, changes, stays, way_of}
 use Rattle.edit_journal.specs.LoggedRequests.{Accepts}
-use Rattle.xcap_machine.specs.SubscriberVersions.{FollowedStep}
 use Rattle.xcap_server.specs.LoggedServers.{Logs}
 use Rattle.xcap_server.specs.ReplayedRequests.{Redoing}
 use Rattle.xcap_machine.specs.Servers.{ServerState}
@@ -63,9 +62,9 @@ Comes root is_torn requests bytes =
     × Redoing root (first_state 1) (requests ++ torn) last × IsFirstOf bytes (text (requests ++ torn))
 
 comes_by : (root : List ℕ) (is_torn : Bool) (requests : List Request) (state : State) (rest : List ℕ) → All IsRecordedRequest requests → Redoing root (first_state 1) requests state
-    → MatchBool is_torn ((request : Request) × IsRecordable request × Accepts (FollowedStep root) state request × IsFirstOf rest (record_of request)) (rest ≡ []) → Comes root is_torn requests (text requests ++ rest)
+    → MatchBool is_torn ((request : Request) × IsRecordable request × Accepts (ValidStep root) state request × IsFirstOf rest (record_of request)) (rest ≡ []) → Comes root is_torn requests (text requests ++ rest)
 comes_by root true requests state rest told way (request, can, accepted, (more, is)) =
-    let step = recorded_step root state accepted.1 request accepted.0 accepted.2 accepted.3.0 in (
+    let step = recorded_step root state accepted.1 request accepted.0 accepted.2 accepted.3 in (
       recorded request ∷ [],
       accepted.1,
       omega arith,

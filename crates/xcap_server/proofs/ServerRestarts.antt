@@ -1,11 +1,10 @@
 -- A server restarts from some first bytes of a text.
 use Rattle.std.proofs.Common.{◌≡◌, ℕ, List, [], ◌∷◌, ◌++◌, take, All, Option, None, Some, Result, Ok, Err, sym, ap, subst}
 use Rattle.http_wire.specs.declared.request.Request.{Request}
-use Rattle.xcap_io.specs.Causes.{StreamState}
-use Rattle.edit_journal.specs.Journals.{IsFirstOf, JournalState}
+use Rattle.edit_journal.specs.Journals.{IsFirstOf}
 use Rattle.edit_journal.specs.Logs.{LogState}
 use Rattle.edit_journal.specs.Limits.{max_journal_bytes}
-use Rattle.edit_journal.specs.Restarts.{Restarts}
+use Rattle.edit_journal.specs.Restarts.{RestartState, Restarts}
 use Rattle.edit_journal.specs.Texts.{IsRecordedRequest, text}
 use Rattle.edit_journal.specs.declared.journal_restart.RestartFault.{RestartFault}
 use Rattle.edit_journal.specs.declared.journal_restart.RestartFault.TheVariants.{ReadFailed, AppendFailed, Damaged, Refused, TooLong, NoMemory}
@@ -44,9 +43,9 @@ module _ (all done : List Request) (last : State) (new : ServerState) (way : Red
       }
 
   abbrev Returns : List ℕ → List ℕ → Result LogState RestartFault → Type 0
-  Returns bytes rest result = (left : List Request) × RepresentsAgain new done left last × EndsBehind RefusesNone all bytes done left rest new result
+  Returns bytes rest result = (left : List Request) × RepresentsAgain new done left last × EndsBehind RefusesNone (record { all = all; bytes = bytes; done = done; left = left; rest = rest }) new result
 
-  returns : (bytes rest : List ℕ) (result : Result LogState RestartFault) (left : List Request) → EndsBehind Refuses all bytes done left rest new result → Returns bytes rest result
+  returns : (bytes rest : List ℕ) (result : Result LogState RestartFault) (left : List Request) → EndsBehind Refuses (record { all = all; bytes = bytes; done = done; left = left; rest = rest }) new result → Returns bytes rest result
   returns bytes rest (Ok log) left ends = (left, again left ends.requests, ends)
   returns bytes rest (Err ReadFailed) left ends = (left, again left ends.requests, ends)
   returns bytes rest (Err AppendFailed) left ends = (left, again left ends, ends)
@@ -57,11 +56,11 @@ module _ (all done : List Request) (last : State) (new : ServerState) (way : Red
   returns bytes rest (Err TooLong) left ends = (left, again left ends.requests, ends)
   returns bytes rest (Err NoMemory) left ends = (left, again left ends, ends)
 
-pub comes_back : (all : List Request) (last : State) (source source' : StreamState) (journal journal' : JournalState) (old new : ServerState) (result : Result LogState RestartFault)
-    → All IsRecordedRequest all → Redoing old.root (first_state 1) all last → ResultsFrom old [] → new.root ≡ old.root
-    → (restarts : Restarts ResultsFrom Refuses source source' journal journal' old new result) → IsFirstOf (take max_journal_bytes restarts.bytes) (text all)
-    → (left : List Request) × RepresentsAgain new restarts.requests left last × EndsBehind RefusesNone all (take max_journal_bytes restarts.bytes) restarts.requests left restarts.rest new result
-comes_back all last source source' journal journal' old new result told way none root r begins =
-    let ends = ends_behind ResultsFrom Refuses all source source' journal journal' old new result told r begins in
+pub comes_back : (all : List Request) (last : State) (old new : RestartState ServerState) (result : Result LogState RestartFault)
+    → All IsRecordedRequest all → Redoing old.replayer.root (first_state 1) all last → ResultsFrom old.replayer [] → new.replayer.root ≡ old.replayer.root
+    → (restarts : Restarts ResultsFrom Refuses old new result) → IsFirstOf (take max_journal_bytes restarts.bytes) (text all)
+    → (left : List Request) × RepresentsAgain new.replayer restarts.requests left last × EndsBehind RefusesNone (record { all = all; bytes = take max_journal_bytes restarts.bytes; done = restarts.requests; left = left; rest = restarts.rest }) new.replayer result
+comes_back all last old new result told way none root r begins =
+    let ends = ends_behind ResultsFrom Refuses all old new result told r begins in
     let way' = subst (λ (x : List ℕ). Redoing x (first_state 1) all last) (sym root) way in
-    returns all r.requests last new way' (r.stood [] none) (take max_journal_bytes r.bytes) r.rest result ends.0 ends.1
+    returns all r.requests last new.replayer way' (r.stood [] none) (take max_journal_bytes r.bytes) r.rest result ends.0 ends.1

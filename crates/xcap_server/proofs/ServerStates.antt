@@ -10,7 +10,7 @@ use Rattle.store_core.specs.Contents.{Represents}
 use Rattle.store_core.specs.ValidStates.{IsValidState}
 use Rattle.xcap_machine.specs.Machine.{Does, ValidStep, answer_as}
 use Rattle.xcap_machine.specs.Effects.{DeletedIsGone, KeyAddressesStay, PutIsThere, SecondPutLeavesTrees}
-use Rattle.xcap_machine.specs.SubscriberVersions.{FollowedStep, SubscribersHold}
+use Rattle.xcap_machine.specs.SubscriberVersions.{SubscribersHold}
 use Rattle.xcap_machine.proofs.FeedAnswers.{holds}
 use Rattle.xcap_machine.proofs.Addresses.{addresses_stay}
 use Rattle.xcap_machine.proofs.Effects.{deleted_is_gone, put_is_there, second_put_leaves}
@@ -37,20 +37,20 @@ abbrev pub IsRooted : ServerState → Type 0
 IsRooted s = IsRoot s.root (authority_of s.root) (path_of s.root)
 
 -- an answer is a step of the machine
-pub follows_at : (root : List ℕ) → IsRoot root (authority_of root) (path_of root) → (s s' : ServerState) (m : State) (request : Request) (reply : SentReply) (edit : Option Edit) → StandsAt root s m → AnswersRequest s request reply s' edit
-    → (m' : State) × StandsAt root s' m' × FollowedStep root m request reply m' edit
-follows_at root is_root s s' m request reply edit here a =
+pub follows_at : (root : List ℕ) (s s' : ServerState) (m : State) (request : Request) (reply : SentReply) (edit : Option Edit) → StandsAt root s m → AnswersRequest s request reply s' edit
+    → (m' : State) × StandsAt root s' m' × ValidStep root m request reply m' edit
+follows_at root s s' m request reply edit here a =
     let does : Does root s.content request reply s'.content edit = subst (λ (r : List ℕ). Does r s.content request reply s'.content edit) here.same_root a.does in
     let t = step_of root s.content s'.content m request reply edit does here.kept here.stands in (
       t.0,
       record { same_root = a.same_root ∙ here.same_root; kept = t.1.2; stands = t.2 },
-      (t.1, holds root is_root s.content m request (answer_as reply edit) here.kept here.stands does.answers),
+      t.1,
     )
 
-step_at : (root : List ℕ) → IsRoot root (authority_of root) (path_of root) → (s s' : ServerState) (m : State) (request : Request) (bytes : List ℕ) (edit : Option Edit) → StandsAt root s m → InBytes AnswersRequest s request bytes s' edit
-    → (m' : State) × StandsAt root s' m' × InBytes (FollowedStep root) m request bytes m' edit
-step_at root is_root s s' m request bytes edit here a =
-    let t = follows_at root is_root s s' m request a.reply edit here a.step in (t.0, t.1, record { reply = a.reply; written = a.written; step = t.2 })
+step_at : (root : List ℕ) (s s' : ServerState) (m : State) (request : Request) (bytes : List ℕ) (edit : Option Edit) → StandsAt root s m → InBytes AnswersRequest s request bytes s' edit
+    → (m' : State) × StandsAt root s' m' × InBytes (ValidStep root) m request bytes m' edit
+step_at root s s' m request bytes edit here a =
+    let t = follows_at root s s' m request a.reply edit here a.step in (t.0, t.1, record { reply = a.reply; written = a.written; step = t.2 })
 
 -- any step of a machine with one state
 abbrev any_step : Unit {0} → Request → List ℕ → Unit {0} → Option Edit → Type 0
@@ -63,27 +63,27 @@ root_at root s s' m request bytes edit same a = (tt, a.step.same_root ∙ same, 
 
 module _ {W : Type 0} (Keeps : List Edit → W → W → Type 0) (s now s' : ServerState) (is : s ≡ now) (old new : StreamState) (watchers watchers' : W) where
   -- what was served is what the machine of its root does
-  pub line_stands : (ended : CloseReason) → IsRooted s → ServesStream (InBytes AnswersRequest) Keeps ended s s' old new watchers watchers' → (m : State) → IsValidState m → Represents now.content m
-      → (m' : State) × IsValidState m' × Represents s'.content m' × ServesStream (InBytes (FollowedStep now.root)) Keeps ended m m' old new watchers watchers'
-  line_stands ended rooted v m kept stands =
-      let served : ServesStream (InBytes AnswersRequest) Keeps ended now s' old new watchers watchers' = subst (λ (x : ServerState). ServesStream (InBytes AnswersRequest) Keeps ended x s' old new watchers watchers') is v in
-      let t = line_by (InBytes AnswersRequest) (InBytes (FollowedStep now.root)) (StandsAt now.root) (step_at now.root (subst IsRooted is rooted)) Keeps ended now s' m old new watchers watchers' (record { same_root = refl; kept = kept; stands = stands }) served in
+  pub line_stands : (ended : CloseReason) → ServesStream (InBytes AnswersRequest) Keeps ended (record { machine = s; stream = old; watchers = watchers }) (record { machine = s'; stream = new; watchers = watchers' }) → (m : State) → IsValidState m → Represents now.content m
+      → (m' : State) × IsValidState m' × Represents s'.content m' × ServesStream (InBytes (ValidStep now.root)) Keeps ended (record { machine = m; stream = old; watchers = watchers }) (record { machine = m'; stream = new; watchers = watchers' })
+  line_stands ended v m kept stands =
+      let served : ServesStream (InBytes AnswersRequest) Keeps ended (record { machine = now; stream = old; watchers = watchers }) (record { machine = s'; stream = new; watchers = watchers' }) = subst (λ (x : ServerState). ServesStream (InBytes AnswersRequest) Keeps ended (record { machine = x; stream = old; watchers = watchers }) (record { machine = s'; stream = new; watchers = watchers' })) is v in
+      let t = line_by (InBytes AnswersRequest) (InBytes (ValidStep now.root)) (StandsAt now.root) (step_at now.root) Keeps ended now s' m old new watchers watchers' (record { same_root = refl; kept = kept; stands = stands }) served in
       (t.0, t.1.kept, t.1.stands, t.2)
 
-  pub port_stands : (most : ℕ) (served : ServeSummary) → IsRooted s → ServesPort (InBytes AnswersRequest) Keeps most served s s' old new watchers watchers' → (m : State) → IsValidState m → Represents now.content m
-      → (m' : State) × IsValidState m' × Represents s'.content m' × ServesPort (InBytes (FollowedStep now.root)) Keeps most served m m' old new watchers watchers'
-  port_stands most served rooted v m kept stands =
-      let all : ServesPort (InBytes AnswersRequest) Keeps most served now s' old new watchers watchers' = subst (λ (x : ServerState). ServesPort (InBytes AnswersRequest) Keeps most served x s' old new watchers watchers') is v in
-      let t = port_by (InBytes AnswersRequest) (InBytes (FollowedStep now.root)) (StandsAt now.root) (step_at now.root (subst IsRooted is rooted)) Keeps most served now s' m old new watchers watchers' (record { same_root = refl; kept = kept; stands = stands }) all in
+  pub port_stands : (most : ℕ) (served : ServeSummary) → ServesPort (InBytes AnswersRequest) Keeps (record { most = most; served = served }) (record { machine = s; stream = old; watchers = watchers }) (record { machine = s'; stream = new; watchers = watchers' }) → (m : State) → IsValidState m → Represents now.content m
+      → (m' : State) × IsValidState m' × Represents s'.content m' × ServesPort (InBytes (ValidStep now.root)) Keeps (record { most = most; served = served }) (record { machine = m; stream = old; watchers = watchers }) (record { machine = m'; stream = new; watchers = watchers' })
+  port_stands most served v m kept stands =
+      let all : ServesPort (InBytes AnswersRequest) Keeps (record { most = most; served = served }) (record { machine = now; stream = old; watchers = watchers }) (record { machine = s'; stream = new; watchers = watchers' }) = subst (λ (x : ServerState). ServesPort (InBytes AnswersRequest) Keeps (record { most = most; served = served }) (record { machine = x; stream = old; watchers = watchers }) (record { machine = s'; stream = new; watchers = watchers' })) is v in
+      let t = port_by (InBytes AnswersRequest) (InBytes (ValidStep now.root)) (StandsAt now.root) (step_at now.root) Keeps most served now s' m old new watchers watchers' (record { same_root = refl; kept = kept; stands = stands }) all in
       (t.0, t.1.kept, t.1.stands, t.2)
 
   -- and its root is as before
-  pub line_root : (ended : CloseReason) → ServesStream (InBytes AnswersRequest) Keeps ended s s' old new watchers watchers' → s'.root ≡ now.root
+  pub line_root : (ended : CloseReason) → ServesStream (InBytes AnswersRequest) Keeps ended (record { machine = s; stream = old; watchers = watchers }) (record { machine = s'; stream = new; watchers = watchers' }) → s'.root ≡ now.root
   line_root ended v =
       let t = line_by (InBytes AnswersRequest) any_step (λ (x : ServerState) (y : Unit {0}). x.root ≡ s.root) (root_at s.root) Keeps ended s s' tt old new watchers watchers' refl v in
       t.1 ∙ ap (λ (x : ServerState). x.root) is
 
-  pub port_root : (most : ℕ) (served : ServeSummary) → ServesPort (InBytes AnswersRequest) Keeps most served s s' old new watchers watchers' → s'.root ≡ now.root
+  pub port_root : (most : ℕ) (served : ServeSummary) → ServesPort (InBytes AnswersRequest) Keeps (record { most = most; served = served }) (record { machine = s; stream = old; watchers = watchers }) (record { machine = s'; stream = new; watchers = watchers' }) → s'.root ≡ now.root
   port_root most served v =
       let t = port_by (InBytes AnswersRequest) any_step (λ (x : ServerState) (y : Unit {0}). x.root ≡ s.root) (root_at s.root) Keeps most served s s' tt old new watchers watchers' refl v in
       t.1 ∙ ap (λ (x : ServerState). x.root) is

@@ -2,38 +2,39 @@
 -- project's own.
 use Rattle.std.specs.Prelude.{◌≡◌, ℕ, List, ◌++◌, Result, Ok, Err}
 use Rattle.http_wire.specs.declared.request.Request.{Request}
-use Rattle.xcap_io.specs.Causes.{StreamState}
 use Rattle.edit_ops.specs.declared.edit.Edit.{Edit}
 use Rattle.edit_journal.specs.Journals.{JournalState}
 use Rattle.edit_journal.specs.Logs.{LogState}
 use Rattle.http_serve.specs.declared.machine.MachineReply.{MachineReply}
-use Rattle.http_serve.specs.declared.accept_loop.ServeSummary.{ServeSummary}
-use Rattle.edit_journal.specs.LoggedMachines.{HoldsLog, accepted}
-use Rattle.edit_journal.specs.LoggedRequests.{Accepts, Answers}
+use Rattle.http_serve.specs.Ports.{ServeOutcome}
+use Rattle.http_serve.specs.ServingStates.{ServingState}
+use Rattle.edit_journal.specs.LoggedMachines.{Booked, HoldsLog, accepted}
+use Rattle.edit_journal.specs.LoggedRequests.{Accepts, Answers, JournaledState}
 use Rattle.edit_journal.specs.Ports.{ServesLogged}
 use Rattle.store_core.specs.Contents.{Represents}
 use Rattle.store_core.specs.ValidStates.{IsValidState}
 use Rattle.store_core.specs.State.{State}
-use Rattle.xcap_machine.specs.SubscriberVersions.{FollowedStep}
+use Rattle.xcap_machine.specs.Machine.{ValidStep}
 use Rattle.xcap_server.specs.ReplayedRequests.{Redoing, ResultsFrom}
 use Rattle.xcap_machine.specs.Servers.{ServerState}
 
 -- A request was answered as the machine of the root answers it from this state on, except for a
 -- request that couldn't be added to the log; and the server's contents represent the next state.
-pub record AnswersLogged (old new : ServerState) (m : State) (log log' : LogState)
-    (journal journal' : JournalState) (request : Request) (a : MachineReply Edit) : Type 0 where
+pub record AnswersLogged (m : State) (old new : JournaledState ServerState) (request : Request)
+    (a : MachineReply Edit) : Type 0 where
   pub next : State
   pub kept : IsValidState next
-  pub stands : Represents new.content next
-  pub answers : Answers (FollowedStep old.root) m log journal request a.reply a.edit next log'
-      journal'
+  pub stands : Represents new.machine.content next
+  pub answers : Answers (ValidStep old.machine.root)
+      (record { machine = m; log = old.log; journal = old.journal }) request a.reply
+      (record { machine = next; log = new.log; journal = new.journal }) a.edit
 
 -- The journal has the records of these requests, for which the server stands, as they led to its
 -- state.
 pub record Logs (server : ServerState) (log : LogState) (journal : JournalState)
     (requests : List Request) : Type 0 where
   pub stands : ResultsFrom server requests
-  pub holds : HoldsLog (Accepts (FollowedStep server.root) stands.state) log requests journal.held
+  pub holds : HoldsLog (Accepts (ValidStep server.root) stands.state) log requests journal.held
 
 -- the accepted requests, with this one where it made a change
 abbrev pub with_answer : {E : Type 0} → Result (MachineReply Edit) E → List Request → Request
@@ -41,18 +42,31 @@ abbrev pub with_answer : {E : Type 0} → Result (MachineReply Edit) E → List 
 with_answer (Ok a) requests request = requests ++ accepted request a.edit
 with_answer (Err e) requests request = requests
 
--- The connections of a port were served as by the machine of the root from this state on,
--- which had accepted these requests, except for requests that couldn't be added to the log; and
--- the server's contents represent the next state.
-pub record ServesPortLogged {W : Type 0} (Keeps : List Edit → W → W → Type 0) (most : ℕ)
-    (served : ServeSummary) (requests : List Request) (old new : ServerState) (m : State)
-    (log' : LogState) (journal journal' : JournalState) (port port' : StreamState)
-    (watchers watchers' : W) : Type 0 where
+-- The connections of a port were served as by the machine of the root that starts so: from its
+-- state on, and with the requests that it had accepted before, except for requests that couldn't be
+-- added to the log; and the server's contents represent the next state.
+pub record ServesPortLogged {W : Type 0} (Keeps : List Edit → W → W → Type 0)
+    (outcome : ServeOutcome) (start : Booked State)
+    (old new : ServingState (JournaledState ServerState) W) : Type 0 where
   pub next : State
   pub kept : IsValidState next
-  pub stands : Represents new.content next
-  pub same_root : new.root ≡ old.root
-  pub serves : ServesLogged (FollowedStep old.root) Keeps most served requests m next log' journal
-      journal' port port' watchers watchers'
-  pub redone : (start : State) → Redoing old.root start requests m
-      → Redoing old.root start serves.accepted next
+  pub stands : Represents new.machine.machine.content next
+  pub same_root : new.machine.machine.root ≡ old.machine.machine.root
+  pub serves : ServesLogged (ValidStep old.machine.machine.root) Keeps outcome start.requests
+      (record {
+        machine = record {
+          machine = start.machine;
+          log = old.machine.log;
+          journal = old.machine.journal;
+        };
+        stream = old.stream;
+        watchers = old.watchers;
+      })
+      (record {
+        machine = record { machine = next; log = new.machine.log; journal = new.machine.journal };
+        stream = new.stream;
+        watchers = new.watchers;
+      })
+  pub redone : (origin : State)
+      → Redoing old.machine.machine.root origin start.requests start.machine
+      → Redoing old.machine.machine.root origin serves.accepted next

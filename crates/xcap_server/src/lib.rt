@@ -1,27 +1,28 @@
-//! The server: it answers requests from the stored documents, notifies watchers of changes, serves
-//! connections, and restarts from a journal.
+//! The server: it answers requests, notifies watchers, serves connections, and restarts from a
+//! journal.
 //! Promises upward that replies, documents and notified changes are those of the abstract machine
 //! run on the requests in the connections' bytes (`serve_connection`, `serve_port`, by
-//! `FollowedStep`), and that a server which restarts from any first bytes of another's journal has
-//! what that one had after the requests whose records are whole in them
-//! (`servers_come_back_from_first_bytes`).
+//! `ValidStep`; that subscribers hold the document after such a step is the law
+//! `xcap_machine::subscribers_hold_the_document`), and that a server which restarts from any first
+//! bytes of another's journal has what that one had after the requests whose records are whole in
+//! them (`servers_come_back_from_first_bytes`).
 //! The standard is RFC 4825, sections 6 to 8; the form of a journal is the project's own.
 //! A target outside the root is answered 404 without allocation.
 #![tactic(auto)]
 
 mod laws;
+mod logged_server;
 mod logged_service;
 mod replayer;
 mod requests;
 mod restart_laws;
 mod server;
-mod server_logged;
 mod service;
 mod targets;
 
 pub use http_serve::{CloseReason, MachineReply, ServeSummary, StopReason};
 pub use laws::all_bytes_count;
+pub use logged_server::{answer_logged, serve_port_logged};
 pub use restart_laws::{journals_of_servers_come_to_a_state, servers_come_back_from_first_bytes};
 pub use server::{Server, answer, serve_connection, serve_port};
-pub use server_logged::{answer_logged, serve_port_logged};
 pub use std::alloc::AllocError as NoMemory;

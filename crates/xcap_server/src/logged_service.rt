@@ -40,7 +40,10 @@ fn append_failure_reply(request: &Request) -> MachineReply<Edit>
 }
 
 // The answer where a change isn't made.
-fn unmade(fault: AppendFault, request: &Request) -> Result<MachineReply<Edit>, AllocError>
+fn answer_without_change(
+    fault: AppendFault,
+    request: &Request,
+) -> Result<MachineReply<Edit>, AllocError>
     ensures makes_nothing { (s : Stored) (d : TheDecision)
         → CarriesOut s d request.now (Err fault) result s }
 {
@@ -65,7 +68,7 @@ fn carry_out(
         Err(fault) => {
             // Dropped by a call, whose proof is made once, rather than at each exit.
             drop(decision);
-            unmade(fault, request)
+            answer_without_change(fault, request)
         }
     }
 }

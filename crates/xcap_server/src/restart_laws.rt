@@ -1,11 +1,10 @@
 //! Laws of servers that restart, each the contract of a function that does nothing.
 ghost use Rattle.std.specs.Prelude.{◌≡◌, ℕ, ◌≤◌, ◌++◌, List, [], Result, false, length, take, All};
 ghost use Rattle.http_wire.specs.declared.request.Request.{Request};
-ghost use Rattle.xcap_io.specs.Causes.{StreamState};
 ghost use Rattle.edit_journal.specs.Journals.{IsFirstOf, JournalState};
 ghost use Rattle.edit_journal.specs.Logs.{LogState};
 ghost use Rattle.edit_journal.specs.Limits.{max_journal_bytes};
-ghost use Rattle.edit_journal.specs.Restarts.{Restarts};
+ghost use Rattle.edit_journal.specs.Restarts.{RestartState, Restarts};
 ghost use Rattle.edit_journal.specs.Texts.{IsRecordedRequest, text};
 ghost use Rattle.edit_journal.specs.declared.journal_restart.RestartFault.{RestartFault};
 ghost use Rattle.edit_journal.specs.PrefixRestarts.{EndsBehind};
@@ -21,16 +20,23 @@ ghost use Rattle.xcap_server.specs.RestartedServers.{RefusesNone, RepresentsAgai
 /// machine had after the requests that it repeated; where it read all bytes that it accepts, these
 /// are exactly the requests whose records are whole in the bytes.
 pub fn servers_come_back_from_first_bytes()
-    ensures restarts_there { (all : List Request) (last : State) (source source' : StreamState)
-        (journal journal' : JournalState) (old new : ServerState)
+    ensures restarts_there { (all : List Request) (last : State)
+        (old new : RestartState ServerState)
         (result : Result LogState RestartFault)
-        → All IsRecordedRequest all → Redoing old.root (first_state 1) all last
-        → ResultsFrom old [] → new.root ≡ old.root
-        → (restarts : Restarts ResultsFrom Refuses source source' journal journal' old new result)
+        → All IsRecordedRequest all → Redoing old.replayer.root (first_state 1) all last
+        → ResultsFrom old.replayer [] → new.replayer.root ≡ old.replayer.root
+        → (restarts : Restarts ResultsFrom Refuses old new result)
         → IsFirstOf (take max_journal_bytes restarts.bytes) (text all)
-        → (left : List Request) × RepresentsAgain new restarts.requests left last
-        × EndsBehind RefusesNone all (take max_journal_bytes restarts.bytes) restarts.requests left
-        restarts.rest new result }
+        → (left : List Request) × RepresentsAgain new.replayer restarts.requests left last
+        × EndsBehind RefusesNone
+        (record {
+          all = all;
+          bytes = take max_journal_bytes restarts.bytes;
+          done = restarts.requests;
+          left = left;
+          rest = restarts.rest;
+        })
+        new.replayer result }
 {}
 
 /// A law: where a journal has the records of the requests that a server stands for, some first

@@ -7,7 +7,7 @@ ghost use Rattle.store_core.specs.ValidStates.{IsValidState};
 ghost use Rattle.xcap_machine.specs.Effects.{DeletedIsGone, KeyAddressesStay, PutIsThere};
 ghost use Rattle.xcap_machine.specs.Effects.{SecondPutLeavesTrees};
 ghost use Rattle.xcap_machine.specs.Machine.{ValidStep};
-ghost use Rattle.xcap_machine.specs.SubscriberVersions.{FollowedStep, SubscribersHold};
+ghost use Rattle.xcap_machine.specs.SubscriberVersions.{SubscribersHold};
 ghost use Rattle.http_serve.specs.Connections.{ServesStream};
 ghost use Rattle.http_serve.specs.Ports.{ServesPort};
 ghost use Rattle.http_serve.specs.ReplyBytes.{InBytes};
@@ -129,11 +129,11 @@ pub fn serve_connection<L: Source + Sink, W: Watchers<Edit>>(
 ) -> CloseReason
     ensures machine_session { (m : State) → IsValidState m → Represents server.old.content m
         → (next : State) × IsValidState next × Represents server.new.content next
-        × ServesStream (InBytes (FollowedStep server.old.root)) W.keeps result m next
-        (L.state line.old) (L.state line.new) watchers.old watchers.new }
+        × ServesStream (InBytes (ValidStep server.old.root)) W.keeps result
+        (record { machine = m; stream = L.state line.old; watchers = watchers.old })
+        (record { machine = next; stream = L.state line.new; watchers = watchers.new }) }
     ensures same_root { server.new.root ≡ server.old.root }
 {
-    server.service.is_rooted();
     serve_stream(&mut server.service, &mut server.buffers, line, watchers)
 }
 
@@ -147,11 +147,12 @@ pub fn serve_port<P: Port, W: Watchers<Edit>>(
 ) -> ServeSummary
     ensures machine_session { (m : State) → IsValidState m → Represents server.old.content m
         → (next : State) × IsValidState next × Represents server.new.content next
-        × ServesPort (InBytes (FollowedStep server.old.root)) W.keeps count result m next
-        (P.state port.old) (P.state port.new) watchers.old watchers.new }
+        × ServesPort (InBytes (ValidStep server.old.root)) W.keeps
+        (record { most = count; served = result })
+        (record { machine = m; stream = P.state port.old; watchers = watchers.old })
+        (record { machine = next; stream = P.state port.new; watchers = watchers.new }) }
     ensures same_root { server.new.root ≡ server.old.root }
 {
-    server.service.is_rooted();
     serve_streams(
         &mut server.service,
         &mut server.buffers,

@@ -1,9 +1,9 @@
-//! Request targets and the addresses that a server prints: the XCAP root, document and node
-//! selectors, queries, escapes, and the URIs of homes and ancestors. Upward: each target has one
-//! result under a root, its meaning or the first of its faults (`TargetResult`), and `read_target`
-//! returns it; a printed document id reads back as the document (`printed_id_reads_back`,
-//! `printed_names_name_their_documents`). The standards are RFC 4825, sections 6 and 11, and RFC
-//! 3986, sections 2.1 and 3.3.
+//! Request targets, and the addresses that a server prints. Their parts are the XCAP root,
+//! document and node selectors, queries, escapes, and the URIs of homes and ancestors. Upward:
+//! each target has one result under a root, its meaning or the first of its faults
+//! (`TargetResult`), and `read_target` returns it; a printed document id reads back as the
+//! document (`printed_id_reads_back`, `printed_names_name_their_documents`). The standards are RFC
+//! 4825, sections 6 and 11, and RFC 3986, sections 2.1 and 3.3.
 //! A shape keeps its selector as text, since selector and query are read only where the segments
 //! before them name something.
 #![tactic(auto)]

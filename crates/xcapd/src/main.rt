@@ -1,6 +1,6 @@
-//! The program `xcapd`: it reads the words of the command line, opens the real streams and sockets
-//! and an audit of changes on the stream for errors, and exits with the status that `start`
-//! returns over them.
+//! The program `xcapd`: it calls `start` over the real streams and sockets, and exits with its
+//! status. It reads the words of the command line, and opens an audit of changes on the stream for
+//! errors.
 //! It promises what `start` promises, and adds nothing of its own.
 //! The standard that its commands follow is RFC 4825.
 //! Without memory for the words `start` gets None in their place, and ends with 7.

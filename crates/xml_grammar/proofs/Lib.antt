@@ -1,6 +1,8 @@
+pub mod AheadLemmas
 pub mod Beginnings
 pub mod Carry
 pub mod ClosedRules
+pub mod CursorLemmas
 pub mod Exact
 pub mod Fronts
 pub mod Greedy

@@ -1,5 +1,5 @@
-//! Names and texts of XML: characters, texts and lists, names, declarations and attributes, what
-//! prefixes are bound to by lists of declarations, and the lengths of their prints.
+//! Names and texts of XML: characters, lists, names, attributes, and what declarations bind
+//! prefixes to. Also the lengths of their prints.
 //! Contracts see a text as its characters. Promised upward are the classes of characters
 //! (`is_name`), what is bound in lists of declarations (`bound`, `bindings_in`), and how names,
 //! values and texts are printed (`print_attr`, `print_text`). There are no trees here.

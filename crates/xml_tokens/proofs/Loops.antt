@@ -7,7 +7,6 @@ use Rattle.xml_tokens.specs.declared.fault_kind.FaultKind.{FaultKind}
 use Rattle.xml_tokens.specs.declared.parse_error.ParseError.{ParseError as CodeStop}
 use Rattle.xml_tokens.specs.declared.parse_error.ParseError.TheVariants as stops
 use Rattle.xml_tokens.specs.readers.Results.{Fails}
-use Rattle.xml_tokens.specs.readers.Tokens.{read_dropped}
 
 -- the result of adding members to what there is
 abbrev pub finish : {A S B : Type 0} → (S → List A → B) → S → Result (List A × List ℕ) (Stop FaultKind) → Result (B × List ℕ) (Stop FaultKind)
@@ -79,10 +78,6 @@ pub first_stops : {A B : Type 0} (p : Reader FaultKind A) (q : A → Reader Faul
 first_stops p q text stops.Memory h = tt
 first_stops p q text (stops.Syntax left) h = first_fails p q text (Syntax (chars left.now)) h
 first_stops p q text (stops.Faulty kind left) h = first_fails p q text (Faulty kind (chars left.now)) h
-
--- what is read and dropped
-pub dropped_ok : {A : Type 0} (p : Reader FaultKind A) (text rest : List ℕ) (a : A) → p text ≡ Ok (a, rest) → read_dropped p text ≡ Ok (tt, rest)
-dropped_ok {A} p text rest a h = ap (λ (r : Result (A × List ℕ) (Stop FaultKind)). r >>= λ x. let z : Unit {0} × List ℕ = (tt, x.1) in Ok z) h
 
 -- other values of what is read
 pub record IsValued {A B : Type 0} (f : A → B) (out : Result (A × List ℕ) (Stop FaultKind)) (b : B) (rest : List ℕ) : Type 0 where

@@ -3,7 +3,7 @@ use Rattle.std.proofs.Common.{◌≡◌, ℕ, suc, ◌+◌, ◌-◌, ◌<◌, �
 use Rattle.std.specs.Prelude.{nat_eq}
 use Rattle.std.proofs.lemmas.Bool.{eqb-true}
 use Rattle.std.proofs.Math.Seq.{drop-cons, take-length}
-use Rattle.std.proofs.lemmas.List.{length-drop, length-take, drop_at, take-append-le, take_min, append-nil}
+use Rattle.std.proofs.lemmas.List.{length-drop, drop_at, take-append-le, append-nil}
 use Rattle.xml_grammar.specs.TextReading.{Stop, Syntax, ◌>>=◌, starts, front_of, after_front}
 use Rattle.xml_grammar.specs.readers.Functions.{all_but_last, front_without, after_without, read_up_to}
 use Rattle.xml_tokens.specs.declared.fault_kind.FaultKind.{FaultKind}
@@ -85,10 +85,6 @@ module _ (p : ℕ → Bool) (xs : List ℕ) where
           four_more f = next (i + 3) (i + 4) (omega arith) (omega (arith, h)) fourth f
 
 pub ruleset four_by_four = (first_stops, second_stops, third_stops, fourth_stops, four_more)
-
--- the first characters of a text, by their own number
-pub first_ones : (taken xs : List ℕ) (n : ℕ) → taken ≡ take n xs → taken ≡ take (length taken) xs
-first_ones taken xs n is = is ∙ sym (ap (λ (k : ℕ). take k xs) (ap length is ∙ length-take n xs) ∙ take_min n xs)
 
 -- a run without a word
 starts_by : (c d : ℕ) (cs text : List ℕ) (b : Bool) → nat_eq c d ≡ b → (starts cs text ≡ true → (rest : List ℕ) × (text ≡ cs ++ rest)) → cond b (starts cs text) false ≡ true → (rest : List ℕ) × (d ∷ text ≡ c ∷ (cs ++ rest))

@@ -5,7 +5,7 @@ use Rattle.xml_grammar.specs.Digits.{Digits}
 use Rattle.xml_grammar.specs.TextReading.{Stop, Syntax, Reader, ◌>>=◌, after_front, read_one, read_word, read_run, read_sequence, read_valued}
 use Rattle.xml_grammar.specs.readers.Functions.{number_end, read_digits, read_number, read_either, read_at_most, read_many, read_empty}
 use Rattle.xml_tokens.specs.declared.fault_kind.FaultKind.{FaultKind}
-use Rattle.xml_tokens.specs.readers.Ends.{EndsWith}
+use Rattle.xml_grammar.specs.readers.Ends.{EndsWith}
 
 abbrev pub Left : {A : Type 0} → List ℕ → Result (A × List ℕ) (Stop FaultKind) → Type 0
 Left text (Ok x) = EndsWith text x.1

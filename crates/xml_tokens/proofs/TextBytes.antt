@@ -1,54 +1,25 @@
--- The characters of a text by its bytes: an ASCII byte at the front is the first character.
-use Rattle.std.proofs.Common.{◌≡◌, ℕ, zero, suc, ◌+◌, ◌-◌, ◌<◌, ◌≤◌, Bool, true, false, cond, List, [], ◌∷◌, ◌++◌, ◌&&◌, length, take, drop, get_or, chars, encode_utf8_all, IsUtf8, refl, sym, ap, subst, ◌∙◌, take-append-drop, length-append, arith}
+-- The characters of a text by its bytes: runs, ASCII characters at the front, and bytes that all
+-- pass a test.
+use Rattle.std.proofs.Common.{◌≡◌, ℕ, suc, ◌+◌, ◌-◌, ◌<◌, ◌≤◌, Bool, true, false, cond, List, [], ◌∷◌, ◌++◌, ◌&&◌, length, take, drop, get_or, chars, encode_utf8_all, IsUtf8, refl, sym, ap, subst, ◌∙◌, length-append, arith}
 use lib.Utf8.{encode}
 use Rattle.std.specs.Prelude.{nat_lt}
 use Rattle.std.specs.List.{list_all}
 use Rattle.std.specs.Str.{IsAscii, IsCharBoundary}
 use Rattle.std.proofs.lemmas.Bool.{and_parts, leb-false, lt-ltb, ltb-false, ltb-true}
-use Rattle.std.proofs.lemmas.List.{append_cancel_right, append-nil, drop_at, take-append-le}
+use Rattle.std.proofs.lemmas.List.{append_cancel_right, append-nil, take-append-le}
 use Rattle.std.proofs.Math.Seq.{take-length}
 use Rattle.std.proofs.lemmas.List.Folds.{list_all-append}
-use Rattle.std.proofs.lemmas.Str.{chars-nil, chars-append, chars-IsAscii, encode_ascii, encodes-append, encodes-chars, inside_one, length-le-encodes, IsUtf8-from_ascii, IsUtf8-take, IsCharBoundary-from_take, IsCharBoundary-at_seam}
+use Rattle.std.proofs.lemmas.Str.{chars-nil, chars-append, encode_ascii, encodes-chars, inside_one, length-le-encodes, IsUtf8-from_ascii, IsCharBoundary-from_take}
 use Rattle.std.proofs.lemmas.Str.Ascii.{IsAscii-nil, IsAscii-cons}
 use Rattle.xml_grammar.specs.TextReading.{head_is, front_of, after_front}
 use Rattle.xml_tokens.specs.readers.Runs.{run_len}
 use Rattle.xml_tokens.specs.readers.Classes.{in_ascii, is_wide}
-use Rattle.xml_tokens.specs.readers.Ends.{EndsWith}
+use Rattle.xml_grammar.proofs.CursorLemmas.{ascii_first}
 use Rattle.xml_tokens.proofs.RunLemmas.{take_run, drop_run, run_len_le}
-
-ascii_one : (b : ℕ) → b < 128 → IsAscii (b ∷ [])
-ascii_one b low = IsAscii-cons b [] low IsAscii-nil
-
-pub ascii_first : (b : ℕ) (bs : List ℕ) → b < 128 → chars (b ∷ bs) ≡ b ∷ chars bs
-ascii_first b bs low =
-    let one = ascii_one b low in
-    chars-append (b ∷ []) bs (IsUtf8-from_ascii (b ∷ []) one) ∙ ap (λ (z : List ℕ). z ++ chars bs) (chars-IsAscii (b ∷ []) one)
-
-pub first_at : (bs : List ℕ) → 0 < length bs → get_or bs 0 0 < 128 → chars bs ≡ get_or bs 0 0 ∷ chars (drop 1 bs)
-first_at [] some low = absurd (omega arith)
-first_at (b ∷ bs) some low = ascii_first b bs low
-
-pub none_first : (bs : List ℕ) → length bs ≡ 0 → chars bs ≡ []
-none_first [] h = chars-nil
-none_first (b ∷ bs) h = absurd (omega arith)
 
 -- no text has more characters than bytes
 pub chars_le : (bs : List ℕ) → IsUtf8 bs → length (chars bs) ≤ length bs
 chars_le bs u = omega (arith, length-le-encodes (chars bs), ap length (encodes-chars bs u))
-
--- # Steps
-
--- one more character is passed
-pub skip_more : (xs cs : List ℕ) (c left : ℕ) → xs ≡ c ∷ cs → 0 < left → drop (left - 1) cs ≡ drop left xs
-skip_more xs cs c zero is some = absurd (omega arith)
-skip_more xs cs c (suc n) is some = let k : n ≡ suc n - 1 = omega arith in subst (λ (m : ℕ). drop m cs ≡ drop (suc n) xs) k (sym (ap (drop (suc n)) is))
-
-drop_nothing : (n : ℕ) (xs : List ℕ) → xs ≡ [] → drop n xs ≡ []
-drop_nothing zero xs is = is
-drop_nothing (suc n) xs is = ap (drop (suc n)) is
-
-pub skip_none : (xs : List ℕ) (left : ℕ) → xs ≡ [] → xs ≡ drop left xs
-skip_none xs left is = is ∙ sym (drop_nothing left xs is)
 
 -- # Runs
 
@@ -139,34 +110,6 @@ module _ (p : ℕ → Bool) (bs : List ℕ) (n : ℕ) (is : n ≡ run_len (in_as
   behind_run rest left w =
       let fails : head_is (in_ascii p) rest ≡ false = ap (head_is (in_ascii p)) (left_is rest left) ∙ after_fails (in_ascii p) bs in
       sym (behind_ascii rest left ∙ run_stays p (chars rest) (head_fails p rest fails w))
-
--- # A text and its suffixes
-
-module _ (text rest : List ℕ) (u : IsUtf8 text) (v : IsUtf8 rest) (ends : EndsWith (chars text) (chars rest)) where
-  seam : text ≡ encode_utf8_all ends.0 ++ rest
-  seam = sym (encodes-chars text u) ∙ ap encode_utf8_all ends.1 ∙ encodes-append ends.0 (chars rest) ∙ ap (λ (z : List ℕ). encode_utf8_all ends.0 ++ z) (encodes-chars rest v)
-
-  sizes : length text ≡ length (encode_utf8_all ends.0) + length rest
-  sizes = ap length seam ∙ length-append (encode_utf8_all ends.0) rest
-
-  pub end_shorter : length rest ≤ length text
-  end_shorter = omega (arith, sizes)
-
-  pub end_boundary : IsCharBoundary text (length text - length rest)
-  end_boundary =
-      let n : length (encode_utf8_all ends.0) ≡ length text - length rest = omega (arith, sizes) in
-      subst (IsCharBoundary text) n (IsCharBoundary-at_seam text (encode_utf8_all ends.0) rest seam v)
-
-  end_left : drop (length text - length rest) text ≡ rest
-  end_left =
-      let n : length text - length rest ≡ length (encode_utf8_all ends.0) = omega (arith, sizes) in
-      rw n (ap (drop (length (encode_utf8_all ends.0))) seam ∙ drop_at (encode_utf8_all ends.0) rest (length (encode_utf8_all ends.0)) refl)
-
-  pub end_whole : chars text ≡ chars (take (length text - length rest) text) ++ chars rest
-  end_whole =
-      let n = length text - length rest in
-      ap chars (sym (take-append-drop n text)) ∙ chars-append (take n text) (drop n text) (IsUtf8-take text n u end_boundary)
-      ∙ ap (λ (z : List ℕ). chars (take n text) ++ chars z) end_left
 
 -- a prefix by what follows it
 pub front_by_rest : (whole front other rest : List ℕ) → whole ≡ front ++ rest → whole ≡ other ++ rest → front ≡ other

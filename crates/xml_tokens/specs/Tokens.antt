@@ -2,17 +2,16 @@
 -- edition, and Namespaces in XML 1.0. The numbers in brackets are the productions of XML, and with
 -- an N the productions of Namespaces in XML. A rule says which texts it spells, as which values,
 -- and its events where a text breaks off in it.
-use Rattle.std.specs.Prelude.{ℕ, Bool, ◌==◌, not, ◌≡◌, false, ◌&&◌, ◌||◌, List, codes, Option, Some}
+use Rattle.std.specs.Prelude.{ℕ, Bool, ◌==◌, not, ◌&&◌, ◌||◌, List, codes}
 use Rattle.std.specs.Char.{is_ascii_digit, is_ascii_alphabetic}
 use Rattle.xml_names.specs.Characters.{is_char, is_space, is_name_start, is_name_char}
 use Rattle.xml_names.specs.declared.names.Name.{Name}
 use Rattle.xml_grammar.specs.Digits.{decimal_digits, hexadecimal}
 use Rattle.xml_grammar.specs.Rules.{Rule, word, run, run_without, number, sequence, either, valued}
 use Rattle.xml_grammar.specs.Rules.{optional, between, some_of, keeping_first, keeping_second}
-use Rattle.xml_grammar.specs.Rules.{quoted, name_rule}
+use Rattle.xml_grammar.specs.Rules.{name_rule}
 use Rattle.xml_tokens.specs.declared.fault_kind.FaultKind.{FaultKind}
-use Rattle.xml_tokens.specs.declared.fault_kind.FaultKind.TheVariants.{Encoded}
-use Rattle.xml_tokens.specs.Values.{line_ends, qname_of, same_letters, value_spelled}
+use Rattle.xml_tokens.specs.Values.{line_ends, qname_of, value_spelled}
 
 -- ---- names and white space
 
@@ -87,52 +86,12 @@ is_other one c = not (c == one)
 abbrev pub value : ℕ → Rule FaultKind (List ℕ)
 value quote = valued value_spelled (between (run (is_raw_in quote)) reference)
 
--- the texts of the rule, which spell nothing
-abbrev pub dropped : {A : Type 0} → Rule FaultKind A → Rule FaultKind (Unit {0})
-dropped r = valued (λ _. tt) r
-
 -- [14] CharData: raw characters without `]]>`
 abbrev pub chars : Rule FaultKind (List ℕ)
 chars = valued line_ends (run_without is_raw (codes "]]>"))
 
--- ---- the XML declaration
-
--- [26] VersionNum: `1.` and digits
-abbrev pub version_number : Rule FaultKind (Unit {0})
-version_number = dropped (keeping_second (word (codes "1.")) (some_of is_ascii_digit))
+-- ---- names of encodings
 
 -- a letter, a digit, `.` (46), `_` (95) or `-` (45)
 abbrev pub is_encoding_char : ℕ → Bool
 is_encoding_char c = is_ascii_alphabetic c || is_ascii_digit c || c == 46 || c == 95 || c == 45
-
-abbrev pub encoding_name : Rule FaultKind (List ℕ)
-encoding_name = name_rule is_ascii_alphabetic is_encoding_char
-
--- [32] `yes` or `no`
-abbrev pub yes_or_no : Rule FaultKind (Unit {0})
-yes_or_no = either (word (codes "yes")) (word (codes "no"))
-
--- S, a word, Eq and a value in quotes
-abbrev pub pseudo_attribute : {A : Type 0} → List ℕ → Rule FaultKind A → Rule FaultKind A
-pseudo_attribute w r =
-    keeping_second some_spaces
-    (keeping_second (word w) (keeping_second equals (quoted is_quote (λ _. r))))
-
--- [23] XMLDecl: `<?xml`, the version, optionally the encoding, optionally whether it is
--- standalone, S?, `?>`. Its value is the encoding.
-abbrev pub xml_declaration : Rule FaultKind (Option (List ℕ))
-xml_declaration =
-    keeping_second (word (codes "<?xml"))
-    (keeping_second (pseudo_attribute (codes "version") version_number)
-    (keeping_first (optional (pseudo_attribute (codes "encoding") encoding_name))
-    (keeping_second (optional (pseudo_attribute (codes "standalone") yes_or_no))
-    (keeping_second spaces (word (codes "?>"))))))
-
--- an encoding that is read, ignoring ASCII case
-abbrev pub is_our_encoding : List ℕ → Bool
-is_our_encoding e = same_letters e (codes "utf-8") || same_letters e (codes "us-ascii")
-
--- A whole XML declaration of another encoding marks its `?>`.
-abbrev pub IsForeign : Option (List ℕ) → FaultKind → ℕ → Type 0
-IsForeign e kind back =
-    (n : List ℕ) × (e ≡ Some n) × (is_our_encoding n ≡ false) × (kind ≡ Encoded) × (back ≡ 2)

@@ -2,7 +2,6 @@
 -- returns what its reading function does; that reading functions read what their rules spell is
 -- proved of each whole grammar, by the crate that has it.
 pub mod Classes
-pub mod Ends
 pub mod Results
 pub mod Runs
 pub mod TokenViews

@@ -17,10 +17,10 @@ ghost use Rattle.xml_tokens.specs.readers.Tokens.{reference_follows, read_value}
 
 use crate::character_classes::{Class, run};
 use crate::character_runs::starts;
-use crate::cursor::{is_first, split_first};
 use crate::parse_error::ParseError;
 use crate::tokens::{letter, word};
 use std::alloc::{AllocError, Global};
+use xml_grammar::{is_first, split_first};
 use xml_names::{Text, is_char};
 
 /// The value of a digit, hexadecimal or decimal.

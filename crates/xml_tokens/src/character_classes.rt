@@ -7,11 +7,11 @@ ghost use Rattle.xml_tokens.specs.readers.Runs.{is_plain_in_content, is_plain_in
 ghost use Rattle.xml_tokens.specs.readers.Classes.{passes, in_ascii, is_wide};
 
 use crate::attribute_values::{is_raw, is_raw_in};
-use crate::cursor::{split_first, text_before};
 use crate::digit_runs::is_digit;
+use crate::encoding_characters::is_encoding_char;
 use crate::plain_characters::{is_plain_in_content, is_plain_in_value};
 use crate::tokens::stands_in_name;
-use crate::xml_declaration::is_encoding_char;
+use xml_grammar::{split_first, text_before};
 use xml_names::is_space;
 
 /// A class of characters.

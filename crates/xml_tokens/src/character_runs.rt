@@ -13,9 +13,9 @@ ghost use Rattle.xml_tokens.specs.readers.Runs.{is_no_return, is_usual};
 ghost use Rattle.xml_tokens.specs.readers.Words.{section_end};
 
 use crate::attribute_values::{is_raw, line_char};
-use crate::cursor::{split_first, text_before};
 use crate::parse_error::ParseError;
 use std::alloc::{AllocError, Global};
+use xml_grammar::{split_first, text_before};
 use xml_names::{Text, is_char};
 
 /// What follows a word, if the text begins with it.

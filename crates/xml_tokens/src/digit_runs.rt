@@ -5,8 +5,8 @@ ghost use Rattle.xml_grammar.specs.TextReading.{head_is, read_some_of};
 ghost use Rattle.xml_tokens.specs.readers.Results.{Gives};
 
 use crate::character_classes::{Class, run};
-use crate::cursor::split_first;
 use crate::parse_error::ParseError;
+use xml_grammar::split_first;
 
 /// Whether a character is a digit.
 pub fn is_digit(c: char) -> bool

@@ -2,7 +2,7 @@
 ghost use Rattle.std.specs.Prelude.{◌≡◌, ◌-◌, chars, length, drop};
 ghost use Rattle.xml_tokens.specs.Places.{byte_at};
 
-use crate::cursor::{count, skip};
+use xml_grammar::{count, skip};
 
 /// The rest of a text that begins `back` characters before this rest.
 pub fn before<'a>(text: &'a str, rest: &str, back: usize) -> &'a str

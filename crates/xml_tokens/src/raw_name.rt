@@ -10,11 +10,10 @@ ghost use Rattle.xml_tokens.specs.readers.Tokens.{read_end_tag};
 ghost use Rattle.xml_tokens.specs.readers.TokenViews.{name_in};
 ghost use Rattle.xml_tokens.specs.readers.Words.{colon, end_start};
 
-use crate::cursor::{count, is_over, nothing, split_first};
-use crate::lookahead::{behind_next, is_next};
 use crate::parse_error::ParseError;
 use crate::tokens::{after_bytes, letter, name, same, sign, spaces};
 use std::alloc::{AllocError, Global};
+use xml_grammar::{behind_next, count, is_next, is_over, nothing, split_first};
 use xml_names::{LocalName, Name, Prefix};
 
 /// A name in a text: its prefix, empty if it has none, and its local part.

@@ -9,11 +9,10 @@ ghost use Rattle.xml_tokens.specs.readers.Tokens.{read_name, read_spaces, read_s
 ghost use Rattle.xml_tokens.specs.readers.Tokens.{read_equals};
 
 use crate::character_classes::{Class, run};
-use crate::cursor::{nothing, split_first};
-use crate::lookahead::{behind_next, is_small_next, is_space_next};
 use crate::parse_error::ParseError;
 use crate::plain_characters::is_plain_in_name;
-use xml_names::{is_name_char, is_name_start};
+use xml_grammar::{behind_next, is_small_next, nothing, split_first};
+use xml_names::{is_name_char, is_name_start, is_space};
 
 /// What follows a fixed letter.
 ///
@@ -149,6 +148,25 @@ fn space_run(text: &str) -> (&str, &str)
     ensures rest_after_run { chars result.1.now ≡ after_front is_space (chars text.now) }
 {
     run(text, Class::Space)
+}
+
+/// Whether white space is the first of these bytes.
+#[inline(always)]
+fn begin_with_space(bytes: &[u8]) -> bool
+    ensures exact { result ≡ head_is is_space bytes.now }
+{
+    match bytes {
+        [first, ..] => is_space(*first as char),
+        [] => false,
+    }
+}
+
+/// Whether white space comes next.
+#[inline(always)]
+pub fn is_space_next(text: &str) -> bool
+    ensures exact { result ≡ head_is is_space (chars text.now) }
+{
+    begin_with_space(text.as_bytes())
 }
 
 /// Optional white space, and what follows it. Most often there is none.

@@ -1,5 +1,5 @@
-//! Trees of XML elements: elements with their nodes, places in a tree, edits, scopes of a tree's
-//! declarations, and the length of a print.
+//! Trees of XML elements: elements with their nodes, places in a tree, edits, and scopes of
+//! declarations. Also the length of a print.
 //! Contracts see an element as a plain `Tree`, normal by its form, and each edit's contract gives
 //! the whole new tree (`put_in`, `put_over`, `cut_out`, `set_at`). Also promised are what edits
 //! do at other places (`other_places_stay`), and when a tree stays proper

@@ -22,8 +22,9 @@ pub record Wrapped (M : Type 0) : Type 0 where
 pub record WrappedStep {M E : Type 0} (Step : M → Request → SentReply → M → Option E → Type 0)
     (old : Wrapped M) (request : Request) (reply : SentReply) (new : Wrapped M)
     (edit : Option E) : Type 0 where
-  pub answers : Answers Step old.machine old.log old.journal request reply edit new.machine new.log
-      new.journal
+  pub answers : Answers Step
+      (record { machine = old.machine; log = old.log; journal = old.journal }) request reply
+      (record { machine = new.machine; log = new.log; journal = new.journal }) edit
   pub goes : IsJournalProgress old.journal new.journal
   pub fits : Fits new.log new.journal
   pub same_machine : new.machine_name ≡ old.machine_name

@@ -29,6 +29,23 @@ abbrev pub IsFixed : {M E : Type 0} → ℕ → M → SentReply → Option E →
 IsFixed status machine reply edit next =
     (reply ≡ plain status true) × (edit ≡ None) × (next ≡ machine)
 
+-- What a turn had and did: how many requests came before it, the bytes given after them, whether a
+-- read found the end, the bytes written, the edit, if there was one, and what is buffered.
+pub record Turn (E : Type 0) : Type 0 where
+  pub before : ℕ
+  pub given : List ℕ
+  pub ended : Bool
+  pub written : List ℕ
+  pub edit : Option E
+  pub held : List ℕ
+
+-- a connection at one moment, with what it is served with
+pub record ConnectionState (M W : Type 0) : Type 0 where
+  pub request_reader : RequestReaderState
+  pub machine : M
+  pub stream : StreamState
+  pub watchers : W
+
 module _ {M E : Type 0} (Step : M → Request → List ℕ → M → Option E → Type 0) where
   -- How the reader's result is answered: a request by the machine, or when out of memory by the
   -- fixed 503; at the end there is no reply.
@@ -42,29 +59,35 @@ module _ {M E : Type 0} (Step : M → Request → List ℕ → M → Option E �
   AnswersAsked machine NoMemory reply edit next = IsFixed 503 machine reply edit next
   AnswersAsked machine End reply edit next = ⊥
 
-  -- What a turn did after `before` requests, by the bytes given after them and whether a read
-  -- found the end: a request was answered, after which the connection goes on and these bytes are
-  -- buffered; or the connection ended.
-  abbrev pub Did : Option CloseReason → ℕ → M → List ℕ → Bool → List ℕ → M → Option E → List ℕ
-      → Type 0
-  Did None before machine given end written next edit held =
-      GoesOn Step fixed_reply before machine given written next edit held
-  Did (Some ended) before machine given end written next edit held =
-      EndsBy Step fixed_reply ended before machine given end written next edit
+  -- What a turn did: a request was answered, after which the connection goes on; or the connection
+  -- ended.
+  abbrev pub Did : Option CloseReason → M → Turn E → M → Type 0
+  Did None machine turn next =
+      GoesOn Step fixed_reply turn.before machine turn.given turn.written next turn.edit turn.held
+  Did (Some ended) machine turn next =
+      EndsBy Step fixed_reply ended turn.before machine turn.given turn.ended turn.written next
+      turn.edit
 
   -- Some bytes were read and some written, and the watchers were notified of the edit, if there
   -- was one.
   pub record ConnectionTurn {W : Type 0} (Keeps : List E → W → W → Type 0)
-      (result : Option CloseReason) (request_reader request_reader' : RequestReaderState)
-      (machine next : M) (old new : StreamState) (watchers watchers' : W) : Type 0 where
+      (result : Option CloseReason) (old new : ConnectionState M W) : Type 0 where
     pub read : List ℕ
     pub written : List ℕ
     pub edit : Option E
-    pub gave : Gave old.inward new.inward read
-    pub took : Took old.taken new.taken written
-    pub did : Did result request_reader.requests machine (request_reader.held ++ read)
-        new.inward.ended written next edit request_reader'.held
-    pub kept : Keeps (option_to_list edit) watchers watchers'
+    pub gave : Gave old.stream.inward new.stream.inward read
+    pub took : Took old.stream.taken new.stream.taken written
+    pub did : Did result old.machine
+        (record {
+          before = old.request_reader.requests;
+          given = old.request_reader.held ++ read;
+          ended = new.stream.inward.ended;
+          written = written;
+          edit = edit;
+          held = new.request_reader.held;
+        })
+        new.machine
+    pub kept : Keeps (option_to_list edit) old.watchers new.watchers
 
 -- A reader that returned a request which doesn't close goes on.
 pub record GivesOn (old new : RequestReaderState) : Type 0 where

@@ -22,6 +22,7 @@ use Rattle.http_wire.specs.inner.ChunkDecoder.{Decoding, start, is_settled, Read
 use Rattle.http_wire.specs.ChunkedBodies.{ChunkedBody, ReadsBody, HasNoBody, MayBecomeBody}
 use Rattle.http_wire.specs.ChunkedBodies.{PassesLimit}
 use Rattle.http_wire.specs.ChunkedBodies.{chunk_data}
+use Rattle.http_wire.specs.NextRequests.{BufferedSource}
 use Rattle.http_wire.specs.declared.limits.TheConstants.{MAX_HELD}
 
 -- the capacity of the read buffer
@@ -96,37 +97,37 @@ abbrev pub HasNoBodyYet : List ℕ → Type 0
 HasNoBodyYet raw = HasNoBody raw × ¬ (PassesLimit raw)
 
 -- the result of decoding the bytes after a head is right
-abbrev pub IsDecoded : List ℕ → InputState → DecodeResult → List ℕ → List ℕ → ℕ → Type 0
-IsDecoded raw source (Whole end) body held head =
-    (head ≤ end) × (end ≤ length held) × HasBody raw body (drop end held)
-IsDecoded raw source TooLong body held head = PassesLimit raw
-IsDecoded raw source Bad body held head = (more : List ℕ) → HasNoBodyYet (raw ++ more)
-IsDecoded raw source Cut body held head = HasNoBodyYet raw × IsEnded source
+abbrev pub IsDecoded : ℕ → List ℕ → DecodeResult → List ℕ → BufferedSource → Type 0
+IsDecoded head raw (Whole end) body new =
+    (head ≤ end) × (end ≤ length new.held) × HasBody raw body (drop end new.held)
+IsDecoded head raw TooLong body new = PassesLimit raw
+IsDecoded head raw Bad body new = (more : List ℕ) → HasNoBodyYet (raw ++ more)
+IsDecoded head raw Cut body new = HasNoBodyYet raw × IsEnded new.source
 
-abbrev pub DecodedOrNot : {E : Type 0} → List ℕ → InputState → Result DecodeResult E → List ℕ
-    → List ℕ → ℕ → Type 0
-DecodedOrNot raw source (Ok decoded) body held head = IsDecoded raw source decoded body held head
-DecodedOrNot raw source (Err e) body held head = MayBecomeBody raw × HasNoBodyYet raw
+abbrev pub DecodedOrNot : {E : Type 0} → ℕ → List ℕ → Result DecodeResult E → List ℕ
+    → BufferedSource → Type 0
+DecodedOrNot head raw (Ok decoded) body new = IsDecoded head raw decoded body new
+DecodedOrNot head raw (Err e) body new = MayBecomeBody raw × HasNoBodyYet raw
 
 -- the bytes after the head were decoded as they arrived; the head itself stays buffered
-pub record Decodes {E : Type 0} (head : ℕ) (held : List ℕ) (source : InputState)
-    (result : Result DecodeResult E) (body held' : List ℕ) (source' : InputState) : Type 0 where
+pub record Decodes {E : Type 0} (head : ℕ) (old : BufferedSource)
+    (result : Result DecodeResult E) (body : List ℕ) (new : BufferedSource) : Type 0 where
   pub read : List ℕ
-  pub given : Gave source source' read
-  pub same_head : take head held' ≡ take head held
-  pub inside : head ≤ length held'
-  pub outcome : DecodedOrNot (drop head held ++ read) source' result body held' head
+  pub given : Gave old.source new.source read
+  pub same_head : take head new.held ≡ take head old.held
+  pub inside : head ≤ length new.held
+  pub outcome : DecodedOrNot head (drop head old.held ++ read) result body new
 
 -- the loop invariant: these bytes after the head were decoded, and the bytes from an offset on are
 -- still buffered
-pub record DecodesSoFar (head : ℕ) (held : List ℕ) (source : InputState) (decoder : Decoding)
-    (held' : List ℕ) (source' : InputState) (used : ℕ) : Type 0 where
+pub record DecodesSoFar (head : ℕ) (old : BufferedSource) (decoder : Decoding)
+    (new : BufferedSource) (used : ℕ) : Type 0 where
   pub raw : List ℕ
   pub read : List ℕ
-  pub given : Gave source source' read
-  pub same_head : take head held' ≡ take head held
-  pub inside : head + used ≤ length held'
+  pub given : Gave old.source new.source read
+  pub same_head : take head new.held ≡ take head old.held
+  pub inside : head + used ≤ length new.held
   pub reads : ReadsOn start raw decoder
-  pub split : drop head held ++ read ≡ raw ++ drop (head + used) held'
-  pub all : is_settled decoder.stage ≡ false → head + used ≡ length held'
-  pub room : length held' ≤ max_held_bytes
+  pub split : drop head old.held ++ read ≡ raw ++ drop (head + used) new.held
+  pub all : is_settled decoder.stage ≡ false → head + used ≡ length new.held
+  pub room : length new.held ≤ max_held_bytes

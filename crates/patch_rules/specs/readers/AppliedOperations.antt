@@ -33,5 +33,8 @@ reading_if_parsed (Err stop) = None
 abbrev pub reading_in : List ℕ → Option Reading
 reading_in sel = reading_if_parsed (read_whole read_patch_selector sel)
 
+abbrev pub apply_selected : List (List Decl) → List ℕ → Tree → Tree → Result Tree OperationError
+apply_selected = words.apply_selected reading_in
+
 abbrev pub apply_operation : List (List Decl) → Tree → Tree → Result Tree OperationError
 apply_operation = words.apply_operation reading_in

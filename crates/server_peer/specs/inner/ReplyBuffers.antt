@@ -4,11 +4,17 @@ use Rattle.xcap_machine.specs.Servers.{ServerState}
 use Rattle.server_peer.specs.inner.Ends.{KeepsFront}
 use Rattle.server_peer.specs.ServedBytes.{RepliesTo}
 
--- The server served these bytes, and the first `held` bytes of the replies are kept, all that fit
--- into the buffer.
-pub record FillsRoom (old new : ServerState) (asked room room' : List ℕ) (held : ℕ)
-    (is_over : Bool) : Type 0 where
+-- A buffer whose first `held` bytes are replies, and whether there are more.
+pub record ReplyBuffer : Type 0 where
+  pub room : List ℕ
+  pub held : ℕ
+  pub is_over : Bool
+
+-- The server served these bytes, and the front of the replies is in the buffer, all that fits into
+-- the room that it had.
+pub record FillsRoom (old new : ServerState) (asked room : List ℕ)
+    (buffer : ReplyBuffer) : Type 0 where
   pub replies : List ℕ
   pub served : RepliesTo old new asked replies
-  pub same_room : length room' ≡ length room
-  pub keeps : KeepsFront room' held is_over replies
+  pub same_room : length buffer.room ≡ length room
+  pub keeps : KeepsFront buffer.room buffer.held buffer.is_over replies

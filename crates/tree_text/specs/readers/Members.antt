@@ -14,10 +14,6 @@ use Rattle.tree_text.specs.readers.Texts.{read_content, read_behind_tag}
 abbrev pub read_spelled_piece : Reader FaultKind (ℕ × List ℕ)
 read_spelled_piece = read_sequence read_whole_reference (λ _. read_plain)
 
--- parts that spell nothing, and more of them
-abbrev pub nothing_with : Unit {0} → List (Unit {0} × Unit {0}) → Unit {0}
-nothing_with so_far more = tt
-
 -- an element so far, and the pieces of content that follow
 abbrev pub tree_with : Tree → List (Markup × List ℕ) → Tree
 tree_with tree pieces = record tree { content = with_pieces tree.content pieces }

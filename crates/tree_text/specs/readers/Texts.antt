@@ -1,33 +1,34 @@
 -- Reading functions, one for each rule of the grammar: they read from left to right, and a test
 -- of what comes next decides which member of a choice is read, and whether a repetition goes on.
-use Rattle.std.specs.Prelude.{ℕ, zero, suc, ◌+◌, Bool, true, false, ◌&&◌, ◌||◌, ◌==◌, not, List, []}
-use Rattle.std.specs.Prelude.{◌∷◌, ◌++◌}
-use Rattle.xml_names.specs.Characters.{is_char, is_space, is_name_start}
+use Rattle.std.specs.Prelude.{ℕ, zero, suc, ◌+◌, Bool, true, false, ◌&&◌, ◌||◌, ◌==◌, not, List}
+use Rattle.std.specs.Prelude.{[], ◌∷◌}
+use Rattle.xml_names.specs.Characters.{is_space, is_name_start}
 use Rattle.xml_tree.specs.Tree.{Content, last, Tree}
 use Rattle.xml_names.specs.declared.names.Name.{Name}
 use Rattle.xml_names.specs.declared.names.Decl.{Decl}
-use Rattle.xml_grammar.specs.TextReading.{Reader, head_is, starts, read_one, read_word, read_run}
+use Rattle.xml_grammar.specs.TextReading.{Reader, head_is, starts, read_word, read_run}
 use Rattle.xml_grammar.specs.TextReading.{read_sequence, read_valued}
-use Rattle.xml_grammar.specs.readers.Functions.{spaced, read_never, read_empty, read_up_to}
-use Rattle.xml_grammar.specs.readers.Functions.{read_either, read_many, read_sized, read_only}
-use Rattle.xml_grammar.specs.readers.Functions.{read_atomic, read_marked, read_judged, read_trap}
-use Rattle.xml_grammar.specs.readers.Functions.{read_between, read_before, read_behind, read_quoted}
-use Rattle.xml_tokens.specs.readers.Words.{less, greater, empty_end, end_start, comment_start}
-use Rattle.xml_tokens.specs.readers.Words.{dashes, section_start, section_end, instruction_start}
-use Rattle.xml_tokens.specs.readers.Words.{instruction_end, bang, bang_bracket, doctype}
+use Rattle.xml_grammar.specs.readers.Functions.{spaced, read_never, read_empty, read_either}
+use Rattle.xml_grammar.specs.readers.Functions.{read_many, read_sized, read_atomic, read_marked}
+use Rattle.xml_grammar.specs.readers.Functions.{read_judged, read_between, read_before}
+use Rattle.xml_grammar.specs.readers.Functions.{read_behind, read_quoted}
+use Rattle.xml_tokens.specs.readers.Words.{less, greater, empty_end, end_start}
+use Rattle.xml_markup.specs.readers.Words.{instruction_start, bang, bang_bracket}
+use Rattle.xml_markup.specs.readers.Markup.{read_comment, read_section, read_instruction}
+use Rattle.xml_markup.specs.readers.Markup.{read_mark_if, read_declaration_if, read_prolog}
+use Rattle.xml_markup.specs.readers.Markup.{read_epilog}
 use Rattle.xml_tokens.specs.declared.fault_kind.FaultKind.{FaultKind}
-use Rattle.xml_tokens.specs.declared.fault_kind.FaultKind.TheVariants.{Doctyped, Depth}
+use Rattle.xml_tokens.specs.declared.fault_kind.FaultKind.TheVariants.{Depth}
 use Rattle.tree_text.specs.declared.raw_attribute.RawAttribute.{RawAttribute}
-use Rattle.xml_tokens.specs.Values.{line_ends, value_spelled}
+use Rattle.xml_tokens.specs.Values.{value_spelled}
 use Rattle.tree_text.specs.Pieces.{Markup, Reference, Section, Comment, Instruction, Inner}
 use Rattle.tree_text.specs.Pieces.{StartTag, with_pieces}
 use Rattle.tree_text.specs.readers.TagValues.{said_of, start_tag_of}
 use Rattle.tree_text.specs.Names.{element_of, inside_tag}
 use Rattle.tree_text.specs.readers.TagNameFaults.{tag_fault}
 use Rattle.xml_tokens.specs.Tokens.{is_quote, is_raw}
-use Rattle.tree_text.specs.Grammar.{is_target}
-use Rattle.xml_tokens.specs.readers.Tokens.{read_chars, read_declaration_if, read_dropped}
-use Rattle.xml_tokens.specs.readers.Tokens.{read_end_tag, read_equals, read_mark_if, read_name}
+use Rattle.xml_tokens.specs.readers.Tokens.{read_chars}
+use Rattle.xml_tokens.specs.readers.Tokens.{read_end_tag, read_equals, read_name}
 use Rattle.xml_tokens.specs.readers.Tokens.{read_qname, read_reference, read_some_spaces}
 use Rattle.xml_tokens.specs.readers.Tokens.{read_spaces, read_value, reference_follows}
 
@@ -60,33 +61,6 @@ read_tag =
     read_sequence (read_before read_all_said read_spaces) (λ _. read_tag_end)))))
 
 -- ---- content
-
-abbrev pub read_comment_inside : Reader FaultKind (List ℕ)
-read_comment_inside =
-    read_behind (read_word comment_start)
-    (read_before (read_up_to is_char dashes) (read_word greater))
-
-abbrev pub read_comment : Reader FaultKind (List ℕ)
-read_comment = read_valued line_ends read_comment_inside
-
-abbrev pub read_section : Reader FaultKind (List ℕ)
-read_section =
-    read_valued line_ends (read_behind (read_word section_start) (read_up_to is_char section_end))
-
--- white space follows
-abbrev pub space_follows : List ℕ → Bool
-space_follows = head_is is_space
-
-abbrev pub read_instructed : Reader FaultKind (Unit {0})
-read_instructed =
-    read_either space_follows
-    (read_dropped (read_behind (read_one is_space) (read_up_to is_char instruction_end)))
-    (read_word instruction_end)
-
-abbrev pub read_instruction : Reader FaultKind (Unit {0})
-read_instruction =
-    read_behind (read_word instruction_start)
-    (read_behind (read_only is_target read_name) read_instructed)
 
 abbrev pub read_markup : Reader FaultKind Tree → Reader FaultKind Markup
 read_markup inner =
@@ -129,31 +103,6 @@ read_element (suc n) scope depth =
     read_valued element_of
     (read_sequence (read_judged (tag_fault scope) read_tag) (λ t.
     read_behind_tag (read_element n (inside_tag scope t) (depth + 1)) t.name t.is_empty))
-
-abbrev pub read_misc : Reader FaultKind (Unit {0})
-read_misc = read_either (starts bang) (read_dropped read_comment) read_instruction
-
--- `<!` or `<?`
-abbrev pub misc_follows : List ℕ → Bool
-misc_follows t = starts bang t || starts instruction_start t
-
--- `<`: after the root element only a comment or an instruction can begin with it
-abbrev pub less_follows : List ℕ → Bool
-less_follows = head_is (λ c. c == 60)
-
-abbrev pub read_miscs : (List ℕ → Bool) → Reader FaultKind (Unit {0}) → Reader FaultKind (Unit {0})
-read_miscs follows one_more =
-    read_dropped (read_between follows (read_dropped read_spaces) one_more)
-
-abbrev pub read_prolog_misc : Reader FaultKind (Unit {0})
-read_prolog_misc =
-    read_either (starts (bang ++ doctype)) (read_trap Doctyped bang doctype) read_misc
-
-abbrev pub read_prolog : Reader FaultKind (Unit {0})
-read_prolog = read_miscs misc_follows read_prolog_misc
-
-abbrev pub read_epilog : Reader FaultKind (Unit {0})
-read_epilog = read_miscs less_follows read_misc
 
 -- a document with at most this many levels
 abbrev pub read_text : ℕ → List (List Decl) → Reader FaultKind Tree

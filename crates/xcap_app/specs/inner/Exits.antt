@@ -4,6 +4,6 @@ use Rattle.xcap_app.specs.declared.exit.Message.{Message}
 use Rattle.xcap_app.specs.declared.exit.Message.TheVariants.{Fixed, Made}
 
 -- the bytes of a message
-abbrev pub said : Message → List ℕ
-said (Fixed words) = words.now
-said (Made words) = string_bytes words
+abbrev pub message_bytes : Message → List ℕ
+message_bytes (Fixed words) = words.now
+message_bytes (Made words) = string_bytes words

@@ -11,7 +11,7 @@ use Rattle.edit_ops.specs.declared.edit.Edit.{Edit}
 use Rattle.store_core.specs.Contents.{Represents}
 use Rattle.store_core.specs.ValidStates.{IsValidState}
 use Rattle.store_core.specs.State.{State}
-use Rattle.xcap_machine.specs.SubscriberVersions.{FollowedStep}
+use Rattle.xcap_machine.specs.Machine.{ValidStep}
 use Rattle.xcap_machine.specs.Servers.{ServerState}
 use Rattle.xcap_app.specs.StatusRecorders.{Noted, NotedStep}
 use Rattle.xcap_app.specs.SampleRequests.{root_text}
@@ -44,7 +44,7 @@ abbrev pub FollowsMachine : ServerState → Request → SentReply → ServerStat
 FollowsMachine old request reply new edit =
     (m : State) → IsValidState m → Represents old.content m
     → (next : State) × IsValidState next × Represents new.content next
-    × FollowedStep old.root m request reply next edit
+    × ValidStep old.root m request reply next edit
 
 -- The server answered as the machine of its root, and appended the status of the reply to the
 -- others.

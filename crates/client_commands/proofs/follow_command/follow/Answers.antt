@@ -9,7 +9,7 @@ returns-in-Ok g c = record {
   follows_document =
       let peer = g.C.Line.state in
       starts c.in-Ok.follower (peer c.start.new.peer)
-      (subst (λ (user : Option (List ℕ)). Starts c.args.requester.now.root user c.args.doc.now (peer c.args.peer.now) (peer c.start.new.peer) (Ok c.in-Ok.follower)) c.user.ensures.exact c.in-Ok.ensures.starts_follower)
+      (subst (λ (user : Option (List ℕ)). Starts (record { root = c.args.requester.now.root; user = user; doc = c.args.doc.now }) (peer c.args.peer.now) (peer c.start.new.peer) (Ok c.in-Ok.follower)) c.user.ensures.exact c.in-Ok.ensures.starts_follower)
       c.follow_on.ensures.follows_on;
 }
 
@@ -18,6 +18,6 @@ returns-in-Err g c = record {
   follows_document =
       let peer = g.C.Line.state in
       fails_to_start c.in-Err.fault
-      (subst (λ (user : Option (List ℕ)). Starts c.args.requester.now.root user c.args.doc.now (peer c.args.peer.now) (peer c.start.new.peer) (Err c.in-Err.fault)) c.user.ensures.exact c.in-Err.ensures.starts_follower)
+      (subst (λ (user : Option (List ℕ)). Starts (record { root = c.args.requester.now.root; user = user; doc = c.args.doc.now }) (peer c.args.peer.now) (peer c.start.new.peer) (Err c.in-Err.fault)) c.user.ensures.exact c.in-Err.ensures.starts_follower)
       refl refl;
 }

@@ -12,8 +12,7 @@ returns-clause-serves_port g c = λ requests holds.
     let goes = port_goes _ p g.M.LoggedMachine.steps
     (λ s. record { machine = s.machine.now; log = s.log.now; journal = j s.journal.now; machine_name = s.machine.ghost_name; log_name = s.log.ghost_name; journal_name = s.journal.ghost_name })
     g.W.Watchers.keeps _ _ _ _ _ _ c.serve_streams.ensures.serves_port c.requires.fits in
-    let r : ServesLogged g.M.LoggedMachine.steps g.W.Watchers.keeps c.args.count c.serve_streams.result requests c.args.machine.now p.machine.now p.log.now (j c.args.journal.now) (j p.journal.now)
-    (g.P.Line.state c.args.port.now) (g.P.Line.state c.serve_streams.new.port) c.args.watchers.now c.serve_streams.new.watchers =
+    let r : ServesLogged g.M.LoggedMachine.steps g.W.Watchers.keeps (record { most = c.args.count; served = c.serve_streams.result }) requests (record { machine = record { machine = c.args.machine.now; log = c.args.log.now; journal = j c.args.journal.now }; stream = g.P.Line.state c.args.port.now; watchers = c.args.watchers.now }) (record { machine = record { machine = p.machine.now; log = p.log.now; journal = j p.journal.now }; stream = g.P.Line.state c.serve_streams.new.port; watchers = c.serve_streams.new.watchers }) =
     port_logged _ p g.M.LoggedMachine.steps
     (λ s. record { machine = s.machine.now; log = s.log.now; journal = j s.journal.now; machine_name = s.machine.ghost_name; log_name = s.log.ghost_name; journal_name = s.journal.ghost_name })
     g.W.Watchers.keeps _ _ _ _ _ _ c.serve_streams.ensures.serves_port requests holds in

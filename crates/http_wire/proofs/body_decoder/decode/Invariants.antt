@@ -2,11 +2,12 @@ use Rattle.std.proofs.Common.{◌≡◌, length}
 use Rattle.xcap_io.specs.Causes.{Reads}
 use Rattle.http_wire.specs.inner.ChunkDecoder.{bytes_left}
 use Rattle.http_wire.specs.inner.ReadBuffer.{DecodesSoFar}
+use Rattle.http_wire.proofs.Buffers.{buffered}
 use Rattle.http_wire.proofs.body_decoder.decode.Given as goal
 
 abbrev pub invariant-decoding : goal.invariant-decoding
 invariant-decoding g l = record {
-  decodes : DecodesSoFar l.fn.head l.fn.read_buffer (g.S.Line.state l.fn.source).inward l.decoder l.read_buffer (g.S.Line.state l.source).inward l.used;
+  decodes : DecodesSoFar l.fn.head (buffered l.fn.read_buffer (g.S.Line.state l.fn.source).inward) l.decoder (buffered l.read_buffer (g.S.Line.state l.source).inward) l.used;
   reads : Reads (g.S.Line.state l.fn.source) (g.S.Line.state l.source);
   no_fault : (g.S.Line.state l.source).read_faults ≡ (g.S.Line.state l.fn.source).read_faults;
 }

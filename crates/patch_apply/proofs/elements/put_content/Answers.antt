@@ -1,5 +1,5 @@
 use Rattle.std.proofs.Common.{sym, ◌∙◌}
-use Rattle.patch_apply.specs.inner.Stages.{gap_done}
+use Rattle.patch_apply.specs.inner.Stages.{insert_result}
 use Rattle.patch_parse.specs.Views.{position_in}
 use Rattle.patch_apply.proofs.ActionResults.{put_beside_root, put_nothing, put_somewhere}
 use Rattle.patch_apply.proofs.OperationStages.{edits_same}
@@ -22,7 +22,7 @@ returns c = record {
   as_specified =
       edits_same _ _ c.put_in_gap.new.tree c.put_in_gap.result
       (
-      (λ i. gap_done c.args.here.now (c.gap_of-gap.ensures.insert_path i) (c.gap_of-gap.ensures.insert_place i) c.args.operation.now.content c.args.tree.now)
+      (λ i. insert_result c.args.here.now (c.gap_of-gap.ensures.insert_path i) (c.gap_of-gap.ensures.insert_place i) c.args.operation.now.content c.args.tree.now)
       ∙ sym (
       put_somewhere c.args.here.now (position_in c.args.position) c.args.path c.args.operation.now.content c.args.tree.now
       (sym c.is_off_root.ensures.exact ∙ c.if-not-is_off_root.false) (sym c.has_nodes.ensures.exact ∙ c.if-not-has_nodes.false)

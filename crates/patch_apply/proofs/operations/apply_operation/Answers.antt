@@ -2,10 +2,10 @@ use Rattle.std.proofs.Common.{◌++◌, ◌∷◌, [], List, sym, ap, ◌∙◌}
 use Rattle.std.specs.List.{list_all}
 use Rattle.xml_names.specs.declared.names.Decl.{Decl}
 use Rattle.patch_rules.specs.PatchOperations.{is_known}
-use Rattle.patch_apply.specs.inner.Stages.{said_done}
 use Rattle.patch_apply.proofs.OperationStages.{edits_same, known_attrs, plain_is, unknown_attrs, without_selector}
 use Rattle.patch_parse.proofs.Words.{sel}
 use Rattle.patch_apply.proofs.operations.apply_operation.Goals as goal
+use Rattle.patch_rules.specs.readers.AppliedOperations.{apply_selected}
 
 pub returns-in_default : goal.returns-in_default
 returns-in_default c = record {
@@ -30,7 +30,7 @@ returns c = record {
       let inside = c.with-here.ensures.exact ∙ ap (λ (ds : List Decl). c.args.scope.now ++ ds ∷ []) c.decls.ensures.exact in
       edits_same _ _ c.apply_selected.new.tree c.apply_selected.result
       (
-      ap (λ (h : List (List Decl)). said_done h c.in-Some.sel.now o c.args.tree.now) inside
+      ap (λ (h : List (List Decl)). apply_selected h c.in-Some.sel.now o c.args.tree.now) inside
       ∙ sym (
       known_attrs c.args.scope.now o c.args.tree.now c.in-Some.sel.now
       (plain_is _ _ o.attrs c.attrs-attrs.result.now _ sel c.attrs-attrs.ensures.exact (c.in-Some.ensures {u = tt}).exact)

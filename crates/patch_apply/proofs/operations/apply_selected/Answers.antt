@@ -1,15 +1,15 @@
 use Rattle.std.proofs.Common.{option_map, sym, ap, ◌∙◌}
-use Rattle.patch_parse.specs.Operations.{task_said}
 use Rattle.patch_parse.specs.Views.{task_in}
 use Rattle.patch_apply.proofs.OperationStages.{edits_same, said_error, said_next, said_nothing}
 use Rattle.patch_apply.proofs.operations.apply_selected.Goals as goal
+use Rattle.patch_rules.specs.PatchOperations.{operation_action}
 
 pub returns-in_default : goal.returns-in_default
 returns-in_default c = record {
   as_specified =
       let o = c.args.operation.now in
       said_nothing c.args.here.now c.args.sel.now o c.args.tree.now
-      ((λ i. task_said (sym c.name.ensures.exact i) (sym c.attrs.ensures.exact i)) ∙ sym c.in_ok-meant.ensures.ok ∙ ap (option_map task_in) c.in_default.is);
+      ((λ i. operation_action (sym c.name.ensures.exact i) (sym c.attrs.ensures.exact i)) ∙ sym c.in_ok-meant.ensures.ok ∙ ap (option_map task_in) c.in_default.is);
 }
 
 pub returns-in-Err : goal.returns-in-Err
@@ -17,7 +17,7 @@ returns-in-Err c = record {
   as_specified =
       let o = c.args.operation.now in
       said_error c.args.here.now c.args.sel.now o c.args.tree.now (task_in c.in-Some.task) c.in-Err.error c.args.tree.now
-      ((λ i. task_said (sym c.name.ensures.exact i) (sym c.attrs.ensures.exact i)) ∙ sym c.in_ok-meant.ensures.ok ∙ ap (option_map task_in) c.in-Some.is)
+      ((λ i. operation_action (sym c.name.ensures.exact i) (sym c.attrs.ensures.exact i)) ∙ sym c.in_ok-meant.ensures.ok ∙ ap (option_map task_in) c.in-Some.is)
       c.in-Err.ensures.grammar_answer;
 }
 
@@ -29,7 +29,7 @@ returns-in-Ok c = record {
       (
       sym (
       said_next c.args.here.now c.args.sel.now o c.args.tree.now (task_in c.in-Some.task) c.in-Ok.selector
-      ((λ i. task_said (sym c.name.ensures.exact i) (sym c.attrs.ensures.exact i)) ∙ sym c.in_ok-meant.ensures.ok ∙ ap (option_map task_in) c.in-Some.is)
+      ((λ i. operation_action (sym c.name.ensures.exact i) (sym c.attrs.ensures.exact i)) ∙ sym c.in_ok-meant.ensures.ok ∙ ap (option_map task_in) c.in-Some.is)
       c.in-Ok.ensures.grammar_answer
       )
       )

@@ -1,10 +1,9 @@
-use Rattle.std.proofs.Common.{◌≡◌, ℕ, ◌==◌, false, List, [], ◌∷◌, length, chars, Ok, Err, refl, sym, subst}
+use Rattle.std.proofs.Common.{◌≡◌, ℕ, ◌==◌, false, List, [], ◌∷◌, length, chars, Ok, Err, refl, sym}
 use Rattle.xml_grammar.specs.TextReading.{Reader, Syntax}
 use Rattle.xml_grammar.specs.readers.Functions.{read_whole}
-use Rattle.xml_names.specs.declared.names.Decl.{Decl}
 use Rattle.xml_tokens.specs.declared.fault_kind.FaultKind.{FaultKind}
-use Rattle.xml_tokens.specs.readers.Tokens.{read_mark_if, read_declaration_if}
-use Rattle.tree_text.specs.readers.Texts.{read_prolog, read_element, read_epilog, read_text}
+use Rattle.xml_markup.specs.readers.Markup.{read_mark_if, read_declaration_if, read_prolog, read_epilog}
+use Rattle.tree_text.specs.readers.Texts.{read_element, read_text}
 use Rattle.xml_tokens.proofs.ReadFronts.{Reads, reads_before, reads_behind}
 use Rattle.tree_text.proofs.document_reader.root.Goals as goal
 
@@ -17,12 +16,10 @@ pub returns-then-not-is_over : goal.returns-then-not-is_over
 returns-then-not-is_over c = record {
   grammar_answer =
       let tree = c.in_ok-root.root in
-      let behind = (chars c.in_ok-root.rest.now) in
-      let read = subst (λ (z : List (List Decl)). read_element c.args.depth z 1 (chars c.in_ok-rest-2.rest.now) ≡ Ok (tree, behind)) c.in_ok-bindings.ensures.given_scope c.in_ok-root.ensures.reads_rule in
       left_over (read_text c.args.depth c.args.scope.now) (chars c.args.text.now) (chars c.in_ok-rest-3.rest.now) tree
       (reads_behind {p = read_mark_if} (record { read = c.mark_if-rest.ensures.reads_rule })
       (reads_behind {p = read_declaration_if} (record { read = c.in_ok-rest.ensures.reads_rule })
       (reads_behind {p = read_prolog} (record { read = c.in_ok-rest-2.ensures.reads_rule })
-      (reads_before {p = read_element c.args.depth c.args.scope.now 1} {q = read_epilog} (record { read = read }) (record { read = c.in_ok-rest-3.ensures.reads_rule })))))
+      (reads_before {p = read_element c.args.depth c.args.scope.now 1} {q = read_epilog} (record { read = c.in_ok-root.ensures.reads_rule }) (record { read = c.in_ok-rest-3.ensures.reads_rule })))))
       (sym c.if-not-is_over.ensures.exact);
 }

@@ -1,7 +1,7 @@
 use Rattle.std.proofs.Common.{encode_utf8_all, subst}
 use Rattle.xml_tree.specs.Print.{print, document_print}
 use Rattle.tree_text.specs.Faults.{TextAnswer, BodyAnswer}
-use Rattle.tree_text.specs.AttributeBodyPrints.{body_print}
+use Rattle.tree_print.specs.AttributeBodyPrints.{body_print}
 use Rattle.tree_text.proofs.PrintedTexts.{document_is_read, element_is_read, body_is_read}
 use Rattle.tree_text.proofs.ReadAnswers.{text_answer, body_answer}
 use Rattle.tree_text.proofs.print_laws.prints_are_read_back.Goals as goal

@@ -47,7 +47,7 @@ returns-clause-keeps_records g c =
     let new = g.J.Journal.state c.add.new.journal in
     let added : Added c.repair.new.self mid (record_of c.args.request.now) c.add.new.self new =
     subst (λ (l : List ℕ). Added c.repair.new.self mid l c.add.new.self new) same c.in_ok-add.ensures.adds_bytes in
-    let adds : AddsRecord c.args.self.now old (record_of c.args.request.now) (Ok tt) c.add.new.self new =
+    let adds : AddsRecord (record { log = c.args.self.now; journal = old }) (record_of c.args.request.now) (Ok tt) (record { log = c.add.new.self; journal = new }) =
     added_on c.args.self.now old c.repair.new.self mid c.add.new.self new (record_of c.args.request.now) c.in_ok-repair.ensures.repairs_tail added in
     adding_keeps_records c.args.self.now c.add.new.self old new c.args.request.now (Ok tt) c.requires.recordable adds
 

@@ -1,5 +1,0 @@
-use Rattle.patch_rules.proofs.LawStatements.{all_made, one_made}
-use Rattle.patch_rules.proofs.laws.operations_make_changes.Goals as goal
-
-pub returns : goal.returns
-returns c = record { one_change = one_made; all_in_order = all_made }

@@ -1,5 +1,0 @@
-use Rattle.patch_rules.proofs.LawStatements.{attribute_selected, element_selected}
-use Rattle.patch_rules.proofs.laws.paths_are_selected.Goals as goal
-
-pub returns : goal.returns
-returns c = record { element_path = element_selected; attribute_path = attribute_selected }

@@ -1,0 +1,2 @@
+pub mod AttributeBodyPrints
+pub mod inner

@@ -1,0 +1,12 @@
+//! Printing documents, elements and attribute bodies.
+//! Promises upward that the printed bytes are the print of the tree (`document_print`, `print`)
+//! and of the value (`body_print`), in UTF-8.
+//! The standards are XML 1.0 (fifth edition) and Namespaces in XML 1.0, and RFC 4825 (section
+//! 15.2.2) for attribute bodies.
+#![tactic(auto)]
+
+mod escapes;
+mod output;
+mod printing;
+
+pub use printing::{is_nothing, print_att_value, print_document, print_element};

@@ -1,6 +1,0 @@
-use Rattle.std.proofs.Common.{chars, ap, ◌∙◌}
-use Rattle.std.proofs.lemmas.Str.{chars-nil}
-use Rattle.tree_text.proofs.output.Output.new.Goals as goal
-
-pub returns : goal.returns
-returns c = record { holds_no_characters = ap chars c.new.ensures.bytes ∙ chars-nil }

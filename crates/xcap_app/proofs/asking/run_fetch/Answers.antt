@@ -1,6 +1,0 @@
-use Rattle.std.proofs.Common.{inl}
-use Rattle.xcap_app.specs.ClientCommands.{ended_so}
-use Rattle.xcap_app.proofs.asking.run_fetch.Goals as goal
-
-pub returns : goal.returns
-returns g c = record { runs_command = ended_so c.fetch_from.result c.fetch_from.ensures.one_call (inl c.exit_of.ensures.exact) }

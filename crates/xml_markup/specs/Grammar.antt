@@ -1,0 +1,103 @@
+-- The texts of markup that spells no element, rule by rule: XML 1.0, fifth edition: comments, CDATA
+-- sections, processing instructions, the XML declaration, and what surrounds the root element. The
+-- numbers in brackets are the productions of XML. A rule says which texts it spells, as which
+-- values, and its events where a text breaks off in it.
+use Rattle.std.specs.Prelude.{ℕ, Bool, ◌≡◌, false, not, ◌||◌, List, codes, Option, Some}
+use Rattle.std.specs.Char.{is_ascii_digit, is_ascii_alphabetic}
+use Rattle.xml_names.specs.Characters.{is_char, is_space}
+use Rattle.xml_grammar.specs.Rules.{Rule, one, word, up_to, either, valued, only, trap, optional}
+use Rattle.xml_grammar.specs.Rules.{between, some_of, keeping_first, keeping_second, quoted}
+use Rattle.xml_grammar.specs.Rules.{name_rule}
+use Rattle.xml_tokens.specs.declared.fault_kind.FaultKind.{FaultKind}
+use Rattle.xml_tokens.specs.declared.fault_kind.FaultKind.TheVariants.{Doctyped, Encoded}
+use Rattle.xml_tokens.specs.Tokens.{equals, is_encoding_char, is_quote, name, some_spaces, spaces}
+use Rattle.xml_tokens.specs.Values.{line_ends, same_letters}
+
+-- the texts of the rule, which spell nothing
+abbrev pub dropped : {A : Type 0} → Rule FaultKind A → Rule FaultKind (Unit {0})
+dropped r = valued (λ _. tt) r
+
+-- ---- comments, CDATA sections and processing instructions
+
+-- [15] Comment: `<!--`, Chars without `--` that don't end in `-`, `-->`; so its first `--` is
+-- right before the final `>`
+abbrev pub comment : Rule FaultKind (List ℕ)
+comment =
+    valued line_ends
+    (keeping_second (word (codes "<!--"))
+    (keeping_first (up_to is_char (codes "--")) (word (codes ">"))))
+
+-- [18] CDSect: `<![CDATA[`, Chars up to the first `]]>`
+abbrev pub section : Rule FaultKind (List ℕ)
+section = valued line_ends (keeping_second (word (codes "<![CDATA[")) (up_to is_char (codes "]]>")))
+
+-- [17] PITarget: an NCName that isn't `xml`, ignoring ASCII case
+abbrev pub is_target : List ℕ → Bool
+is_target n = not (same_letters n (codes "xml"))
+
+-- what follows a target: nothing, or white space and Chars, up to the first `?>`
+abbrev pub instructed : Rule FaultKind (Unit {0})
+instructed =
+    either (dropped (keeping_second (one is_space) (up_to is_char (codes "?>"))))
+    (word (codes "?>"))
+
+-- [16] PI: `<?`, a target and what follows it
+abbrev pub instruction : Rule FaultKind (Unit {0})
+instruction = keeping_second (word (codes "<?")) (keeping_second (only is_target name) instructed)
+
+-- ---- the XML declaration
+
+-- [26] VersionNum: `1.` and digits
+abbrev pub version_number : Rule FaultKind (Unit {0})
+version_number = dropped (keeping_second (word (codes "1.")) (some_of is_ascii_digit))
+
+-- [81] EncName: a letter, and letters, digits, `.`, `_` and `-`
+abbrev pub encoding_name : Rule FaultKind (List ℕ)
+encoding_name = name_rule is_ascii_alphabetic is_encoding_char
+
+-- [32] `yes` or `no`
+abbrev pub yes_or_no : Rule FaultKind (Unit {0})
+yes_or_no = either (word (codes "yes")) (word (codes "no"))
+
+-- S, a word, Eq and a value in quotes
+abbrev pub pseudo_attribute : {A : Type 0} → List ℕ → Rule FaultKind A → Rule FaultKind A
+pseudo_attribute w r =
+    keeping_second some_spaces
+    (keeping_second (word w) (keeping_second equals (quoted is_quote (λ _. r))))
+
+-- [23] XMLDecl: `<?xml`, the version, optionally the encoding, optionally whether it is
+-- standalone, S?, `?>`. Its value is the encoding.
+abbrev pub xml_declaration : Rule FaultKind (Option (List ℕ))
+xml_declaration =
+    keeping_second (word (codes "<?xml"))
+    (keeping_second (pseudo_attribute (codes "version") version_number)
+    (keeping_first (optional (pseudo_attribute (codes "encoding") encoding_name))
+    (keeping_second (optional (pseudo_attribute (codes "standalone") yes_or_no))
+    (keeping_second spaces (word (codes "?>"))))))
+
+-- an encoding that is read, ignoring ASCII case
+abbrev pub is_our_encoding : List ℕ → Bool
+is_our_encoding e = same_letters e (codes "utf-8") || same_letters e (codes "us-ascii")
+
+-- A whole XML declaration of another encoding marks its `?>`.
+abbrev pub IsForeign : Option (List ℕ) → FaultKind → ℕ → Type 0
+IsForeign e kind back =
+    (n : List ℕ) × (e ≡ Some n) × (is_our_encoding n ≡ false) × (kind ≡ Encoded) × (back ≡ 2)
+
+-- ---- around the root element
+
+-- [27] Misc: comments and instructions, with optional white space around each; outside the root
+-- element they spell nothing
+abbrev pub misc : Rule FaultKind (Unit {0})
+misc = either (dropped comment) instruction
+
+abbrev pub miscs : Rule FaultKind (Unit {0}) → Rule FaultKind (Unit {0})
+miscs one_more = dropped (between (dropped spaces) one_more)
+
+-- [22] prolog, without the XML declaration: `<!` before the root element is marked, where
+-- `DOCTYPE` follows
+abbrev pub prolog : Rule FaultKind (Unit {0})
+prolog = miscs (either (trap Doctyped (codes "<!") (codes "DOCTYPE")) misc)
+
+abbrev pub epilog : Rule FaultKind (Unit {0})
+epilog = miscs misc
