@@ -26,6 +26,7 @@ use Rattle.reply_bodies.specs.Nodes.{encoded, found_text, node_media}
 use Rattle.reply_bodies.specs.declared.conflicts.ErrorBody.{ErrorBody}
 use Rattle.reply_bodies.specs.declared.conflicts.ErrorBody.TheVariants as conflicts
 use Rattle.reply_text.specs.ReplyHeads.{HeadFields, SentReply, plain, sent}
+use Rattle.reply_text.specs.Statuses.{is_status}
 use Rattle.reply_text.specs.declared.media_types.MediaType.{MediaType}
 use Rattle.reply_text.specs.declared.media_types.MediaType.TheVariants as medias
 use Rattle.request_checks.specs.Conditions.{HasOutcome, by_verdict, stopped_by}
@@ -82,11 +83,17 @@ pub record Shown (root : List ℕ) (c : Content) (request : Request) (tag : ℕ)
   pub held : IsResourceOf c id (there tree tag)
   pub reads : is_reading (method_of request.method) ≡ true
 
+-- a reply with these fields and this body has a lawful status, and the length of the body as its
+-- size, if the request isn't a HEAD
+pub record IsFramed (request : Request) (fields : HeadFields) (body : List ℕ) : Type 0 where
+  pub lawful : is_status fields.status ≡ true
+  pub size : (method_of request.method ≡ Head → ⊥) → fields.size ≡ length body
+
 pub data Kind (root : List ℕ) (c : Content) (request : Request) (a : Answer) : Type 0 where
-  untagged : (fields : HeadFields) (body : List ℕ) → fields.tag ≡ None → (fields.status == 304) ≡ false → a ≡ unchanged (sent fields body) → Kind root c request a
-  shows : (fields : HeadFields) (body : List ℕ) (tag : ℕ) → fields.tag ≡ Some tag → (fields.status == 304) ≡ false → a ≡ unchanged (sent fields body) → Shown root c request tag → Kind root c request a
+  untagged : (fields : HeadFields) (body : List ℕ) → IsFramed request fields body → fields.tag ≡ None → (fields.status == 304) ≡ false → a ≡ unchanged (sent fields body) → Kind root c request a
+  shows : (fields : HeadFields) (body : List ℕ) (tag : ℕ) → IsFramed request fields body → fields.tag ≡ Some tag → (fields.status == 304) ≡ false → a ≡ unchanged (sent fields body) → Shown root c request tag → Kind root c request a
   unmodified : (tag : ℕ) → a ≡ unchanged (not_modified tag request.closes) → Shown root c request tag → HasOutcome request.fields (Some tag) true true NotModified → Kind root c request a
-  writes : (fields : HeadFields) (body : List ℕ) (made : Made) → IfSome fields.tag (λ t. t ≡ c.next) → (fields.status == 304) ≡ false → a ≡ record { reply = sent fields body; made = Some made } → Kind root c request a
+  writes : (fields : HeadFields) (body : List ℕ) (made : Made) → IsFramed request fields body → IfSome fields.tag (λ t. t ≡ c.next) → (fields.status == 304) ≡ false → a ≡ record { reply = sent fields body; made = Some made } → Kind root c request a
 
 -- ---- a request that writes is never answered 304
 
@@ -115,7 +122,7 @@ as_sent Other fields text = refl
 abbrev found_fields : Option ℕ → MediaType → List ℕ → Bool → HeadFields
 found_fields tag media text closes = record { status = 200; tag = tag; read_only = None; media = Some media; size = length text; closes = closes }
 
-abbrev plain_fields : ℕ → Bool → HeadFields
+abbrev pub plain_fields : ℕ → Bool → HeadFields
 plain_fields status closes = record { status = status; tag = None; read_only = None; media = None; size = 0; closes = closes }
 
 abbrev tagged_fields : ℕ → ℕ → Bool → HeadFields
@@ -128,33 +135,37 @@ module _ (root : List ℕ) (c : Content) (request : Request) (a : Answer) where
   abbrev K : Type 0
   K = Kind root c request a
 
-  only : (status : ℕ) → (status == 304) ≡ false → a ≡ unchanged (plain status request.closes) → K
-  only status other is = untagged (plain_fields status request.closes) [] refl other is
+  -- fields with the length of this body as the size
+  framed : (fields : HeadFields) (body : List ℕ) → is_status fields.status ≡ true → fields.size ≡ length body → IsFramed request fields body
+  framed fields body lawful same = record { lawful = lawful; size = λ _. same }
+
+  only : (status : ℕ) → is_status status ≡ true → (status == 304) ≡ false → a ≡ unchanged (plain status request.closes) → K
+  only status lawful other is = untagged (plain_fields status request.closes) [] (framed (plain_fields status request.closes) [] lawful refl) refl other is
 
   conflicts_so : (body : ErrorBody) → a ≡ unchanged (conflict body request.closes) → K
-  conflicts_so body is = untagged (conflict_fields body request.closes) (conflict_bytes body) refl refl is
+  conflicts_so body is = untagged (conflict_fields body request.closes) (conflict_bytes body) (framed (conflict_fields body request.closes) (conflict_bytes body) refl refl) refl refl is
 
   write_outcome : (tag : Option ℕ) (exists : Bool) (o : Outcome) (P : Type 0) → HasOutcome request.fields tag exists false o → (P → K) → Behind (stopped_by o tag request.closes) a P → K
-  write_outcome tag exists Unreadable P has so is = only 400 refl is
+  write_outcome tag exists Unreadable P has so is = only 400 refl refl is
   write_outcome tag exists Go P has so is = so is
   write_outcome tag exists NotModified P has so is = absurd (never_same tag exists has.0 has.2)
-  write_outcome tag exists Failed P has so is = only 412 refl is
+  write_outcome tag exists Failed P has so is = only 412 refl refl is
 
   behind : (tag : Option ℕ) (exists : Bool) (P : Type 0) → (P → K) → BehindConditions request (representation tag exists) false a P → K
   behind tag exists P so is = write_outcome tag exists is.1.0 P is.1.1 so (subst (λ (stop : Option SentReply). Behind stop a P) is.1.2 is.2)
 
   no_usage : (u : Option Usage) (P : Usage → Type 0) → ((usage : Usage) → P usage → K) → IfStored u request a P → K
-  no_usage None P so is = only 403 refl is
+  no_usage None P so is = only 403 refl refl is
   no_usage (Some usage) P so is = so usage is
 
   store_refuses : (refusal : StoreRefusal) → a ≡ unchanged (refusal_reply refusal request.closes) → K
   store_refuses (refusals.ServiceTaken clash) is = conflicts_so (conflicts.Unique (clash_field clash)) is
-  store_refuses (refusals.TooLarge len) is = only 507 refl is
-  store_refuses refusals.TooMany is = only 507 refl is
-  store_refuses (refusals.StoreFull total) is = only 507 refl is
-  store_refuses refusals.NoNumber is = only 507 refl is
+  store_refuses (refusals.TooLarge len) is = only 507 refl refl is
+  store_refuses refusals.TooMany is = only 507 refl refl is
+  store_refuses (refusals.StoreFull total) is = only 507 refl refl is
+  store_refuses refusals.NoNumber is = only 507 refl refl is
 
-  module _ (id : DocId) (reply : Note → SentReply) (fields : Note → HeadFields) (made_as : (note : Note) → reply note ≡ sent (fields note) []) (other : (note : Note) → ((fields note).status == 304) ≡ false)
+  module _ (id : DocId) (reply : Note → SentReply) (fields : Note → HeadFields) (made_as : (note : Note) → reply note ≡ sent (fields note) []) (frames : (note : Note) → IsFramed request (fields note) []) (other : (note : Note) → ((fields note).status == 304) ≡ false)
       (says : (note : Note) → IfSome (fields note).tag (λ t. t ≡ note.next)) where
     number : (note : Note) → note.next ≡ c.next → (o : Option ℕ) → IfSome o (λ t. t ≡ note.next) → IfSome o (λ t. t ≡ c.next)
     number note is None h = tt
@@ -167,13 +178,13 @@ module _ (root : List ℕ) (c : Content) (request : Request) (a : Answer) where
         let told : note ≡ note_for c id change held = answered_note (against c id change held (act_of change)) (note_for c id change held) note (content_after c id change) next e in
         let next_is : note.next ≡ c.next = ap (λ (n : Note). n.next) told ∙ note_number c id change held in
         let made : Made = (id, note) in
-        writes (fields note) [] made (number note next_is (fields note).tag (says note)) (other note) (is ∙ ap (λ (r : SentReply). let x : Answer = record { reply = r; made = Some made } in x) (made_as note))
+        writes (fields note) [] made (frames note) (number note next_is (fields note).tag (says note)) (other note) (is ∙ ap (λ (r : SentReply). let x : Answer = record { reply = r; made = Some made } in x) (made_as note))
 
     by_change : (change : Change) → a ≡ change_answer c id change request.closes reply → K
     by_change change is = by_store change (changing c id change) refl (is ∙ as_the_store c id change request.closes reply)
 
     by_plan : (plan : Result Change EditRefusal) → a ≡ plan_answer c id request.closes reply plan → K
-    by_plan (Err plans.NotFound) is = only 404 refl is
+    by_plan (Err plans.NotFound) is = only 404 refl refl is
     by_plan (Err plans.CannotInsert) is = conflicts_so conflicts.CannotInsert is
     by_plan (Err plans.CannotDelete) is = conflicts_so conflicts.CannotDelete is
     by_plan (Err (plans.Faulty fault)) is = conflicts_so (fault_conflict fault) is
@@ -181,33 +192,44 @@ module _ (root : List ℕ) (c : Content) (request : Request) (a : Answer) where
 
   -- ---- reading
 
-  module _ (method : Method) where
+  module _ (method : Method) (asks : method_of request.method ≡ method) where
+    -- the size of a text's reply, which only a HEAD leaves without the text
+    whole : (m : Method) → method_of request.method ≡ m → (text : List ℕ) → (method_of request.method ≡ Head → ⊥) → length text ≡ length (body_for m text)
+    whole Get is text never = refl
+    whole Head is text never = absurd (never is)
+    whole Put is text never = refl
+    whole Delete is text never = refl
+    whole Other is text never = refl
+
+    frames : (tag : Option ℕ) (media : MediaType) (text : List ℕ) → IsFramed request (found_fields tag media text request.closes) (body_for method text)
+    frames tag media text = record { lawful = refl; size = whole method asks text }
+
     read_outcome : (tag : ℕ) (o : Outcome) (media : MediaType) (text : List ℕ) → HasOutcome request.fields (Some tag) true true o → Shown root c request tag
         → Behind (stopped_by o (Some tag) request.closes) a (a ≡ unchanged (for_method method (found (Some tag) media text request.closes))) → K
-    read_outcome tag Unreadable media text has shown is = only 400 refl is
+    read_outcome tag Unreadable media text has shown is = only 400 refl refl is
     read_outcome tag Go media text has shown is =
-        shows (found_fields (Some tag) media text request.closes) (body_for method text) tag refl refl (is ∙ ap (λ (r : SentReply). unchanged r) (as_sent method (found_fields (Some tag) media text request.closes) text)) shown
+        shows (found_fields (Some tag) media text request.closes) (body_for method text) tag (frames (Some tag) media text) refl refl (is ∙ ap (λ (r : SentReply). unchanged r) (as_sent method (found_fields (Some tag) media text request.closes) text)) shown
     read_outcome tag NotModified media text has shown is = unmodified tag is shown has
-    read_outcome tag Failed media text has shown is = only 412 refl is
+    read_outcome tag Failed media text has shown is = only 412 refl refl is
 
     found_so : (text : Option (List ℕ)) (tag : ℕ) (media : MediaType) → Shown root c request tag → SendsFound text tag media (read_by method request) a → K
-    found_so None tag media shown is = only 404 refl is
+    found_so None tag media shown is = only 404 refl refl is
     found_so (Some text) tag media shown is =
         let Last : Type 0 = a ≡ unchanged (for_method method (found (Some tag) media text request.closes)) in
         read_outcome tag is.1.0 media text is.1.1 shown (subst (λ (stop : Option SentReply). Behind stop a Last) is.1.2 is.2)
 
     untagged_so : (media : MediaType) (text : List ℕ) → a ≡ unchanged (for_method method (found None media text request.closes)) → K
     untagged_so media text is =
-        untagged (found_fields None media text request.closes) (body_for method text) refl refl (is ∙ ap (λ (r : SentReply). unchanged r) (as_sent method (found_fields None media text request.closes) text))
+        untagged (found_fields None media text request.closes) (body_for method text) (frames None media text) refl refl (is ∙ ap (λ (r : SentReply). unchanged r) (as_sent method (found_fields None media text request.closes) text))
 
     document_so : (r : Resource) (media : MediaType) → ((t : Tree) (tag : ℕ) → r ≡ there t tag → Shown root c request tag) → SendsDocument r media (read_by method request) a → K
-    document_so absent media shown is = only 404 refl is
-    document_so beyond_limit media shown is = only 507 refl is
+    document_so absent media shown is = only 404 refl refl is
+    document_so beyond_limit media shown is = only 507 refl refl is
     document_so (there t tag) media shown is = found_so (Some (encode_utf8_all (document_print t))) tag media (shown t tag refl) is
 
     node_so : (r : Resource) (selector : Selector) → ((t : Tree) (tag : ℕ) → r ≡ there t tag → Shown root c request tag) → SendsNode r selector (read_by method request) a → K
-    node_so absent selector shown is = only 404 refl is
-    node_so beyond_limit selector shown is = only 507 refl is
+    node_so absent selector shown is = only 404 refl refl is
+    node_so beyond_limit selector shown is = only 507 refl refl is
     node_so (there t tag) selector shown is = found_so (encoded (found_text t selector)) tag (node_media selector.end) (shown t tag refl) is
 
     notice_so : (notice : Tree) → a ≡ sends_notice notice (read_by method request) → K
@@ -215,19 +237,19 @@ module _ (root : List ℕ) (c : Content) (request : Request) (a : Answer) where
 
     story_so : (mode : Mode) (tag : ℕ) (id : DocId) (changes_since : ChangesSince) → a ≡ changes_since_answer root (feed_query mode tag id) changes_since (read_by method request) → K
     story_so mode tag id Gone is = notice_so (gone_notice root (id_text id) tag) is
-    story_so mode tag id Unknown is = only 410 refl is
+    story_so mode tag id Unknown is = only 410 refl refl is
     story_so mode tag id (ReportedChanges ns) is = notice_so (notice_of mode root (id_text id) tag ns) is
 
     element_told_so : (tag : ℕ) (id : DocId) (selector : Selector) (raw : List ℕ) (changes_since : ChangesSince) → TellsElement (server_of root c) (element_query tag id selector raw) changes_since (read_by method request) a → K
     element_told_so tag id selector raw Gone is = notice_so (gone_notice root (id_text id) tag) is
-    element_told_so tag id selector raw Unknown is = only 410 refl is
+    element_told_so tag id selector raw Unknown is = only 410 refl refl is
     element_told_so tag id selector raw (ReportedChanges ns) is = notice_so is.0 is.2
 
     flat_so : (answer : Result Tree FlatFault) → a ≡ sends_flat answer (read_by method request) → K
     flat_so (Ok t) is = untagged_so medias.ResourceLists (encode_utf8_all (document_print t)) is
-    flat_so (Err NoService) is = only 404 refl is
-    flat_so (Err TooWide) is = only 507 refl is
-    flat_so (Err (TooLarge len)) is = only 507 refl is
+    flat_so (Err NoService) is = only 404 refl refl is
+    flat_so (Err TooWide) is = only 507 refl refl is
+    flat_so (Err (TooLarge len)) is = only 507 refl refl is
 
     module _ (reads : is_reading (method_of request.method) ≡ true) where
       shown_by : (target : Target) (id : DocId) (r : Resource) → TargetResult root request.target (Ok target) → document_of target ≡ Some id → IsResourceOf c id r → (t : Tree) (tag : ℕ) → r ≡ there t tag → Shown root c request tag
@@ -244,7 +266,7 @@ module _ (root : List ℕ) (c : Content) (request : Request) (a : Answer) where
       read_so : (target : Target) → TargetResult root request.target (Ok target) → Reads (server_of root c) target (read_by method request) a → K
       read_so (Document id) means is = document_so is.0 (document_media id.auid) (shown_by (Document id) id is.0 means refl is.1) is.2
       read_so (Node id selector) means is = node_so is.0 selector (shown_by (Node id selector) id is.0 means refl is.1) is.2
-      read_so (Deep auid home) means is = only 404 refl is
+      read_so (Deep auid home) means is = only 404 refl refl is
       read_so (Feed mode tag id) means is = story_so mode tag id (since c id tag) is
       read_so (ElementFeed tag id selector raw) means is = element_told_so tag id selector raw (since c id tag) is
       read_so (Flat id service) means is = flat_so is.0 is.2
@@ -263,11 +285,15 @@ module _ (root : List ℕ) (c : Content) (request : Request) (a : Answer) where
     put_other true note = refl
     put_other false note = refl
 
+    put_framed : (exists : Bool) (note : Note) → IsFramed request (put_fields exists note) []
+    put_framed true note = framed (put_fields true note) [] refl refl
+    put_framed false note = framed (put_fields false note) [] refl refl
+
     put_made : (exists : Bool) (change : Change) → a ≡ change_answer c id change request.closes (put_reply exists request.closes) → K
-    put_made exists change is = by_change id (put_reply exists request.closes) (put_fields exists) (put_as exists) (put_other exists) (λ note. refl) change is
+    put_made exists change is = by_change id (put_reply exists request.closes) (put_fields exists) (put_as exists) (put_framed exists) (put_other exists) (λ note. refl) change is
 
     put_planned_so : (exists : Bool) (plan : Result Change EditRefusal) → a ≡ plan_answer c id request.closes (put_reply exists request.closes) plan → K
-    put_planned_so exists plan is = by_plan id (put_reply exists request.closes) (put_fields exists) (put_as exists) (put_other exists) (λ note. refl) plan is
+    put_planned_so exists plan is = by_plan id (put_reply exists request.closes) (put_fields exists) (put_as exists) (put_framed exists) (put_other exists) (λ note. refl) plan is
 
     judged_so : (judgement : Option Fault) (t : Tree) → a ≡ by_judgement judgement request.closes (put_answer c id request.closes t) → K
     judged_so (Some fault) t is = conflicts_so (fault_conflict fault) is
@@ -280,7 +306,7 @@ module _ (root : List ℕ) (c : Content) (request : Request) (a : Answer) where
     body_so : (usage : Usage) → PutsBody usage (document_media id.auid) request (put_answer c id request.closes) a → K
     body_so usage is =
         either (has_type (document_media id.auid) request.fields) (PutsSpelled usage request (put_answer c id request.closes) a) (a ≡ unchanged (plain 415 request.closes))
-        (λ _ spelled. text_so usage spelled.0 spelled.2) (λ _. only 415 refl) is
+        (λ _ spelled. text_so usage spelled.0 spelled.2) (λ _. only 415 refl refl) is
 
     document_put_so : (usage : Usage) → PutsDocument c id usage request a → K
     document_put_so usage is = behind (tag_of (version_of c id)) (is_some (version_of c id)) (PutsBody usage (document_media id.auid) request (put_answer c id request.closes) a) (body_so usage) is
@@ -303,7 +329,7 @@ module _ (root : List ℕ) (c : Content) (request : Request) (a : Answer) where
       fragment_so : (spot : Spot) → PutsFragment c (write_of id usage selector request) t spot a → K
       fragment_so spot is =
           either (has_type (node_media selector.end) request.fields) (PutsAt c (write_of id usage selector request) t spot a) (a ≡ unchanged (plain 415 request.closes))
-          (λ _. at_so spot) (λ _. only 415 refl) is
+          (λ _. at_so spot) (λ _. only 415 refl refl) is
 
       from_so : (tag : ℕ) (spot : Result Spot NoParent) → PutsFrom (server_of root c) (write_of id usage selector request) (t, tag) spot a → K
       from_so tag (Err none) is = conflicts_so (conflicts.NoParent (ancestor_uri root id t selector.steps)) is
@@ -314,20 +340,20 @@ module _ (root : List ℕ) (c : Content) (request : Request) (a : Answer) where
     node_put_so usage selector (Some (t, tag)) is = from_so usage selector t tag is.0 is.2
 
     document_deleted_so : (version : Option (Tree × ℕ)) → DeletesDocumentIn c id version request a → K
-    document_deleted_so None is = only 404 refl is
+    document_deleted_so None is = only 404 refl refl is
     document_deleted_so (Some (t, tag)) is =
         behind (Some tag) true (a ≡ change_answer c id RemoveDocument request.closes (deleted_reply request.closes))
-        (by_change id (deleted_reply request.closes) (λ note. plain_fields 200 request.closes) (λ note. refl) (λ note. refl) (λ note. tt) RemoveDocument) is
+        (by_change id (deleted_reply request.closes) (λ note. plain_fields 200 request.closes) (λ note. refl) (λ note. framed (plain_fields 200 request.closes) [] refl refl) (λ note. refl) (λ note. tt) RemoveDocument) is
 
     cut_so : (usage : Usage) (selector : Selector) (t : Tree) → CutsNode c (write_of id usage selector request) t a → K
-    cut_so usage selector t is = by_plan id (cut_reply request.closes) (λ note. tagged_fields 200 note.next request.closes) (λ note. refl) (λ note. refl) (λ note. refl) is.0 is.2
+    cut_so usage selector t is = by_plan id (cut_reply request.closes) (λ note. tagged_fields 200 note.next request.closes) (λ note. refl) (λ note. framed (tagged_fields 200 note.next request.closes) [] refl refl) (λ note. refl) (λ note. refl) is.0 is.2
 
     node_deleted_so : (usage : Usage) (selector : Selector) (version : Option (Tree × ℕ)) → DeletesNodeIn c (write_of id usage selector request) version a → K
-    node_deleted_so usage selector None is = only 404 refl is
+    node_deleted_so usage selector None is = only 404 refl refl is
     node_deleted_so usage selector (Some (t, tag)) is =
         let Last : Type 0 = CutsNode c (write_of id usage selector request) t a in
         either (is_there t selector) (BehindConditions request (representation (Some tag) true) false a Last) (a ≡ unchanged (plain 404 request.closes))
-        (λ _. behind (Some tag) true Last (cut_so usage selector t)) (λ _. only 404 refl) is
+        (λ _. behind (Some tag) true Last (cut_so usage selector t)) (λ _. only 404 refl refl) is
 
   -- ---- all in order
 
@@ -342,14 +368,14 @@ module _ (root : List ℕ) (c : Content) (request : Request) (a : Answer) where
   target_deleted_so : (target : Target) (usage : Usage) → Deletes c target usage request a → K
   target_deleted_so (Document id) usage is = document_deleted_so id (version_of c id) is
   target_deleted_so (Node id selector) usage is = node_deleted_so id usage selector (version_of c id) is
-  target_deleted_so (Deep auid home) usage is = only 404 refl is
+  target_deleted_so (Deep auid home) usage is = only 404 refl refl is
   target_deleted_so (Feed mode tag id) usage is = absurd is
   target_deleted_so (ElementFeed tag id selector raw) usage is = absurd is
   target_deleted_so (Flat id service) usage is = absurd is
 
   method_so : (target : Target) (method : Method) → method_of request.method ≡ method → TargetResult root request.target (Ok target) → ByMethod (server_of root c) target method request a → K
-  method_so target Get asks means is = read_so Get (ap is_reading asks) target means is
-  method_so target Head asks means is = read_so Head (ap is_reading asks) target means is
+  method_so target Get asks means is = read_so Get asks (ap is_reading asks) target means is
+  method_so target Head asks means is = read_so Head asks (ap is_reading asks) target means is
   method_so target Put asks means is = no_usage (usage_of (auid_of target)) (λ usage. Puts (server_of root c) target usage request a) (target_put_so target) is
   method_so target Delete asks means is = no_usage (usage_of (auid_of target)) (λ usage. Deletes c target usage request a) (target_deleted_so target) is
   method_so target Other asks means is = absurd is
@@ -357,7 +383,7 @@ module _ (root : List ℕ) (c : Content) (request : Request) (a : Answer) where
   user_so : (target : Target) (method : Method) → method_of request.method ≡ method → TargetResult root request.target (Ok target) → ByUser (server_of root c) target method request a → K
   user_so target method asks means is =
       either (is_allowed (not (is_reading method)) (auid_of target) (home_of target) request.fields) (ByMethod (server_of root c) target method request a) (a ≡ unchanged (plain 403 request.closes))
-      (λ _. method_so target method asks means) (λ _. only 403 refl) is
+      (λ _. method_so target method asks means) (λ _. only 403 refl refl) is
 
   target_so : (target : Target) (method : Method) → method_of request.method ≡ method → TargetResult root request.target (Ok target) → ByTarget (server_of root c) target method request a → K
   target_so target method asks means is =
@@ -365,16 +391,18 @@ module _ (root : List ℕ) (c : Content) (request : Request) (a : Answer) where
       (λ _. user_so target method asks means) (λ _. refused) is
     where
       refused : a ≡ unchanged (not_allowed (is_read_only target) request.closes) → K
-      refused same = untagged (record { status = 405; tag = None; read_only = Some (is_read_only target); media = None; size = 0; closes = request.closes }) [] refl refl same
+      refused same =
+          let fields : HeadFields = record { status = 405; tag = None; read_only = Some (is_read_only target); media = None; size = 0; closes = request.closes } in
+          untagged fields [] (framed fields [] refl refl) refl refl same
 
   fault_so : (fault : UriFault) → a ≡ unchanged (plain (fault_status fault) request.closes) → K
-  fault_so OutsideRoot is = only 404 refl is
-  fault_so UnknownAuid is = only 404 refl is
-  fault_so BadShape is = only 400 refl is
-  fault_so BadEscape is = only 400 refl is
-  fault_so BadQuery is = only 400 refl is
-  fault_so UnboundPrefix is = only 400 refl is
-  fault_so BadSelector is = only 400 refl is
+  fault_so OutsideRoot is = only 404 refl refl is
+  fault_so UnknownAuid is = only 404 refl refl is
+  fault_so BadShape is = only 400 refl refl is
+  fault_so BadEscape is = only 400 refl refl is
+  fault_so BadQuery is = only 400 refl refl is
+  fault_so UnboundPrefix is = only 400 refl refl is
+  fault_so BadSelector is = only 400 refl refl is
 
   answered_so : (read : Result Target UriFault) → TargetResult root request.target read → IsAnswered root c read request a → K
   answered_so (Err fault) means is = fault_so fault is

@@ -87,8 +87,8 @@ module _ (root : List ℕ) (m n later last : State) (first second : Request) (re
   edit_stays (Some x) s = omega (arith, (number_is_tag root m n first reply x s.1).1)
 
   by_kind : (edit : Option Edit) → ValidStep root m first reply n edit → Kind root (stock_of m) first (answer_as reply edit) → HasTagBelow reply e.note.next
-  by_kind edit s (untagged fields body none other is) = record { fields = fields; body = body; answers = ap (λ (x : Answer). x.reply) is; below = no_tag fields.tag (λ k. k < e.note.next) none }
-  by_kind edit s (shows fields body tag some other is shown) =
+  by_kind edit s (untagged fields body whole none other is) = record { fields = fields; body = body; answers = ap (λ (x : Answer). x.reply) is; below = no_tag fields.tag (λ k. k < e.note.next) none }
+  by_kind edit s (shows fields body tag whole some other is shown) =
       let low = low_leads m s.0 shown.tree tag shown.id shown.id.home shown.held in
       record { fields = fields; body = body; answers = ap (λ (x : Answer). x.reply) is; below = one_tag fields.tag tag (λ k. k < e.note.next) some (omega (arith, low, edit_stays edit s, bound)) }
   by_kind edit s (unmodified tag is shown has) =
@@ -99,7 +99,7 @@ module _ (root : List ℕ) (m n later last : State) (first second : Request) (re
         answers = ap (λ (x : Answer). x.reply) is;
         below = omega (arith, low, edit_stays edit s, bound);
       }
-  by_kind edit s (writes fields body made some other is) =
+  by_kind edit s (writes fields body made whole some other is) =
       let rises = edit_rises edit made (ap (λ (x : Answer). x.made) is) s in
       record {
         fields = fields;

@@ -49,9 +49,9 @@ another : (n : ℕ) → (n == 304) ≡ false → n ≡ 304 → ⊥
 another n other is = let z : true ≡ false = sym (ap (λ (k : ℕ). k == 304) is) ∙ other in cc
 
 by_kind : (root : List ℕ) (c : Content) (request : Request) (a : Answer) → Kind root c request a → a.reply.status ≡ 304 → IsUnmodified root c request a
-by_kind root c request a (untagged fields body none other is) h = absurd (another fields.status other (sym (ap (λ (x : Answer). x.reply.status) is) ∙ h))
-by_kind root c request a (shows fields body tag some other is shown) h = absurd (another fields.status other (sym (ap (λ (x : Answer). x.reply.status) is) ∙ h))
-by_kind root c request a (writes fields body made some other is) h = absurd (another fields.status other (sym (ap (λ (x : Answer). x.reply.status) is) ∙ h))
+by_kind root c request a (untagged fields body whole none other is) h = absurd (another fields.status other (sym (ap (λ (x : Answer). x.reply.status) is) ∙ h))
+by_kind root c request a (shows fields body tag whole some other is shown) h = absurd (another fields.status other (sym (ap (λ (x : Answer). x.reply.status) is) ∙ h))
+by_kind root c request a (writes fields body made whole some other is) h = absurd (another fields.status other (sym (ap (λ (x : Answer). x.reply.status) is) ∙ h))
 by_kind root c request a (unmodified tag is shown has) h =
     let s = says_tag request tag has.0 has.1 has.2 in
     record {

@@ -3,10 +3,13 @@ pub mod AddressedDocuments
 pub mod DocumentLimits
 pub mod ElementReplies
 pub mod FetchedVersions
+pub mod Followers
 pub mod Heads
 pub mod MetAddresses
+pub mod ReadReplies
 pub mod RetainedVersions
 pub mod Runs
 pub mod ServiceIndexes
 pub mod Tags
 pub mod Unmodified
+pub mod WrittenJournals

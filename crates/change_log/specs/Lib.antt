@@ -1,0 +1,5 @@
+pub mod Contents
+pub mod Items
+pub mod Limits
+pub mod Logs
+pub mod Moments

@@ -1,0 +1,5 @@
+pub mod FileForm
+pub mod Logs
+pub mod Openings
+pub mod Restarts
+pub mod inner

@@ -1,0 +1,276 @@
+// A log of changes in a folder.
+ghost use Rattle.std.specs.Prelude.{◌≡◌, ◌≤◌, ◌<◌, ◌+◌, ◌-◌, ◌^◌, length, true, false, Some};
+ghost use Rattle.std.specs.Prelude.{OnOk, OnErr, MatchResult};
+ghost use Rattle.log_entries.specs.Entries.{entry_bytes};
+ghost use Rattle.change_log.specs.Limits.{max_content_bytes};
+ghost use Rattle.change_log.specs.Contents.{snapshot_of, with_change};
+ghost use Rattle.change_log.specs.Moments.{holding, with_none_open, with_open, FindsOldOr, MayFind};
+ghost use Rattle.change_log.specs.Moments.{Passes};
+ghost use Rattle.change_log.specs.Logs.{NotAppended};
+ghost use Rattle.folder_log.specs.FileForm.{change_entry};
+ghost use Rattle.folder_log.specs.Logs.{sound, parts_of, log_state};
+ghost use Rattle.folder_log.specs.inner.Steps.{IsEnded, IsReady, SameFields, SameRest};
+
+use crate::entry_kinds::{CHANGE, FIRST, PART, entry_of_kind};
+use change_log::{AppendFault, ChangeLog, LogHistory, SnapshotFault};
+use log_disk::{Disk, FolderCalls, FolderFault};
+use std::alloc::Global;
+
+/// A log of changes in a folder.
+#[derive(Drop)]
+pub struct FolderLog<C: FolderCalls + Drop> {
+    pub(crate) disk: Disk<C>,
+    pub(crate) history: LogHistory,
+    pub(crate) mark: [u8; 8],
+    pub(crate) draft_mark: [u8; 8],
+    pub(crate) next: u64,
+    pub(crate) is_begun: bool,
+    pub(crate) has_draft: bool,
+    pub(crate) is_torn: bool,
+    pub(crate) is_stopped: bool,
+}
+
+// A mark has eight bytes.
+fn eight_bytes(mark: [u8; 8]) -> [u8; 8]
+    ensures same { result ≡ mark }
+    ensures marked { length result ≡ 8 }
+{
+    mark
+}
+
+impl<C: FolderCalls + Drop> FolderLog<C> {
+    /// The folder that the log is in.
+    pub fn disk(&self) -> &Disk<C> {
+        &self.disk
+    }
+
+    // Takes back what a failed write may have left, and waits until the disk has that. A failed
+    // sync is never tried again.
+    fn heal(&mut self) -> Result<(), FolderFault>
+        requires is_sound { sound self.old }
+        requires begun { self.old.is_begun ≡ true }
+        requires not_stopped { self.old.is_stopped ≡ false }
+        ensures healed { OnOk result ((self.new.is_torn ≡ false) × (self.new.is_stopped ≡ false)) }
+        ensures taken_back { OnOk result
+            (self.new.history.log.now ≡ with_none_open self.old.history.log.now) }
+        ensures err_same { OnErr result (self.new.history.log.now ≡ self.old.history.log.now) }
+        ensures counts { MatchResult result
+            (λ _. (log_state (parts_of self.new)).faults ≡ (log_state (parts_of self.old)).faults)
+            (λ _. (log_state (parts_of self.old)).faults
+            < (log_state (parts_of self.new)).faults) }
+        ensures any_moment { Passes (MayFind self.old.history.log.now)
+            self.old.history.log self.new.history.log }
+        ensures same_rest { SameRest (parts_of self.old) (parts_of self.new) }
+        ensures same_next { self.new.next ≡ self.old.next }
+        ensures still_sound { sound self.new }
+    {
+        if !self.is_torn {
+            return Ok(());
+        }
+        if let Err(FolderFault) = self.disk.cut() {
+            self.history.record_nothing();
+            return Err(FolderFault);
+        }
+        self.history.record_nothing();
+        self.is_torn = false;
+        if let Err(FolderFault) = self.disk.sync() {
+            self.history.record_nothing();
+            self.is_stopped = true;
+            return Err(FolderFault);
+        }
+        self.history.record_taken_back();
+        Ok(())
+    }
+
+    // Writes the entry of a change, and waits until the disk has it. What a failed write leaves is
+    // taken back at once, if it can be.
+    fn commit(&mut self, change: &[u8], entry: &[u8]) -> Result<(), FolderFault>
+        requires is_sound { sound self.old }
+        requires begun { self.old.is_begun ≡ true }
+        requires not_torn { self.old.is_torn ≡ false }
+        requires not_stopped { self.old.is_stopped ≡ false }
+        requires short { length change.now ≤ max_content_bytes }
+        requires numbers_left { self.old.next < 2 ^ 64 - 1 }
+        requires is_entry { entry.now
+            ≡ entry_bytes self.old.mark (change_entry self.old.next change.now) }
+        ensures appended { OnOk result (self.new.history.log.now
+            ≡ holding (with_change change.now self.old.history.log.now.kept)) }
+        ensures not_appended { OnErr result (NotAppended change.now
+            self.old.history.log.now self.new.history.log.now) }
+        ensures counts { MatchResult result
+            (λ _. (log_state (parts_of self.new)).faults ≡ (log_state (parts_of self.old)).faults)
+            (λ _. (log_state (parts_of self.old)).faults
+            < (log_state (parts_of self.new)).faults) }
+        ensures any_moment { Passes
+            (FindsOldOr self.old.history.log
+            (with_change change.now self.old.history.log.now.kept))
+            self.old.history.log self.new.history.log }
+        ensures same_rest { SameRest (parts_of self.old) (parts_of self.new) }
+        ensures still_sound { sound self.new }
+    {
+        if let Err(FolderFault) = self.disk.write(entry) {
+            self.history.record_open(change);
+            self.is_torn = true;
+            let _ = self.heal();
+            return Err(FolderFault);
+        }
+        self.history.record_open(change);
+        if let Err(FolderFault) = self.disk.sync() {
+            self.history.record_nothing();
+            self.is_stopped = true;
+            return Err(FolderFault);
+        }
+        self.history.record_appended(change);
+        self.next += 1;
+        Ok(())
+    }
+
+    // Ends the draft with this entry, and waits until it is on the disk. The draft is of no further
+    // use after an error.
+    fn end_draft(&mut self, entry: &[u8]) -> Result<(), FolderFault>
+        requires is_sound { sound self.old }
+        requires draft_begun { self.old.has_draft ≡ true }
+        requires not_stopped { self.old.is_stopped ≡ false }
+        ensures ended { OnOk result (IsEnded (parts_of self.old) (parts_of self.new) entry.now) }
+        ensures counts { MatchResult result
+            (λ _. (log_state (parts_of self.new)).faults ≡ (log_state (parts_of self.old)).faults)
+            (λ _. (log_state (parts_of self.old)).faults
+            < (log_state (parts_of self.new)).faults) }
+        ensures same_log { self.new.history.log.now ≡ self.old.history.log.now }
+        ensures same_parts { self.new.history.log.draft ≡ self.old.history.log.draft }
+        ensures any_moment { Passes (MayFind self.old.history.log.now)
+            self.old.history.log self.new.history.log }
+        ensures same_fields { SameFields (parts_of self.old) (parts_of self.new) }
+        ensures no_draft { self.new.has_draft ≡ false }
+        ensures still_sound { sound self.new }
+    {
+        self.has_draft = false;
+        if let Err(FolderFault) = self.disk.write_draft(entry) {
+            self.history.record_nothing();
+            return Err(FolderFault);
+        }
+        self.history.record_nothing();
+        if let Err(FolderFault) = self.disk.sync_draft() {
+            self.history.record_nothing();
+            return Err(FolderFault);
+        }
+        self.history.record_nothing();
+        Ok(())
+    }
+
+    // Renames the draft, which is on the disk and ended with this number, and waits until the
+    // folder has that.
+    fn replace(&mut self, first: u64) -> Result<(), FolderFault>
+        requires is_sound { sound self.old }
+        requires not_stopped { self.old.is_stopped ≡ false }
+        requires no_draft { self.old.has_draft ≡ false }
+        requires ready { IsReady (parts_of self.old) first }
+        ensures replaced { OnOk result (self.new.history.log.now
+            ≡ holding (snapshot_of self.old.history.log.draft first)) }
+        ensures begun { OnOk result (self.new.is_begun ≡ true) }
+        ensures stopped { OnErr result (self.new.is_stopped ≡ true) }
+        ensures same_phase { OnErr result (self.new.is_begun ≡ self.old.is_begun) }
+        ensures cause { OnErr result ((log_state (parts_of self.old)).faults
+            < (log_state (parts_of self.new)).faults) }
+        ensures any_moment { Passes
+            (FindsOldOr self.old.history.log (snapshot_of self.old.history.log.draft first))
+            self.old.history.log self.new.history.log }
+        ensures still_sound { sound self.new }
+    {
+        if let Err(FolderFault) = self.disk.rename_draft() {
+            self.history.record_instead(first);
+            self.is_stopped = true;
+            return Err(FolderFault);
+        }
+        self.history.record_instead(first);
+        if let Err(FolderFault) = self.disk.sync_folder() {
+            self.history.record_nothing();
+            self.is_stopped = true;
+            return Err(FolderFault);
+        }
+        self.history.record_snapshot(first);
+        self.mark = self.draft_mark;
+        self.next = first;
+        self.is_begun = true;
+        self.is_torn = false;
+        Ok(())
+    }
+}
+
+impl<C: FolderCalls + Drop> ChangeLog for FolderLog<C> {
+    ghost use Rattle.folder_log.specs.Logs.{sound, parts_of, log_state};
+
+    ghost state = { λ log. log_state (parts_of log) };
+
+    ghost sound = { λ log. sound log };
+
+    fn next_number(&self) -> u64 {
+        self.next
+    }
+
+    fn is_stopped(&self) -> bool {
+        self.is_stopped
+    }
+
+    fn append(&mut self, alloc: Global, change: &[u8]) -> Result<u64, AppendFault> {
+        if self.is_stopped {
+            return Err(AppendFault::Failed);
+        }
+        let entry = entry_of_kind(alloc, &self.mark, self.next, CHANGE, change)?;
+        let number = self.next;
+        if let Err(FolderFault) = self.heal() {
+            return Err(AppendFault::Failed);
+        }
+        if let Err(FolderFault) = self.commit(change, &entry) {
+            return Err(AppendFault::Failed);
+        }
+        Ok(number)
+    }
+
+    fn begin_snapshot(&mut self) -> Result<(), SnapshotFault> {
+        if self.is_stopped {
+            return Err(SnapshotFault::NotWritten);
+        }
+        match self.disk.begin_draft() {
+            Ok(mark) => {
+                self.history.begin_draft();
+                self.draft_mark = eight_bytes(mark);
+                self.has_draft = true;
+                Ok(())
+            }
+            Err(FolderFault) => {
+                self.history.record_nothing();
+                self.has_draft = false;
+                Err(SnapshotFault::NotWritten)
+            }
+        }
+    }
+
+    fn add_part(&mut self, alloc: Global, part: &[u8]) -> Result<(), SnapshotFault> {
+        if self.is_stopped {
+            return Err(SnapshotFault::NotWritten);
+        }
+        let entry = entry_of_kind(alloc, &self.draft_mark, 0, PART, part)?;
+        if let Err(FolderFault) = self.disk.write_draft(&entry) {
+            self.history.record_nothing();
+            self.has_draft = false;
+            return Err(SnapshotFault::NotWritten);
+        }
+        self.history.add_part(part);
+        Ok(())
+    }
+
+    fn finish_snapshot(&mut self, alloc: Global, first: u64) -> Result<(), SnapshotFault> {
+        if self.is_stopped {
+            return Err(SnapshotFault::NotWritten);
+        }
+        let entry = entry_of_kind(alloc, &self.draft_mark, first, FIRST, &[])?;
+        if let Err(FolderFault) = self.end_draft(&entry) {
+            return Err(SnapshotFault::NotWritten);
+        }
+        if let Err(FolderFault) = self.replace(first) {
+            return Err(SnapshotFault::NotSettled);
+        }
+        Ok(())
+    }
+}

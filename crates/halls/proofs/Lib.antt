@@ -1,0 +1,2 @@
+mod GhostSteps
+mod ShownConnections

@@ -1,0 +1,66 @@
+-- The struct has no bytes, and is made with a history in which nothing has passed.
+use mathlib.Core.Path.{refl}
+use mathlib.Core.List.{[], ◌∷◌}
+use seplogic.Ra.Ura.{Ura}
+use mir.Val.{vstruct, vnil}
+use base.Logic.{SProp, ent, emp, via, fst∗}
+use prog.Memory.{Memory}
+use prog.Routine.{Routine}
+use prog.Wp.{Calls, Loops, WpFn, Tables}
+use types.Logic.{Logic}
+use contract.Monad.{Fun}
+use contract.Running.{tables, tables_of}
+use sound.WpLaws.{WpFn-mono}
+use types.Kit.{‵, raw, ◌$◌, ◌∵◌, !, qed, move, suffices, done}
+use types.Run.{no_more, returns, enter}
+use types.Part.{agg}
+use types.ByLocal.{alloc_all, pass_all, free_all, look_at, sets}
+use denote.RattleType.{owns}
+use denote.Shadow.{pure_i}
+use denote.Triple.Entry.{on_entry, alive}
+use denote.Triple.Spec.{Meets, triple_of}
+use denote.Triple.Table.{entered}
+use denote.Triple.Walked.{says, Stays, walk_of, Walks, ends_at, walked, walk_Meets}
+use Rattle.log_disk.specs.Folders.{opened_on}
+use Rattle.log_disk.specs.contracts.folder_history.FolderHistory as Kept
+use Rattle.log_disk.specs.contracts.folder_history.FolderHistory.new as it
+use Rattle.log_disk.specs.contracts.folder_history.FolderHistory.new.Key.{name as key}
+use Rattle.log_disk.proofs.folder_history.FolderHistory.new.Statement as stated
+use Rattle.log_disk.proofs.folder_history.FolderHistory.new.Code as code
+
+abbrev no_params : Stays (it.ended).signature.params (it.ended).kept
+no_params = tt
+
+module _ {M : Type 1} {𝓤 : Ura M} (𝓛 : Logic 𝓤) (at_mem : Memory → SProp 𝓤) (run : Routine → Fun 𝓤) where
+  open 𝓛 use {H}
+
+  abbrev start : (walk_of 𝓛 it.ended no_params (it.clauses 𝓛 at_mem run)).Ghost
+  start = ((tt, tt, tt, tt, tt), tt)
+
+  module _ (C : Calls 𝓤 H) (Λ : Loops 𝓤 H) where
+    -- the body, from its entry to its return
+    body : ent 𝓤 (on_entry 𝓛 it.signature tt tt tt tt) (WpFn 𝓤 H C Λ code.function [] ((walk_of 𝓛 it.ended no_params (it.clauses 𝓛 at_mem run)).post start))
+    body =
+        qed 𝓛 (raw (alive 𝓛 it.signature tt tt) ∷ ‵ (owns [] tt tt) ∷ []) ∵ enter ! C Λ code.function [] _ $
+        alloc_all ! (λ l. pass_all ! refl tt $ sets ! (agg ! (no_more !)) refl (tt, tt) $
+        returns ! (look_at ! 0 refl) $ free_all ! refl $
+        suffices ! _ (ends_at 𝓛 it.ended no_params (it.clauses 𝓛 at_mem run) start (vstruct vnil) (record { folder = opened_on [] }) tt tt) $
+        says ! refl $ pure_i ! (Kept.the_row.own_val (record { folder = opened_on [] }) (vstruct vnil ∷ [])) ((λ vss. (tt, tt)), tt) ((tt, (refl, tt)), tt) $
+        move ! (1 ∷ 2 ∷ 0 ∷ []) $ done !)
+
+    walks : Walks 𝓛 it.ended no_params (WpFn 𝓤 H C Λ code.function) (it.clauses 𝓛 at_mem run)
+    walks =
+        walked 𝓛 it.ended no_params (it.clauses 𝓛 at_mem run) (WpFn 𝓤 H C Λ code.function) (λ κs. tt) (λ κs. tt)
+        (λ κs qs bounds a g are. via 𝓤 _ (fst∗ 𝓤 _ (emp 𝓤)) body)
+
+  meets : (𝓣 : Tables 𝓤 H) → Meets 𝓛 it.signature (WpFn 𝓤 H 𝓣.C 𝓣.Λ code.function) (it.spec 𝓛 at_mem run)
+  meets 𝓣 =
+      walk_Meets 𝓛 it.ended no_params tt (it.clauses 𝓛 at_mem run) (WpFn 𝓤 H 𝓣.C 𝓣.Λ code.function)
+      (WpFn-mono 𝓤 H 𝓛.laws 𝓣 code.function) (walks 𝓣.C 𝓣.Λ)
+
+pub new_spec : {M : Type 1} → stated.statement M
+unfolding tables_of
+new_spec 𝓤 𝓛 𝓜 𝓡 wired =
+    let 𝓣 : Tables 𝓤 𝓛.H = tables_of 𝓤 𝓛.H 𝓜 (tables 𝓤 𝓛.H 𝓜 𝓡 𝓡.env) in
+    entered 𝓤 𝓛.H (triple_of 𝓛 it.signature (it.spec 𝓛 𝓜.mem 𝓡.returns)) 𝓣.C 𝓣.Λ key code.function
+    (code.unfolded 𝓤 𝓛.H 𝓜 𝓡 wired) (meets 𝓛 𝓜.mem 𝓡.returns 𝓣)

@@ -1,0 +1,375 @@
+// Many connections over sockets, by polling.
+ghost use Rattle.std.specs.Prelude.{◌≡◌, ◌-◌, ◌^◌, ◌<◌, None, length, slice_index_or, IfOk};
+ghost use Rattle.std.specs.Prelude.{IfSome, IsTrue, slice_set};
+ghost use Rattle.halls.specs.Calls.{after_accept, after_read, after_write};
+ghost use Rattle.halls.specs.HallState.{connection_at, new_hall};
+ghost use Rattle.halls.specs.Reports.{IsOpen, MayRead, MayWrite, NamesNext};
+ghost use Rattle.poll_halls.specs.inner.Places.{AreFree, IsHeld, IsKept, MayName};
+ghost use Rattle.poll_halls.specs.Streams.{ReadsSlot, WritesSlot};
+
+pub use crate::slot::TimeLimits;
+use crate::slot::{Slot, Times, Waits, defer_at, note_at, read_at, rest_at, write_at};
+use crate::sockets::{Readiness, Sockets};
+use halls::{Call, ConnectionId, Event, Hall, HallLog, Progress};
+use std::alloc::{AllocError, Global};
+use std::time::Duration;
+use xcap_io::Failed;
+
+/// How many milliseconds a poll waits at most: so no connection is late for much longer before it
+/// is reported.
+const LONGEST_POLL: u64 = 1000;
+
+/// How many, where a connection was deferred.
+const DEFERRED_POLL: u64 = 20;
+
+/// Connections over sockets that are open at once. The connections are reported in rounds. After
+/// each round at most one that comes and one that is late are reported, or there is a poll: so
+/// neither many ready connections nor many that come keep the others waiting.
+#[derive(Drop)]
+pub struct PollHall<E: Sockets + Drop> {
+    sockets: E,
+    // the number of the connection at each place, and its socket
+    numbers: Vec<Option<u64>>,
+    slots: Vec<Option<Slot<E::Stream>>>,
+    times: Times,
+    // where the round goes on
+    from: usize,
+    // whether a connection may be there to be accepted, and whether there was a poll since the
+    // last report of one
+    knocks: bool,
+    polled: bool,
+    begun: u64,
+    log: HallLog,
+    ghost kept: { IsKept numbers.items begun log.state },
+}
+
+// Places, all of which are free.
+fn free_places<T: Drop>(alloc: Global, places: usize) -> Result<Vec<Option<T>>, AllocError>
+    ensures all_free { IfOk result (λ made. AreFree made.items) }
+{
+    let mut made = Vec::with_capacity(alloc, places)?;
+    for _ in 0..places {
+        made.push(None)?;
+    }
+    Ok(made)
+}
+
+// Frees a place.
+fn free_place<T: Drop>(places: &mut Vec<Option<T>>, place: usize)
+    ensures frees { places.new.items ≡ slice_set places.old.items place None }
+{
+    if place < places.len() {
+        places[place] = None;
+    }
+}
+
+// The first connection from this place on whose next call may make progress.
+fn find_ready<S: Drop>(
+    numbers: &[Option<u64>],
+    slots: &[Option<Slot<S>>],
+    from: usize,
+) -> Option<ConnectionId>
+    ensures held { IfSome result (λ id. IsHeld numbers.now id) }
+{
+    for place in from..numbers.len().min(slots.len()) {
+        if let (Some(number), Some(slot)) = (numbers[place], &slots[place]) {
+            if slot.is_ready() {
+                return Some(ConnectionId { place, number });
+            }
+        }
+    }
+    None
+}
+
+// The first connection whose time is up.
+fn find_late<S: Drop>(
+    numbers: &[Option<u64>],
+    slots: &[Option<Slot<S>>],
+    times: &Times,
+) -> Option<ConnectionId>
+    ensures held { IfSome result (λ id. IsHeld numbers.now id) }
+{
+    for place in 0..numbers.len().min(slots.len()) {
+        if let (Some(number), Some(slot)) = (numbers[place], &slots[place]) {
+            if slot.is_late(times) {
+                return Some(ConnectionId { place, number });
+            }
+        }
+    }
+    None
+}
+
+// The first connection at rest.
+fn find_resting<S: Drop>(numbers: &[Option<u64>], slots: &[Option<Slot<S>>]) -> Option<ConnectionId>
+    ensures held { IfSome result (λ id. IsHeld numbers.now id) }
+{
+    for place in 0..numbers.len().min(slots.len()) {
+        if let (Some(number), Some(slot)) = (numbers[place], &slots[place]) {
+            if slot.is_resting {
+                return Some(ConnectionId { place, number });
+            }
+        }
+    }
+    None
+}
+
+// No socket is deferred any more.
+fn end_deferrals<S: Drop>(slots: &mut Vec<Option<Slot<S>>>) {
+    for place in 0..slots.len() {
+        defer_at(slots, place, false);
+    }
+}
+
+// Notes what was found. Returns whether a connection may be there to be accepted.
+fn note_all<S: Drop>(slots: &mut Vec<Option<Slot<S>>>, all_found: &[Readiness]) -> bool {
+    let mut knocks = false;
+    for found in all_found {
+        match found.place {
+            Some(place) => note_at(slots, place, found),
+            None => knocks = true,
+        }
+    }
+    knocks
+}
+
+// Whether a socket would be ready if it weren't deferred.
+fn is_any_deferred<S: Drop>(slots: &[Option<Slot<S>>]) -> bool {
+    for place in 0..slots.len() {
+        if let Some(slot) = &slots[place] {
+            if slot.is_deferred && slot.waits == Waits::Nothing {
+                return true;
+            }
+        }
+    }
+    false
+}
+
+impl<E: Sockets + Drop> PollHall<E> {
+    /// A hall that doesn't listen yet, with this many places.
+    ///
+    /// # Errors
+    /// When out of memory.
+    pub fn new(
+        alloc: Global,
+        sockets: E,
+        places: usize,
+        limits: TimeLimits,
+    ) -> Result<PollHall<E>, AllocError>
+        ensures nothing_passed { IfOk result (λ hall. ⟦<PollHall<E> as Hall>⟧.state hall
+            ≡ new_hall) }
+    {
+        let numbers = free_places(alloc, places)?;
+        let slots = free_places(alloc, places)?;
+        let now = sockets.now();
+        Ok(PollHall {
+            sockets,
+            numbers,
+            slots,
+            times: Times { now, limits },
+            from: 0,
+            knocks: true,
+            polled: false,
+            begun: 0,
+            log: HallLog::new(),
+        })
+    }
+
+    // How long the next poll may wait.
+    fn longest_poll(&self, takes_more: bool) -> Duration {
+        if takes_more && self.knocks || find_ready(&self.numbers, &self.slots, 0).is_some() {
+            return Duration::ZERO;
+        }
+        if is_any_deferred(&self.slots) {
+            return Duration::from_millis(DEFERRED_POLL);
+        }
+        Duration::from_millis(LONGEST_POLL)
+    }
+
+    // Polls, and notes what was found.
+    fn poll(&mut self, takes_more: bool) -> Result<(), Failed>
+        ensures same_numbers { self.new.numbers.items ≡ self.old.numbers.items }
+        ensures same_log { self.new.log.state ≡ self.old.log.state }
+        ensures same_count { self.new.begun ≡ self.old.begun }
+    {
+        let longest = self.longest_poll(takes_more);
+        self.polled = true;
+        self.sockets.poll(longest)?;
+        self.times.now = self.sockets.now();
+        end_deferrals(&mut self.slots);
+        if note_all(&mut self.slots, self.sockets.found()) {
+            self.knocks = true;
+        }
+        Ok(())
+    }
+
+    // A connection whose time is up: also one at rest, where another comes and no more are taken.
+    fn next_late(&self, takes_more: bool) -> Option<ConnectionId>
+        ensures held { IfSome result (λ id. IsHeld self.now.numbers.items id) }
+    {
+        if self.knocks && !takes_more {
+            if let Some(id) = find_resting(&self.numbers, &self.slots) {
+                return Some(id);
+            }
+        }
+        find_late(&self.numbers, &self.slots, &self.times)
+    }
+
+    // The next event.
+    fn next_event(&mut self, takes_more: bool) -> Result<Event, Failed>
+        ensures held { MayName self.old.numbers.items takes_more result }
+        ensures same_numbers { self.new.numbers.items ≡ self.old.numbers.items }
+        ensures same_log { self.new.log.state ≡ self.old.log.state }
+        ensures same_count { self.new.begun ≡ self.old.begun }
+    {
+        if let Some(id) = find_ready(&self.numbers, &self.slots, self.from) {
+            self.from = id.place.saturating_add(1);
+            return Ok(Event::Ready(id));
+        }
+        self.from = 0;
+        if takes_more && self.knocks && self.polled {
+            self.polled = false;
+            return Ok(Event::Knock);
+        }
+        if let Some(id) = self.next_late(takes_more) {
+            return Ok(Event::Late(id));
+        }
+        self.poll(takes_more)?;
+        Ok(Event::Quiet)
+    }
+
+    // Whether a connection may begin at this place.
+    fn is_free(&self, place: usize) -> bool
+        ensures inside { IsTrue result → place < length self.now.numbers.items }
+        ensures free { IsTrue result
+            → slice_index_or self.now.numbers.items place None ≡ None }
+        ensures slot_there { IsTrue result → place < length self.now.slots.items }
+        ensures may_count { IsTrue result → self.now.begun < 2 ^ 64 - 1 }
+    {
+        place < self.numbers.len()
+            && place < self.slots.len()
+            && self.numbers[place].is_none()
+            && self.begun < u64::MAX
+    }
+
+    // The stream of the next connection, which gets this place.
+    fn next_stream(&mut self, place: usize) -> Result<Option<E::Stream>, Failed>
+        ensures same_numbers { self.new.numbers.items ≡ self.old.numbers.items }
+        ensures same_slots { length self.new.slots.items ≡ length self.old.slots.items }
+        ensures same_log { self.new.log.state ≡ self.old.log.state }
+        ensures same_count { self.new.begun ≡ self.old.begun }
+    {
+        match self.sockets.accept(place) {
+            Ok(Some(stream)) => Ok(Some(stream)),
+            Ok(None) => {
+                self.knocks = false;
+                Ok(None)
+            }
+            Err(Failed) => {
+                self.knocks = false;
+                Err(Failed)
+            }
+        }
+    }
+
+    // Accepts the next connection for a free place.
+    fn accept_at(&mut self, place: usize) -> Result<Option<ConnectionId>, Failed>
+        requires inside { place < length self.old.numbers.items }
+        requires slot_there { place < length self.old.slots.items }
+        requires free { slice_index_or self.old.numbers.items place None ≡ None }
+        requires may_count { self.old.begun < 2 ^ 64 - 1 }
+        ensures begins { self.new.log.state ≡ after_accept place result self.old.log.state }
+        ensures named { NamesNext place self.old.log.state result }
+    {
+        match self.next_stream(place) {
+            Ok(Some(stream)) => {
+                let number = self.begun;
+                let id = ConnectionId { place, number };
+                self.slots[place] = Some(Slot::new(stream, &self.times));
+                self.numbers[place] = Some(number);
+                self.begun += 1;
+                self.log = self.log.then(&Call::Accept(place, Ok(Some(id))));
+                Ok(Some(id))
+            }
+            Ok(None) => {
+                self.log = self.log.then(&Call::Accept(place, Ok(None)));
+                Ok(None)
+            }
+            Err(Failed) => {
+                self.log = self.log.then(&Call::Accept(place, Err(Failed)));
+                Err(Failed)
+            }
+        }
+    }
+}
+
+impl<E: Sockets + Drop> Hall for PollHall<E> {
+    ghost state = { λ h. h.log.state };
+
+    fn listen(&mut self, address: &str) -> Result<(), Failed> {
+        let result = self.sockets.listen(address);
+        self.log = self.log.then(&Call::Listen(address.as_bytes(), result));
+        result
+    }
+
+    fn wait(&mut self, takes_more: bool) -> Result<Event, Failed> {
+        let result = self.next_event(takes_more);
+        self.log = self.log.then(&Call::Wait(result));
+        result
+    }
+
+    fn accept(&mut self, place: usize) -> Result<Option<ConnectionId>, Failed> {
+        if self.is_free(place) {
+            return self.accept_at(place);
+        }
+        self.log = self.log.then(&Call::Accept(place, Ok(None)));
+        Ok(None)
+    }
+
+    fn read(&mut self, id: ConnectionId, buf: &mut [u8]) -> Result<Progress, Failed>
+        requires open { IsOpen (⟦<PollHall<E> as Hall>⟧.state self.old) id }
+        requires some_room { 0 < length buf.old }
+        ensures next_bytes { MayRead
+            (connection_at (⟦<PollHall<E> as Hall>⟧.state self.old) id.number).left
+            buf.new result }
+        ensures only_reads { ⟦<PollHall<E> as Hall>⟧.state self.new
+            ≡ after_read id.number buf.new result (⟦<PollHall<E> as Hall>⟧.state self.old) }
+        ensures from_stream { ReadsSlot E.Stream.remaining
+            (slice_index_or self.old.slots.items id.place None)
+            (slice_index_or self.new.slots.items id.place None) result buf.new }
+    {
+        let result = read_at(&mut self.slots, id.place, buf, &self.times);
+        self.log = self.log.then(&Call::Read(id, buf, result));
+        result
+    }
+
+    fn write(&mut self, id: ConnectionId, piece: &[u8]) -> Result<Progress, Failed>
+        requires open { IsOpen (⟦<PollHall<E> as Hall>⟧.state self.old) id }
+        requires some_bytes { 0 < length piece.now }
+        ensures within_piece { MayWrite piece.now result }
+        ensures only_writes { ⟦<PollHall<E> as Hall>⟧.state self.new
+            ≡ after_write id.number piece.now result (⟦<PollHall<E> as Hall>⟧.state self.old) }
+        ensures to_stream { WritesSlot E.Stream.contents
+            (slice_index_or self.old.slots.items id.place None)
+            (slice_index_or self.new.slots.items id.place None) result piece.now }
+    {
+        let result = write_at(&mut self.slots, id.place, piece, &self.times);
+        self.log = self.log.then(&Call::Write(id, piece, result));
+        result
+    }
+
+    fn close(&mut self, id: ConnectionId) {
+        free_place(&mut self.slots, id.place);
+        free_place(&mut self.numbers, id.place);
+        // A descriptor is free now, so what comes can be accepted.
+        self.knocks = true;
+        self.log = self.log.then(&Call::Close(id));
+    }
+
+    fn defer(&mut self, id: ConnectionId) {
+        defer_at(&mut self.slots, id.place, true);
+    }
+
+    fn rest(&mut self, id: ConnectionId) {
+        rest_at(&mut self.slots, id.place, &self.times);
+    }
+}

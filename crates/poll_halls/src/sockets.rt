@@ -1,0 +1,33 @@
+// What a hall asks of the system.
+use std::io::{Read, Write};
+use std::time::{Duration, Instant};
+use xcap_io::Failed;
+
+/// What a poll found of the listener, whose place is None, or of the stream at a place.
+#[derive(Clone, Copy)]
+pub struct Readiness {
+    pub place: Option<usize>,
+    pub can_read: bool,
+    pub can_write: bool,
+}
+
+/// A listener and streams whose calls don't wait. Each stream has a place, at which polls find it.
+pub trait Sockets {
+    /// Its reads and writes answer `WouldBlock` where they would wait.
+    type Stream: Read + Write + Drop;
+
+    /// Starts to listen at this address, in place of any other.
+    fn listen(&mut self, address: &str) -> Result<(), Failed>;
+
+    /// Waits until something is ready, but no longer than this.
+    fn poll(&mut self, longest: Duration) -> Result<(), Failed>;
+
+    /// What the last poll found.
+    fn found(&self) -> &[Readiness];
+
+    /// The next connection, whose stream gets this place. None where none is there.
+    fn accept(&mut self, place: usize) -> Result<Option<Self::Stream>, Failed>;
+
+    /// The present moment. None where there is no clock.
+    fn now(&self) -> Option<Instant>;
+}

@@ -1,0 +1,33 @@
+//! A law of followers, the contract of a function that does nothing.
+ghost use Rattle.std.specs.Prelude.{◌≡◌, ◌∷◌, ◌++◌, [], ℕ, List, Ok};
+ghost use Rattle.client_follower.specs.Rounds.{Rounds};
+ghost use Rattle.client_follower.specs.States.{Following};
+ghost use Rattle.client_follower.specs.declared.feed_rounds.Round.{Round};
+ghost use Rattle.client_theorem.specs.FeedRequests.{HasFeed};
+ghost use Rattle.store_core.specs.State.{State};
+ghost use Rattle.xcap_io.specs.Causes.{StreamState};
+ghost use Rattle.xcap_io.specs.Connections.{asked};
+ghost use Rattle.xcap_io.specs.Histories.{Traffic};
+ghost use Rattle.xcap_laws.specs.Followers.{HoldsVersion, IsPresentIn, IsServedIn};
+
+use client_theorem::requests_ask_for_feeds;
+use doc_names::DocId;
+use xcap_uri::{Root, printed_id_reads_back, roots_are_spelled_by_the_grammar};
+
+/// A law: after a round that ended well a follower holds the document of the state that answered,
+/// its tag and its tree, or nothing where there is no such document; whatever it held before,
+/// nothing or any version that the document ever had. That state is the one in which the machine
+/// answered on the round's last connection; the response that was read there has the status, the
+/// etag and the body of the machine's reply. Of the connection before it nothing is asked.
+pub fn followers_converge(root: &Root, doc: &DocId)
+    ensures holds_present { (n : State) (f f' : Following) (old new : StreamState) (round : Round)
+        (earlier : List Traffic) (last : Traffic) → f.root ≡ root.now → f.doc ≡ doc.now
+        → HasFeed doc.now → HoldsVersion f.root n f.doc f.held → Rounds f f' old new (Ok round)
+        → asked new ≡ earlier ++ last ∷ [] → IsServedIn f.root n last
+        → IsPresentIn n f.doc f'.held }
+{
+    let _text = root.text();
+    printed_id_reads_back(root, doc);
+    requests_ask_for_feeds(root, doc);
+    roots_are_spelled_by_the_grammar();
+}
