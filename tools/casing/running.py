@@ -28,22 +28,13 @@ def tried(number):
     """The report of a run that differs; empty for one that goes as written."""
     program, run, cut, _ = HELD[number]
     try:
-        differences = differences_of(*HELD[number])
+        differences = Trial(*HELD[number]).differences()
     except Exception:
         differences = [traceback.format_exc()]
     if not differences:
         return ""
     heading = f"{run.place}, {cut.name}, {program}: {run.shows}".rstrip(": ")
     return "\n".join([f"FAILED {heading}", f"  words: {run.words}", *differences])
-
-
-def differences_of(program, run, cut, seconds):
-    """What differs. To who reads packets Linux may tell the end in place of a reset that comes in
-    that very moment, so a run that is fed so and whose reads fail is tried again."""
-    differences = Trial(program, run, cut, seconds).differences()
-    if differences and run.reads_fail_at is not None and not cut.is_whole():
-        differences = Trial(program, run, cut, seconds).differences()
-    return differences
 
 
 def failures_of(trials, jobs):

@@ -2,7 +2,7 @@
 ghost use Rattle.std.specs.Prelude.{◌≡◌, ◌⊎◌, ◌≤◌, ◌<◌, ◌^◌, ◌-◌, ◌++◌, ◌∷◌, [], length};
 ghost use Rattle.std.specs.Prelude.{true, false, IfOk, OnOk, OnErr, IsErrOf};
 ghost use Rattle.change_log.specs.Contents.{next_number, snapshot_of, with_change};
-ghost use Rattle.change_log.specs.Limits.{max_content_bytes};
+ghost use Rattle.change_log.specs.declared.limits.TheConstants.{MAX_CONTENT_BYTES};
 ghost use Rattle.change_log.specs.Logs.{LogState, HasCause, NotAppended, kept};
 ghost use Rattle.change_log.specs.Moments.{holding, FindsOldOr, MayFind, Passes};
 ghost use Rattle.change_log.specs.declared.change_log.AppendFault.{AppendFault};
@@ -76,7 +76,7 @@ pub trait ChangeLog {
     fn append(&mut self, alloc: Global, change: &[u8]) -> Result<u64, AppendFault>
         requires is_sound { sound self.old }
         requires begun { (state self.old).is_begun ≡ true }
-        requires short { length change.now ≤ max_content_bytes }
+        requires short { length change.now ≤ MAX_CONTENT_BYTES }
         requires numbers_left { next_number (kept (state self.old)) < 2 ^ 64 - 1 }
         ensures numbered { IfOk result (λ number. number ≡ next_number (kept (state self.old))) }
         ensures appended { OnOk result ((state self.new).history.now
@@ -120,7 +120,7 @@ pub trait ChangeLog {
     fn add_part(&mut self, alloc: Global, part: &[u8]) -> Result<(), SnapshotFault>
         requires is_sound { sound self.old }
         requires draft_begun { (state self.old).has_draft ≡ true }
-        requires short { length part.now ≤ max_content_bytes }
+        requires short { length part.now ≤ MAX_CONTENT_BYTES }
         ensures still_a_draft { OnOk result ((state self.new).has_draft ≡ true) }
         ensures added { OnOk result ((state self.new).history.draft
             ≡ (state self.old).history.draft ++ part.now ∷ []) }

@@ -13,6 +13,6 @@ mod log_cursor;
 mod log_history;
 
 pub use change_log::{AppendFault, ChangeLog, SnapshotFault};
-pub use limits::MAX_CONTENT;
+pub use limits::MAX_CONTENT_BYTES;
 pub use log_cursor::{LogCursor, LogItem};
 pub use log_history::LogHistory;

@@ -1,4 +1,4 @@
 // The limits of a log.
 
-/// The greatest number of bytes of a change, or of a part of a snapshot.
-pub const MAX_CONTENT: usize = 1_048_576;
+/// The greatest number of bytes of a change, or of a part of a snapshot: 1,048,576.
+pub const MAX_CONTENT_BYTES: usize = 1_048_576;

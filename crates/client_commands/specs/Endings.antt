@@ -1,7 +1,7 @@
 -- What a command did that makes one call, by how it ended. The project's own.
 use Rattle.std.specs.Prelude.{◌≡◌, ℕ, List, Ok, Err}
 use Rattle.xcap_io.specs.Causes.{StreamState}
-use Rattle.xcap_client.specs.Asks.{getting, removing}
+use Rattle.xcap_client.specs.Asks.{get_ask, delete_ask}
 use Rattle.xcap_client.specs.declared.request.Ask.{Ask}
 use Rattle.xcap_client.specs.declared.response.Response.{Response}
 use Rattle.client_commands.specs.Lines.{line_of_status}
@@ -31,7 +31,7 @@ abbrev pub fetch_call : Requester → List ℕ → CommandCall
 fetch_call requester path =
     record {
       root = requester.root;
-      ask = getting requester.user path;
+      ask = get_ask requester.user path;
       text = λ response. response.body;
     }
 
@@ -40,7 +40,7 @@ abbrev pub delete_call : Requester → List ℕ → CommandCall
 delete_call requester path =
     record {
       root = requester.root;
-      ask = removing requester.user path;
+      ask = delete_ask requester.user path;
       text = λ response. line_of_status response.status;
     }
 

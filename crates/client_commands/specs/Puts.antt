@@ -1,9 +1,9 @@
 -- What the command that puts its input did, by how it ended. The project's own.
 use Rattle.std.specs.Prelude.{◌≡◌, ◌⊎◌, ℕ, ◌+◌, ◌≤◌, List, length}
 use Rattle.xcap_io.specs.Causes.{StreamState}
-use Rattle.http_wire.specs.Limits.{max_body_bytes}
+use Rattle.http_wire.specs.declared.limits.TheConstants.{MAX_BODY_BYTES}
 use Rattle.client_commands.specs.Inputs.{GaveAndFailed, GaveText, JustGave}
-use Rattle.xcap_client.specs.Asks.{putting}
+use Rattle.xcap_client.specs.Asks.{put_ask}
 use Rattle.client_commands.specs.Endings.{CallStreams, CommandCall, MakesOneCall}
 use Rattle.client_commands.specs.Lines.{put_line}
 use Rattle.client_commands.specs.declared.command_end.CommandEnd.{CommandEnd}
@@ -31,14 +31,14 @@ pub record PutOptions : Type 0 where
 abbrev pub put_call : PutOptions → List ℕ → CommandCall
 put_call options text = record {
   root = options.requester.root;
-  ask = putting options.requester.user options.path options.media text;
+  ask = put_ask options.requester.user options.path options.media text;
   text = λ response. put_line response.status response.tag;
 }
 
 -- the input gave a text, which was put
 abbrev pub PutsInput : PutOptions → CommandEnd → PutStreams → PutStreams → Type 0
 PutsInput options ended old new =
-    (text : List ℕ) × GaveText max_body_bytes text old.input new.input
+    (text : List ℕ) × GaveText MAX_BODY_BYTES text old.input new.input
     × MakesOneCall (put_call options text) ended (call_streams old) (call_streams new)
 
 -- no call was made, and nothing was written
@@ -48,10 +48,10 @@ AsksNothing old new = (new.peer ≡ old.peer) × (new.output ≡ old.output)
 -- The input gave a text, which was put; or it failed, or has too many bytes, and no call was made.
 abbrev pub Puts : PutOptions → CommandEnd → PutStreams → PutStreams → Type 0
 Puts options InputFailed old new =
-    ((front : List ℕ) × GaveAndFailed front old.input new.input × (length front ≤ max_body_bytes))
+    ((front : List ℕ) × GaveAndFailed front old.input new.input × (length front ≤ MAX_BODY_BYTES))
     × AsksNothing (call_streams old) (call_streams new)
 Puts options TooLarge old new =
-    ((front : List ℕ) × JustGave front old.input new.input × (length front ≡ max_body_bytes + 1))
+    ((front : List ℕ) × JustGave front old.input new.input × (length front ≡ MAX_BODY_BYTES + 1))
     × AsksNothing (call_streams old) (call_streams new)
 Puts options OutOfMemory old new =
     ((new.input ≡ old.input) × AsksNothing (call_streams old) (call_streams new))

@@ -11,7 +11,7 @@ use xcap_io::{Line, Peer, Sink};
 use xml_names::Text;
 
 /// Fetches the resource at a path under the root, and writes the body of the response.
-pub fn fetch_from<C: Peer, O: Sink>(
+pub fn fetch_at<C: Peer, O: Sink>(
     alloc: Global,
     requester: &Requester,
     path: &Text,

@@ -13,7 +13,7 @@ use xcap_io::{Failed, Line, Source};
 pub enum InputFault {
     /// A read failed, and the input's count of such faults rose.
     Failed,
-    /// It has more bytes than `limit`, of which one too many was read.
+    /// It has more bytes than `limit`; one byte past the limit was read.
     TooLong,
     /// Out of memory; nothing was read.
     NoMemory,

@@ -16,7 +16,7 @@ mod put_command;
 mod requester;
 
 pub use command_end::CommandEnd;
-pub use fetch_command::{delete_at, fetch_from};
+pub use fetch_command::{delete_at, fetch_at};
 pub use follow_command::follow;
 pub use inputs::{InputFault, read_text};
 pub use messages::{status_of, words_of};

@@ -7,7 +7,7 @@ use crate::output_lines::put_line;
 use crate::requester::Requester;
 use crate::{InputFault, read_text};
 use client_follower::FollowerFault;
-use http_wire::MAX_BODY;
+use http_wire::MAX_BODY_BYTES;
 use std::alloc::{AllocError, Global};
 use xcap_client::put;
 use xcap_io::{Line, Peer, Sink, Source};
@@ -71,7 +71,7 @@ pub fn put_at<C: Peer, I: Source, O: Sink>(
           output = O.state output.new;
         }) }
 {
-    match read_text(alloc, input, MAX_BODY) {
+    match read_text(alloc, input, MAX_BODY_BYTES) {
         Ok(text) => put_text(alloc, requester, path, media, &text, peer, output),
         Err(InputFault::Failed) => CommandEnd::InputFailed,
         Err(InputFault::TooLong) => CommandEnd::TooLarge,

@@ -1,7 +1,7 @@
 -- One call after another begins one connection after another.
 use Rattle.std.proofs.Common.{◌≡◌, inl, inr, ℕ, zero, suc, ◌+◌, ◌≤◌, List, [], ◌∷◌, ◌++◌, replicate, Option, None, Some, Result, Ok, Err, refl, sym, ap, subst, ◌∙◌, arith, append-nil, append_assoc, length-append, encode_utf8_all}
 use Rattle.xcap_io.specs.Causes.{StreamState}
-use Rattle.xcap_io.specs.Connections.{asked}
+use Rattle.xcap_io.specs.Connections.{peer_traffic}
 use Rattle.xcap_io.specs.Histories.{Traffic}
 use Rattle.doc_names.specs.declared.doc_id.DocId.{DocId}
 use Rattle.xcap_client.specs.declared.request.Ask.{Ask}
@@ -29,10 +29,10 @@ module _ (root : List ℕ) where
   address = encode_utf8_all (address_of root)
 
   none : (old new : StreamState) → NoneBegan old new → Begins root 0 old new
-  none old new n = record { passed = []; many = refl; behind = n.same ∙ sym (append-nil (asked old)); dialled = n.same_addresses }
+  none old new n = record { passed = []; many = refl; behind = n.same ∙ sym (append-nil (peer_traffic old)); dialled = n.same_addresses }
 
   nothing : (old new : StreamState) → new ≡ old → Begins root 0 old new
-  nothing old new same = none old new (record { same = ap asked same; same_addresses = ap (λ (l : StreamState). l.peer.addresses) same })
+  nothing old new same = none old new (record { same = ap peer_traffic same; same_addresses = ap (λ (l : StreamState). l.peer.addresses) same })
 
   one : (old new : StreamState) (passed : Traffic) → OneBegan root old new passed → Begins root 1 old new
   one old new passed o = record { passed = passed ∷ []; many = refl; behind = o.behind; dialled = o.dialled }
@@ -57,7 +57,7 @@ module _ (root : List ℕ) where
   both n m old mid new a b = record {
     passed = a.passed ++ b.passed;
     many = length-append a.passed b.passed ∙ omega (arith, a.many, b.many);
-    behind = b.behind ∙ ap (λ (l : List Traffic). l ++ b.passed) a.behind ∙ append_assoc (asked old) a.passed b.passed;
+    behind = b.behind ∙ ap (λ (l : List Traffic). l ++ b.passed) a.behind ∙ append_assoc (peer_traffic old) a.passed b.passed;
     dialled =
         b.dialled ∙ ap (λ (l : List (List ℕ)). replicate m address ++ l) a.dialled
         ∙ sym (append_assoc (replicate m address) (replicate n address) old.peer.addresses)

@@ -6,7 +6,7 @@ use Rattle.doc_names.specs.declared.doc_id.DocId.{DocId}
 use Rattle.xcap_client.specs.declared.request.Ask.{Ask}
 use Rattle.xcap_client.specs.declared.response.Response.{Response}
 use Rattle.patch_rules.specs.Replay.{ReplicaContents}
-use Rattle.xcap_client.specs.Asks.{getting}
+use Rattle.xcap_client.specs.Asks.{get_ask}
 use Rattle.xcap_client.specs.Calls.{Calls}
 use Rattle.xcap_client.specs.Exchanges.{not_begun}
 use Rattle.xcap_client.specs.declared.fault.ClientFault.{ClientFault}
@@ -34,16 +34,16 @@ not_started document line result is = record { fetched = Err faults.NoMemory; fe
 
 -- the feed was requested, with this replica afterwards
 pub feed_asked : (f : Following) (tag : List ℕ) (tree : Tree) (given : Result Response ClientFault) (held : ReplicaContents) (old new : StreamState) (result : Result (Option Round) FollowerFault)
-    → f.held ≡ Some (tag, tree) → Calls f.root (getting f.user (feed_path tag f.doc)) old new given → TakesFeed f.doc given f.held held result
+    → f.held ≡ Some (tag, tree) → Calls f.root (get_ask f.user (feed_path tag f.doc)) old new given → TakesFeed f.doc given f.held held result
     → AsksFeed f (record f { held = held }) old new result
 feed_asked f tag tree given held old new result holds calls takes = asks tag tree given holds calls takes refl
 
 -- the same fact where the calls were made with equal arguments
 pub called_as : (root : List ℕ) (user user' : Option (List ℕ)) (path path' : List ℕ) (old new : StreamState) (given : Result Response ClientFault) → user ≡ user' → path ≡ path'
-    → Calls root (getting user path) old new given → Calls root (getting user' path') old new given
+    → Calls root (get_ask user path) old new given → Calls root (get_ask user' path') old new given
 called_as root user user' path path' old new given same_user same_path calls =
-    subst (λ (u : Option (List ℕ)). Calls root (getting u path') old new given) same_user
-    (subst (λ (p : List ℕ). Calls root (getting user p) old new given) same_path calls)
+    subst (λ (u : Option (List ℕ)). Calls root (get_ask u path') old new given) same_user
+    (subst (λ (p : List ℕ). Calls root (get_ask user p) old new given) same_path calls)
 
 pub told_round : (f f' : Following) (old new : StreamState) (asked : Option Round) (round : Round) → asked ≡ Some round → AsksFeed f f' old new (Ok asked) → Rounds f f' old new (Ok round)
 told_round f f' old new asked round is feed = by_feed round (subst (λ (r : Option Round). AsksFeed f f' old new (Ok r)) is feed) refl

@@ -12,7 +12,7 @@ use Rattle.tree_text.specs.declared.fault.TextFault.{TextFault}
 use Rattle.doc_names.specs.declared.doc_id.DocId.{DocId}
 use Rattle.xcap_client.specs.declared.response.Response.{Response}
 use Rattle.xcap_uri.specs.PrintedNames.{is_name_of}
-use Rattle.patch_rules.specs.Replay.{CopyAnswer, ReplicaContents, CopyFault, Replays, Same, Patched, Removed, Fetch, WrongDocument, all_taken, copy_answer, documents, is_all_mine, then_next}
+use Rattle.patch_rules.specs.Replay.{CopyAnswer, ReplicaContents, CopyFault, Replays, Same, Patched, Removed, Fetch, WrongDocument, outcome_of_documents, copy_answer, documents, is_all_mine, then_next}
 use Rattle.patch_laws.specs.ReplayLaws.{HoldsSound}
 use Rattle.patch_apply.specs.ApplyAnswers.{Applies}
 use Rattle.patch_apply.specs.DiffTexts.{NoticeAnswer}
@@ -90,7 +90,7 @@ by_mine false outcome ds held held' tag same = absurd (false≢true (ap is_fetch
 
 fetch_keeps : (is_mine : List ℕ → Bool) (notice : Tree) (held held' : ReplicaContents) (tag : List ℕ) → Replays is_mine notice held (Ok (Fetch tag, held')) → held' ≡ held
 fetch_keeps is_mine notice held held' tag h =
-    by_mine (is_all_mine is_mine (documents notice)) (all_taken h.0 0 (notice.decls ∷ []) (documents notice) held) (documents notice) held held' tag (sym h.2)
+    by_mine (is_all_mine is_mine (documents notice)) (outcome_of_documents h.0 0 (notice.decls ∷ []) (documents notice) held) (documents notice) held held' tag (sym h.2)
 
 applied_keeps : (is_mine : List ℕ → Bool) (notice : Tree) (held held' : ReplicaContents) (applied : Result Applied (ReadError ApplyFault))
     → Applies is_mine notice held applied held' → KeepsUnlessTold held held' (outcome_of applied)

@@ -3,7 +3,7 @@
 use Rattle.std.specs.Prelude.{◌≡◌, ◌⊎◌, ℕ, ◌≤◌, List, ◌++◌, length, replicate, Result, Ok, Err}
 use Rattle.std.specs.Prelude.{encode_utf8_all}
 use Rattle.xcap_io.specs.Causes.{StreamState}
-use Rattle.xcap_io.specs.Connections.{asked}
+use Rattle.xcap_io.specs.Connections.{peer_traffic}
 use Rattle.xcap_io.specs.Histories.{Traffic}
 use Rattle.xcap_client.specs.declared.response.Response.{Response}
 use Rattle.xcap_client.specs.Addresses.{address_of}
@@ -17,7 +17,7 @@ use Rattle.client_follower.specs.declared.feed_rounds.Round.{Round}
 pub record Begins (root : List ℕ) (count : ℕ) (old new : StreamState) : Type 0 where
   pub passed : List Traffic
   pub many : length passed ≡ count
-  pub behind : asked new ≡ asked old ++ passed
+  pub behind : peer_traffic new ≡ peer_traffic old ++ passed
   pub dialled : new.peer.addresses
       ≡ replicate count (encode_utf8_all (address_of root)) ++ old.peer.addresses
 

@@ -4,14 +4,14 @@ use Rattle.std.specs.Prelude.{◌≡◌, ℕ, Bool, false, ◌==◌, List, [], O
 use Rattle.std.specs.Prelude.{Err, if◌then◌else◌}
 use Rattle.std.specs.Result.{result_map_both}
 use Rattle.xcap_io.specs.Causes.{StreamState}
-use Rattle.xml_names.specs.Limits.{max_levels}
+use Rattle.xml_names.specs.declared.limits.TheConstants.{MAX_LEVELS}
 use Rattle.xml_tree.specs.Tree.{Tree}
 use Rattle.tree_text.specs.Faults.{TextAnswer}
 use Rattle.tree_text.specs.declared.fault.TextFault.{TextFault}
 use Rattle.doc_names.specs.Ids.{id_text}
 use Rattle.xcap_client.specs.declared.response.Response.{Response}
 use Rattle.patch_apply.specs.declared.replica.ReplicaVersion.{ReplicaVersion}
-use Rattle.xcap_client.specs.Asks.{getting}
+use Rattle.xcap_client.specs.Asks.{get_ask}
 use Rattle.xcap_client.specs.Calls.{Calls}
 use Rattle.xcap_client.specs.declared.fault.ClientFault.{ClientFault}
 use Rattle.xcap_client.specs.declared.fault.ClientFault.TheVariants as clients
@@ -32,10 +32,10 @@ pub data BringsVersion (response : Response)
     (result : Result ReplicaVersion FollowerFault) : Type 0 where
   has_no_tag : response.tag ≡ None → result ≡ Err BadTag → BringsVersion response result
   spells_a_document : (tag : List ℕ) (root : Tree) → response.tag ≡ Some tag
-      → TextAnswer max_levels [] response.body (Ok root)
+      → TextAnswer MAX_LEVELS [] response.body (Ok root)
       → result ≡ Ok (record { tag = tag; root = root }) → BringsVersion response result
   spells_none : (tag : List ℕ) (fault : TextFault) → response.tag ≡ Some tag
-      → TextAnswer max_levels [] response.body (Err fault)
+      → TextAnswer MAX_LEVELS [] response.body (Err fault)
       → result ≡ Err (BadText fault) → BringsVersion response result
   lacks_memory : (tag : List ℕ) → response.tag ≡ Some tag → result ≡ Err NoMemory
       → BringsVersion response result
@@ -54,5 +54,5 @@ TakesDocument (Err fault) result =
 pub record Fetches (document : FollowedDocument) (old new : StreamState)
     (result : Result (Option ReplicaVersion) FollowerFault) : Type 0 where
   pub given : Result Response ClientFault
-  pub calls : Calls document.root (getting document.user (id_text document.doc)) old new given
+  pub calls : Calls document.root (get_ask document.user (id_text document.doc)) old new given
   pub takes : TakesDocument given result

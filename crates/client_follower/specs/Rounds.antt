@@ -1,12 +1,12 @@
 -- What a round of a follower does: it asks the feed for the changes since the replica's etag, and
--- then for the document where these don't lead on.
+-- then for the document where the feed doesn't suffice.
 use Rattle.std.specs.Prelude.{◌≡◌, ℕ, List, Option, None, Some, Result, Ok, Err}
 use Rattle.xcap_io.specs.Causes.{StreamState}
 use Rattle.xml_tree.specs.Tree.{Tree}
 use Rattle.xcap_client.specs.declared.response.Response.{Response}
 use Rattle.patch_apply.specs.Views.{stored_in}
 use Rattle.patch_apply.specs.declared.replica.ReplicaVersion.{ReplicaVersion}
-use Rattle.xcap_client.specs.Asks.{getting}
+use Rattle.xcap_client.specs.Asks.{get_ask}
 use Rattle.xcap_client.specs.Calls.{Calls}
 use Rattle.xcap_client.specs.declared.fault.ClientFault.{ClientFault}
 use Rattle.client_follower.specs.Documents.{Fetches}
@@ -25,7 +25,7 @@ pub data AsksFeed (f f' : Following) (old new : StreamState)
       → AsksFeed f f' old new result
   asks : (tag : List ℕ) (tree : Tree) (given : Result Response ClientFault)
       → f.held ≡ Some (tag, tree)
-      → Calls f.root (getting f.user (feed_path tag f.doc)) old new given
+      → Calls f.root (get_ask f.user (feed_path tag f.doc)) old new given
       → TakesFeed f.doc given f.held f'.held result
       → f' ≡ record f { held = f'.held } → AsksFeed f f' old new result
 

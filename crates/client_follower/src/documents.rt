@@ -1,7 +1,7 @@
 // The document that a follower copies, as its server has it.
 ghost use Rattle.std.specs.Prelude.{IfOk, chars, option_map};
 ghost use Rattle.patch_apply.specs.Views.{stored_in};
-ghost use Rattle.patch_laws.specs.Premises.{IsSound};
+ghost use Rattle.patch_laws.specs.Premises.{IsReplicaTree};
 ghost use Rattle.patch_laws.specs.ReplayLaws.{HoldsSound};
 ghost use Rattle.client_follower.specs.Documents.{BringsVersion, Fetches, TakesDocument};
 
@@ -18,7 +18,7 @@ use xml_names::MAX_LEVELS;
 // The version of the document in a response.
 fn version_in(alloc: Global, response: Response) -> Result<ReplicaVersion, FollowerFault>
     ensures brings_version { BringsVersion response result }
-    ensures stays_sound { IfOk result (λ held. IsSound held.root) }
+    ensures stays_sound { IfOk result (λ held. IsReplicaTree held.root) }
 {
     let Response { tag, body, .. } = response;
     let Some(tag) = tag else {

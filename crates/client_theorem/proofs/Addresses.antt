@@ -1,6 +1,6 @@
 -- The address of a feed means the feed: after the root and the first segments, its parts are those
 -- of the document's printed id, which is read back.
-use Rattle.std.proofs.Common.{◌≡◌, ◌≢◌, ◌⊎◌, ℕ, Bool, true, false, not, ◌==◌, List, [], ◌∷◌, ◌++◌, Option, None, Some, Result, Ok, Err, codes, encode_utf8_all, inl, inr, refl, sym, ap, ◌∙◌, subst, append_assoc}
+use Rattle.std.proofs.Common.{◌≡◌, ◌≢◌, ℕ, Bool, true, false, not, ◌==◌, List, [], ◌∷◌, ◌++◌, Option, None, Some, Result, Ok, Err, codes, encode_utf8_all, inl, refl, sym, ap, ◌∙◌, subst, append_assoc}
 use Rattle.std.proofs.lemmas.Bool.{and_parts, eq-eqb}
 use Rattle.std.proofs.lemmas.Str.{chars-IsAscii, encodes-IsAscii, encodes_same}
 use Rattle.std.specs.Char.{is_ascii_digit}
@@ -23,14 +23,15 @@ use Rattle.doc_names.specs.declared.doc_id.Auid.{Auid}
 use Rattle.doc_names.specs.declared.doc_id.DocId.{DocId}
 use Rattle.doc_names.specs.declared.doc_id.Home.{Home}
 use Rattle.doc_names.specs.declared.doc_id.Home.TheVariants.{Global, User}
-use Rattle.xcap_uri.specs.Delimiters.{rest_after_front, front_before, rest_after, behind_first, pieces}
+use Rattle.xcap_uri.specs.Delimiters.{rest_after_front, front_before, rest_after, after_first, pieces}
 use Rattle.xcap_uri.specs.Escapes.{StandsFor, StandForOptional}
 use Rattle.xcap_uri.specs.Numerals.{numeral_of}
 use Rattle.xcap_uri.specs.Roots.{slash}
 use Rattle.xcap_uri.specs.Shapes.{Names, doc_of, in_home, mode_word, names_deep, names_document, names_element_feed, names_feed, names_flat, names_node, tag_spelled}
 use Rattle.xcap_uri.specs.Targets.{AreSegments, IsPath, Means, NamedAnswer, RestAnswer, TargetResult, element_feed_of, is_element, node_of, question, raw_text, rest_under, under_root}
 use Rattle.xcap_uri.specs.Words.{feed}
-use Rattle.xcap_uri.specs.Order.{Where}
+use Rattle.xcap_uri.proofs.AddressedDocuments.{there}
+use Rattle.xcap_uri.specs.Order.{FirstOrFault}
 use Rattle.xcap_uri.specs.declared.fault.UriFault.{UriFault}
 use Rattle.xcap_uri.specs.declared.fault.UriFault.TheVariants.{BadEscape, BadSelector}
 use Rattle.xcap_uri.specs.declared.shape.Shape.{Shape}
@@ -80,7 +81,7 @@ mode_passes stop Aggregate a b c = pass_word (is_other stop) (codes "aggregate")
 abbrev behind_root : Mode → List ℕ → List ℕ → List ℕ
 behind_root mode digits id = codes "~feed" ++ (slash ∷ (mode_text mode ++ (slash ∷ (digits ++ (slash ∷ id)))))
 
-regrouped : (r a m s d i : List ℕ) → r ++ a ++ m ++ s ++ d ++ s ++ i ≡ r ++ (a ++ (m ++ (s ++ (d ++ (s ++ i)))))
+pub regrouped : (r a m s d i : List ℕ) → r ++ a ++ m ++ s ++ d ++ s ++ i ≡ r ++ (a ++ (m ++ (s ++ (d ++ (s ++ i)))))
 regrouped r a m s d i =
     append_assoc (r ++ a ++ m ++ s ++ d) s i ∙ append_assoc (r ++ a ++ m ++ s) d (s ++ i) ∙ append_assoc (r ++ a ++ m) s (d ++ (s ++ i))
     ∙ append_assoc (r ++ a) m (s ++ (d ++ (s ++ i))) ∙ append_assoc r a (m ++ (s ++ (d ++ (s ++ i))))
@@ -95,7 +96,7 @@ module _ (mode : Mode) (digits : List ℕ) (are : list_all is_ascii_digit digits
 
   cut_behind : (id : List ℕ) → rest_after question (behind_root mode digits id) ≡ rest_after question id
   cut_behind id =
-      ap behind_first
+      ap after_first
       (behind_append question (codes "~feed") (slash ∷ (mode_text mode ++ (slash ∷ (digits ++ (slash ∷ id))))) (pass_word (is_other question) (codes "~feed") refl)
       ∙ behind_append question (mode_text mode) (slash ∷ (digits ++ (slash ∷ id))) (mode_passes question mode refl refl refl)
       ∙ behind_append question digits (slash ∷ id) (digits_pass question refl digits are))
@@ -143,14 +144,6 @@ tag_some : (tag : List ℕ) (n : ℕ) → tag_spelled tag ≡ Some n → tag ≢
 tag_some tag n is same = let never : None ≡ Some n = ap tag_spelled (sym same) ∙ is in absurd cc
 
 -- ---- the meaning of the parts
-
--- an answer that is no fault is the first of the two cases
-there : {Found Missing : Type 0} {fault : UriFault} (t : Target) → Found ⊎ (Missing × ◌≡◌ {A = Result Target UriFault} (Ok t) (Err fault)) → Found
-there t (inl found) = found
-there t (inr none) = absurd (no none.1)
-  where
-    no : {fault : UriFault} → ◌≡◌ {A = Result Target UriFault} (Ok t) (Err fault) → ⊥
-    no e = cc
 
 module _ (mode : Mode) (n : ℕ) (tag : List ℕ) (doc : DocId) (has : HasFeed doc) (is_tag : tag_spelled tag ≡ Some n) where
   abbrev named : Result Target UriFault
@@ -236,7 +229,7 @@ module _ (mode : Mode) (n : ℕ) (tag : List ℕ) (doc : DocId) (has : HasFeed d
   -- the parts after the path, by the query's text
   abbrev BehindPath : Option (List ℕ) → List (List ℕ) → Option (List ℕ) → Result Target UriFault → Type 0
   BehindPath query segments selector answer =
-      Where (StandForOptional selector) BadEscape (λ s. Where (StandForOptional query) BadEscape (λ q. NamedAnswer segments s q (raw_text selector query))) answer
+      FirstOrFault (StandForOptional selector) BadEscape (λ s. FirstOrFault (StandForOptional query) BadEscape (λ q. NamedAnswer segments s q (raw_text selector query))) answer
 
   by_path : (query : Option (List ℕ)) (segments : List (List ℕ)) (selector : Option (List ℕ)) → BehindPath query segments selector named → BehindPath query (with_front segments) selector asked
   by_path query segments selector is =
@@ -256,13 +249,13 @@ module _ (mode : Mode) (n : ℕ) (tag : List ℕ) (doc : DocId) (has : HasFeed d
 
 -- ---- the whole address
 
-under_itself : (root rest : List ℕ) → under_root root (root ++ (slash ∷ rest)) ≡ Some rest
-under_itself root rest = rw (inside root rest) refl
-  where
-    inside : (path rest : List ℕ) → rest_under path (path ++ (slash ∷ rest)) ≡ Some rest
-    inside path rest = rw (after_append path (slash ∷ rest)) refl
+pub rest_inside : (path rest : List ℕ) → rest_under path (path ++ (slash ∷ rest)) ≡ Some rest
+rest_inside path rest = rw (after_append path (slash ∷ rest)) refl
 
-same_rest : (o : Option (List ℕ)) (a b : List ℕ) → o ≡ Some a → o ≡ Some b → a ≡ b
+pub under_itself : (root rest : List ℕ) → under_root root (root ++ (slash ∷ rest)) ≡ Some rest
+under_itself root rest = rw (rest_inside root rest) refl
+
+pub same_rest : (o : Option (List ℕ)) (a b : List ℕ) → o ≡ Some a → o ≡ Some b → a ≡ b
 same_rest o a b e f = let both : Some a ≡ Some b = sym e ∙ f in cc
 
 pub means_feed : (root : List ℕ) (mode : Mode) (n : ℕ) (tag : List ℕ) (doc : DocId) → HasFeed doc → tag_spelled tag ≡ Some n

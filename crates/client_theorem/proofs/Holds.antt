@@ -34,7 +34,7 @@ use Rattle.client_theorem.proofs.Numerals.{printed_numeral}
 use Rattle.client_theorem.specs.FeedRequests.{AsksForFeed, feed_request}
 use Rattle.client_theorem.proofs.Replies.{sends_a_notice}
 use Rattle.client_theorem.proofs.NoticeResults.{updated}
-use Rattle.client_theorem.specs.FollowResults.{FeedQuery, FollowOutcome, Follows, FollowsFrom, FollowsHeld, OrNoMemory, Refuses, TakesNotice}
+use Rattle.client_theorem.specs.FollowResults.{FeedQuery, FollowOutcome, Follows, FollowsSinceTag, FollowsHeld, OrNoMemory, Refuses, TakesNotice}
 use Rattle.client_theorem.specs.SubscriberVersions.{DropsWhatIsGone, Gets, HoldsThePresent, IsPatching, IsRetained}
 use Rattle.client_theorem.specs.declared.fault.FollowFault.TheVariants.{BadTag, Status}
 
@@ -67,10 +67,10 @@ module _ (query : FeedQuery) (m : State) (stands : Represents query.content m) (
     (asks : (tag : List ℕ) (n : ℕ) → tag_spelled tag ≡ Some n → AsksForFeed query.root query.mode n query.doc (request_since query tag))
     (holds : (tag : List ℕ) (reply : SentReply) → IsAnswer query.root query.content (request_since query tag) (unchanged reply) → SubscribersHold query.root m (request_since query tag) reply) where
   -- with a version whose tag is a numeral the machine was asked
-  asked : (tag : ℕ) (tree : Tree) → 1 ≤ tag → tag ≤ u64_max → outcome.old ≡ Some (decimal tag, tree) → Follows query query.doc outcome → FollowsFrom query query.doc (decimal tag) outcome
+  asked : (tag : ℕ) (tree : Tree) → 1 ≤ tag → tag ≤ u64_max → outcome.old ≡ Some (decimal tag, tree) → Follows query query.doc outcome → FollowsSinceTag query query.doc (decimal tag) outcome
   asked tag tree some small is follows =
       let held : FollowsHeld query query.doc outcome (Some (decimal tag, tree)) = subst (FollowsHeld query query.doc outcome) is follows in
-      either (is_some (tag_spelled (decimal tag))) (FollowsFrom query query.doc (decimal tag) outcome) (Refuses BadTag outcome)
+      either (is_some (tag_spelled (decimal tag))) (FollowsSinceTag query query.doc (decimal tag) outcome) (Refuses BadTag outcome)
       (λ _ so. so) (λ no so. let never : true ≡ false = sym (ap is_some (spelled tag some small)) ∙ no in absurd cc) held
 
   -- and its reply carries a diff document of what the subscriber is to have

@@ -1,4 +1,4 @@
-mod Addresses
+pub mod Addresses
 mod AsciiAddresses
 mod FeedReplies
 mod FeedRights

@@ -22,7 +22,7 @@ use Rattle.store_core.specs.State.{State}
 use Rattle.xcap_machine.proofs.Cases.{either}
 use Rattle.xcap_machine.specs.Answers.{Answer, Made, unchanged}
 use Rattle.xcap_machine.specs.Feeds.{changes_since_answer}
-use Rattle.xcap_machine.specs.Machine.{ValidStep, Step, after_answer, answer_as, told_as}
+use Rattle.xcap_machine.specs.Machine.{ValidStep, Step, after_answer, answer_as, made_from}
 use Rattle.xcap_machine.specs.Requests.{ByMethod, ByTarget, ByUser, IsAnswer}
 use Rattle.xcap_machine.specs.inner.Cases.{IsAnswered}
 use Rattle.xcap_machine.specs.inner.Records.{feed_query, read_by, server_of}
@@ -60,7 +60,7 @@ module _ (root : List ℕ) (c : StoreContents) (mode : Mode) (n : ℕ) (id : Doc
 pub step_is_an_answer : (root : List ℕ) (c left : StoreContents) (m next : State) (mode : Mode) (n : ℕ) (id : DocId) (request : Request) (reply : SentReply) (edit : Option Edit)
     → AsksForFeed root mode n id request → Represents c m → Step root m request reply next edit → Represents left next → IsAnswer root c request (unchanged reply) × (left ≡ c)
 step_is_an_answer root c left m next mode n id request reply edit asks stands step then =
-    let none : option_map told_as edit ≡ None = changes_nothing root (stock_of m) mode n id request asks (answer_as reply edit) step.answers in
+    let none : option_map made_from edit ≡ None = changes_nothing root (stock_of m) mode n id request asks (answer_as reply edit) step.answers in
     let same : answer_as reply edit ≡ unchanged reply = ap (λ (made : Option Made). let a : Answer = record { reply = reply; made = made } in a) none in
     let stays : next ≡ m = step.goes_on ∙ ap (after_answer m) none in (
       subst (λ (s : StoreContents). IsAnswer root s request (unchanged reply)) (sym stands) (subst (IsAnswer root (stock_of m) request) same step.answers),

@@ -52,36 +52,37 @@ Applies (Ok x) outcome =
     × (outcome.new ≡ x.1)
 Applies (Err fault) outcome = Refuses (Apply (apply_fault_of fault)) outcome
 
--- a diff document is applied to a replica of the document `mine`; another body is refused
+-- a diff document is applied to a replica of the document `followed_id`; another body is refused
 abbrev pub TakesNotice : DocId → Result Tree NoticeFault → FollowOutcome → Type 0
-TakesNotice mine (Ok notice) outcome =
+TakesNotice followed_id (Ok notice) outcome =
     (stated : Result (CopyAnswer × ReplicaContents) CopyFault)
-    × Replays (is_name_of mine) notice outcome.old stated × Applies stated outcome
-TakesNotice mine (Err fault) outcome = Refuses (Notice fault) outcome
+    × Replays (is_name_of followed_id) notice outcome.old stated × Applies stated outcome
+TakesNotice followed_id (Err fault) outcome = Refuses (Notice fault) outcome
 
 -- the body of a reply is read where the status is 200
 abbrev pub Takes : DocId → SentReply → FollowOutcome → Type 0
-Takes mine reply outcome =
+Takes followed_id reply outcome =
     MatchBool (reply.status == 200)
     ((read : Result Tree NoticeFault) × NoticeAnswer reply.body read
-    × TakesNotice mine read outcome)
+    × TakesNotice followed_id read outcome)
     (Refuses (Status reply.status) outcome)
 
--- the machine's reply to the request for the feed since a tag, with a replica of `mine`
-abbrev pub FollowsFrom : FeedQuery → DocId → List ℕ → FollowOutcome → Type 0
-FollowsFrom query mine tag outcome =
+-- the machine's reply to the request for the feed since a tag, with a replica of `followed_id`
+abbrev pub FollowsSinceTag : FeedQuery → DocId → List ℕ → FollowOutcome → Type 0
+FollowsSinceTag query followed_id tag outcome =
     (reply : SentReply)
     × IsAnswer query.root query.content (feed_request query.root query.mode tag query.doc)
     (unchanged reply)
-    × Takes mine reply outcome
+    × Takes followed_id reply outcome
 
 -- the replica's version, and its tag
 abbrev pub FollowsHeld : FeedQuery → DocId → FollowOutcome → Option (List ℕ × Tree) → Type 0
-FollowsHeld query mine outcome None = Refuses Nothing outcome
-FollowsHeld query mine outcome (Some version) =
-    MatchBool (is_some (tag_spelled version.0)) (FollowsFrom query mine version.0 outcome)
+FollowsHeld query followed_id outcome None = Refuses Nothing outcome
+FollowsHeld query followed_id outcome (Some version) =
+    MatchBool (is_some (tag_spelled version.0))
+    (FollowsSinceTag query followed_id version.0 outcome)
     (Refuses BadTag outcome)
 
--- what comes of following a document with a replica of the document `mine`
+-- what comes of following a document with a replica of the document `followed_id`
 abbrev pub Follows : FeedQuery → DocId → FollowOutcome → Type 0
-Follows query mine outcome = FollowsHeld query mine outcome outcome.old
+Follows query followed_id outcome = FollowsHeld query followed_id outcome outcome.old

@@ -12,12 +12,16 @@ pub fn bytes_of(rt: &HostRuntime, name: &str, ending: &str) -> Result<Vec<u8>> {
 }
 
 // The place of the first difference of two texts.
-fn first_difference(wanted: &[u8], came: &[u8]) -> usize {
-    wanted.iter().zip(came).take_while(|(w, c)| w == c).count()
+fn first_difference(wanted: &[u8], matches_file: &[u8]) -> usize {
+    wanted
+        .iter()
+        .zip(matches_file)
+        .take_while(|(w, c)| w == c)
+        .count()
 }
 
 /// Whether these bytes are those of the case's file with an ending. Prints where they differ.
-pub fn came(rt: &HostRuntime, name: &str, ending: &str, bytes: &[u8]) -> Result<bool> {
+pub fn matches_file(rt: &HostRuntime, name: &str, ending: &str, bytes: &[u8]) -> Result<bool> {
     let wanted = bytes_of(rt, name, ending)?;
     if wanted.as_slice() == bytes {
         return Ok(true);

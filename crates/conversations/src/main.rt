@@ -14,7 +14,7 @@ mod shared_line;
 
 use crate::case_options::{CaseOptions, parse_runs};
 use crate::files::bytes_of;
-use crate::run::leaves;
+use crate::run::passes;
 use anyhow::Result;
 use std::env;
 use std::process::ExitCode;
@@ -24,8 +24,8 @@ const WHOLE: usize = 1_000_000;
 
 // Whether a run of a case goes as written, with whole bytes and byte by byte.
 fn is_as_written(rt: &HostRuntime, name: &str, options: &CaseOptions) -> Result<bool> {
-    let whole = leaves(rt, name, options, WHOLE)?;
-    Ok(leaves(rt, name, options, 1)? && whole)
+    let whole = passes(rt, name, options, WHOLE)?;
+    Ok(passes(rt, name, options, 1)? && whole)
 }
 
 // The options of each run of a case.

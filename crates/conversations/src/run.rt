@@ -1,6 +1,6 @@
 //! Runs of the program in memory.
 use crate::case_options::CaseOptions;
-use crate::files::came;
+use crate::files::matches_file;
 use crate::lines::{Lines, ROOM};
 use crate::shared_line::SharedStream;
 use anyhow::Result;
@@ -64,7 +64,7 @@ fn check_status(rt: &HostRuntime, name: &str, wanted: u8, status: u8) -> Result<
 }
 
 // Whether a stream of a kind with a number, from 0, took the expected bytes.
-fn took(
+fn output_matches(
     rt: &HostRuntime,
     name: &str,
     kind: &str,
@@ -73,33 +73,38 @@ fn took(
 ) -> Result<bool> {
     let ending = format!(in rt.alloc(); "{kind}{}.out", index as u128 + 1)?;
     match line {
-        Some(line) => came(rt, name, ending.as_str(), line.sent()),
+        Some(line) => matches_file(rt, name, ending.as_str(), line.sent()),
         None => Ok(true),
     }
 }
 
 // Whether the connections and the peer's connections took the expected bytes.
-fn all_took(rt: &HostRuntime, name: &str, options: &CaseOptions, lines: &Lines) -> Result<bool> {
+fn all_outputs_match(
+    rt: &HostRuntime,
+    name: &str,
+    options: &CaseOptions,
+    lines: &Lines,
+) -> Result<bool> {
     let mut alike = true;
     for index in 0..options.connections {
-        alike &= took(rt, name, "", index, lines.port.line(index))?;
+        alike &= output_matches(rt, name, "", index, lines.port.line(index))?;
     }
     for index in 0..options.peers {
-        alike &= took(rt, name, "peer", index, lines.peer.line(index))?;
+        alike &= output_matches(rt, name, "peer", index, lines.peer.line(index))?;
     }
     Ok(alike)
 }
 
 // Whether the output, the stream for errors and the audit took the expected bytes.
-fn wrote(rt: &HostRuntime, name: &str, lines: &Lines, told: &SharedStream) -> Result<bool> {
-    let mut alike = came(rt, name, "out", lines.output.sent())?;
-    alike &= came(rt, name, "errors", lines.errors.sent())?;
+fn streams_match(rt: &HostRuntime, name: &str, lines: &Lines, told: &SharedStream) -> Result<bool> {
+    let mut alike = matches_file(rt, name, "out", lines.output.sent())?;
+    alike &= matches_file(rt, name, "errors", lines.errors.sent())?;
     let told = told.sent(rt.alloc())?;
-    Ok(came(rt, name, "audit", &told)? && alike)
+    Ok(matches_file(rt, name, "audit", &told)? && alike)
 }
 
 // Whether a run of a case on these streams has the expected status and bytes.
-fn leaves_on(
+fn passes_on(
     rt: &HostRuntime,
     name: &str,
     options: &CaseOptions,
@@ -108,14 +113,14 @@ fn leaves_on(
 ) -> Result<bool> {
     let status = status_of(rt.alloc(), options.words.as_str(), lines, told)?;
     let mut alike = check_status(rt, name, options.status, status)?;
-    alike &= wrote(rt, name, lines, told)?;
-    Ok(all_took(rt, name, options, lines)? && alike)
+    alike &= streams_match(rt, name, lines, told)?;
+    Ok(all_outputs_match(rt, name, options, lines)? && alike)
 }
 
 /// Whether a run of a case whose bytes come in pieces of this size has the expected status and
 /// bytes.
-pub fn leaves(rt: &HostRuntime, name: &str, options: &CaseOptions, size: usize) -> Result<bool> {
+pub fn passes(rt: &HostRuntime, name: &str, options: &CaseOptions, size: usize) -> Result<bool> {
     let told = SharedStream::new(rt.alloc(), ROOM)?;
     let mut lines = Lines::new(rt, name, options, size)?;
-    leaves_on(rt, name, options, &mut lines, &told)
+    passes_on(rt, name, options, &mut lines, &told)
 }

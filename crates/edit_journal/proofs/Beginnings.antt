@@ -5,7 +5,7 @@ use Rattle.http_wire.specs.declared.request.Request.{Request}
 use Rattle.edit_journal.specs.Records.{record_of}
 use Rattle.edit_journal.specs.Texts.{text, IsRecordedRequest}
 use Rattle.edit_journal.proofs.Lengths.{record_length}
-use Rattle.edit_journal.proofs.Wholes.{one_record}
+use Rattle.edit_journal.proofs.CompleteRequests.{one_record}
 
 -- of two prefixes of a list the longer one continues the shorter one
 pub longer_split : {A : Type 0} (xs ys xs' ys' : List A) → length xs ≤ length xs' → xs ++ ys ≡ xs' ++ ys' → (mid : List A) × (xs' ≡ xs ++ mid) × (ys ≡ mid ++ ys')

@@ -9,7 +9,7 @@ use Rattle.edit_journal.specs.Logs.{HoldsRecords, LogState}
 use Rattle.edit_journal.specs.Records.{record_of}
 use Rattle.edit_journal.specs.Texts.{text, HasNoRecord, IsRecordedRequest, IsTorn, Whole}
 use Rattle.edit_journal.proofs.WholeRecords.{text-append}
-use Rattle.edit_journal.proofs.Wholes.{first_ones, nothing_torn}
+use Rattle.edit_journal.proofs.CompleteRequests.{first_ones, nothing_torn}
 use Rattle.edit_journal.specs.JournalPrefixes.{BreaksOff, IsTornOf}
 use Rattle.edit_journal.proofs.Beginnings.{begin_alike, longer_split, nothing_before}
 

@@ -9,7 +9,7 @@ use Rattle.std.specs.Int.{w32, to_be_bytes}
 use Rattle.edit_journal.proofs.Blocks.{block_is}
 use Rattle.edit_journal.proofs.Lengths.{record_length}
 use Rattle.edit_journal.proofs.Numbers.{number_there}
-use Rattle.edit_journal.proofs.Wholes.{no_record_in}
+use Rattle.edit_journal.proofs.CompleteRequests.{no_record_in}
 
 -- the length of the record at the front
 record_len_is : (request : Request) (bytes rest : List ℕ) → BeginsWith bytes request rest → 4 + padded_u32 bytes 0 ≡ length (record_of request)

@@ -1,6 +1,7 @@
 pub mod Beginnings
 pub mod Blocks
 pub mod Broken
+pub mod CompleteRequests
 pub mod Contents
 pub mod Fields
 pub mod Fronts
@@ -18,4 +19,3 @@ pub mod RestartLemmas
 pub mod Rests
 pub mod Rounds
 pub mod WholeRecords
-pub mod Wholes

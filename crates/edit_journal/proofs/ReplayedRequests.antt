@@ -10,10 +10,10 @@ use Rattle.edit_journal.specs.declared.journal_restart.RestartFault.{RestartFaul
 use Rattle.edit_journal.specs.declared.journal_restart.RestartFault.TheVariants.{ReadFailed, AppendFailed, Damaged, Refused, TooLong, NoMemory}
 use Rattle.edit_journal.specs.Records.{record_of}
 use Rattle.edit_journal.specs.Journals.{JournalState, IsJournalProgress, IsFirstOf, AddsSome}
-use Rattle.edit_journal.specs.Logs.{LogState, Fits, KeepsWhole, AddsRecord, log_with}
+use Rattle.edit_journal.specs.Logs.{LogState, LoggedJournal, Fits, KeepsWhole, AddsRecord, log_with}
 use Rattle.edit_journal.specs.Replayers.{MeansTheSame, Redoes, RedoesAll}
 use Rattle.edit_journal.specs.Texts.{text, IsRecordedRequest}
-use Rattle.edit_journal.specs.inner.ReplaySteps.{ReplayStep, StopsAs, Stops, RedoesHeld, fault_of}
+use Rattle.edit_journal.specs.inner.ReplaySteps.{ReplayProgress, ReplayStep, StopsAs, Stops, RedoesHeld, fault_of}
 use Rattle.edit_journal.proofs.JournalCalls.{goes_none, goes_on}
 use Rattle.edit_journal.proofs.WholeRecords.{text-append}
 use Rattle.edit_journal.proofs.Lengths.{record_length}
@@ -23,6 +23,14 @@ use Rattle.edit_journal.proofs.LogLemmas.{whole_len}
 pub records_longer : (requests : List Request) → length requests ≤ length (text requests)
 records_longer [] = omega arith
 records_longer (request ∷ requests) = omega (arith, records_longer requests, length-append (record_of request) (text requests), record_length request)
+
+-- a restart with these parts
+abbrev pub replay_progress : {S : Type 0} → S → JournalState → LogState → ℕ → ReplayProgress S
+replay_progress replayer journal log count = record { replayer = replayer; journal = journal; log = log; count = count }
+
+-- the new journal of a restart with its log
+abbrev pub journal_with_log : {S : Type 0} → ReplayProgress S → LoggedJournal
+journal_with_log at = record { log = at.log; journal = at.journal }
 
 module _ {S : Type 0} (stands : S → List Request → Type 0) (refuses : S → Request → Type 0) where
   pub means_refl : (x : S) → MeansTheSame stands refuses x x
@@ -63,85 +71,85 @@ module _ {S : Type 0} (stands : S → List Request → Type 0) (refuses : S → 
       let sum : log'.len + length (text next) ≡ log.len + length (text (first ++ next)) = omega (arith, len, size) in
       q ∙ ap (λ n. record { len = n; is_torn = false }) sum
 
-  pub redone_none : (journal : JournalState) (replayer : S) (log : LogState) (count : ℕ) → log.is_torn ≡ false → ReplayStep stands refuses journal journal replayer replayer log log count count []
-  redone_none journal replayer log count whole = record {
+  pub redone_none : (at : ReplayProgress S) → at.log.is_torn ≡ false → ReplayStep stands refuses at at []
+  redone_none at whole = record {
     told = All-nil IsRecordedRequest;
-    redone = means_refl replayer;
-    held = sym (append-nil journal.held);
+    redone = means_refl at.replayer;
+    held = sym (append-nil at.journal.held);
     added =
-        let sum : log.len ≡ log.len + 0 = omega arith in
+        let sum : at.log.len ≡ at.log.len + 0 = omega arith in
         λ i. record { len = sum i; is_torn = whole i };
     counted = omega arith;
-    goes = goes_none journal;
+    goes = goes_none at.journal;
     no_fault = refl;
   }
 
-  pub redone_on : (j0 j1 j2 : JournalState) (s0 s1 s2 : S) (l0 l1 l2 : LogState) (c0 c1 c2 : ℕ) (first next : List Request)
-      → ReplayStep stands refuses j0 j1 s0 s1 l0 l1 c0 c1 first → ReplayStep stands refuses j1 j2 s1 s2 l1 l2 c1 c2 next → ReplayStep stands refuses j0 j2 s0 s2 l0 l2 c0 c2 (first ++ next)
-  redone_on j0 j1 j2 s0 s1 s2 l0 l1 l2 c0 c1 c2 first next p q = record {
+  pub redone_on : (r0 r1 r2 : ReplayProgress S) (first next : List Request)
+      → ReplayStep stands refuses r0 r1 first → ReplayStep stands refuses r1 r2 next → ReplayStep stands refuses r0 r2 (first ++ next)
+  redone_on r0 r1 r2 first next p q = record {
     told = All-append IsRecordedRequest first next p.told q.told;
-    redone = redoes_all_on s0 s1 s2 first next p.redone q.redone;
-    held = q.held ∙ held_on j0.held j1.held first next p.held;
-    added = log_on l0 l1 l2 first next p.added q.added;
+    redone = redoes_all_on r0.replayer r1.replayer r2.replayer first next p.redone q.redone;
+    held = q.held ∙ held_on r0.journal.held r1.journal.held first next p.held;
+    added = log_on r0.log r1.log r2.log first next p.added q.added;
     counted = omega (arith, p.counted, q.counted, length-append first next);
-    goes = goes_on j0 j1 j2 p.goes q.goes;
+    goes = goes_on r0.journal r1.journal r2.journal p.goes q.goes;
     no_fault = q.no_fault ∙ p.no_fault;
   }
 
   -- how it stopped after the first requests and these
-  stops_as_on : (j0 j1 j2 : JournalState) (s0 s1 s2 : S) (l0 l1 : LogState) (c0 c1 : ℕ) (first next : List Request) (rest : List ℕ) (fault : RestartFault)
-      → ReplayStep stands refuses j0 j1 s0 s1 l0 l1 c0 c1 first → StopsAs stands refuses j1 j2 s2 l1 c1 next rest fault → StopsAs stands refuses j0 j2 s2 l0 c0 (first ++ next) rest fault
-  stops_as_on j0 j1 j2 s0 s1 s2 l0 l1 c0 c1 first next rest ReadFailed p q = q
-  stops_as_on j0 j1 j2 s0 s1 s2 l0 l1 c0 c1 first next rest AppendFailed p ((before, last, is, (some, front, held)), rose) = (
+  stops_as_on : (r0 r1 r2 : ReplayProgress S) (first next : List Request) (rest : List ℕ) (fault : RestartFault)
+      → ReplayStep stands refuses r0 r1 first → StopsAs stands refuses r1 r2 next rest fault → StopsAs stands refuses r0 r2 (first ++ next) rest fault
+  stops_as_on r0 r1 r2 first next rest ReadFailed p q = q
+  stops_as_on r0 r1 r2 first next rest AppendFailed p ((before, last, is, (some, front, held)), rose) = (
     (
       first ++ before,
       last,
       ap (λ l. first ++ l) is ∙ sym (append_assoc first before (last ∷ [])),
-      (some, front, held ∙ ap (λ l. l ++ some) (held_on j0.held j1.held first before p.held)),
+      (some, front, held ∙ ap (λ l. l ++ some) (held_on r0.journal.held r1.journal.held first before p.held)),
     ),
     omega (arith, rose, p.no_fault),
   )
-  stops_as_on j0 j1 j2 s0 s1 s2 l0 l1 c0 c1 first next rest (Damaged place) p (held, damaged, is, none) =
-      let len : l1.len ≡ l0.len + length (text first) = ap (λ (l : LogState). l.len) p.added in
+  stops_as_on r0 r1 r2 first next rest (Damaged place) p (held, damaged, is, none) =
+      let len : r1.log.len ≡ r0.log.len + length (text first) = ap (λ (l : LogState). l.len) p.added in
       let size : length (text (first ++ next)) ≡ length (text first) + length (text next) = ap length (text-append first next) ∙ length-append (text first) (text next) in
-      (held ∙ held_on j0.held j1.held first next p.held, damaged, omega (arith, is, len, size), none ∙ p.no_fault)
-  stops_as_on j0 j1 j2 s0 s1 s2 l0 l1 c0 c1 first next rest (Refused number) p (held, refused, is, none) =
-      (held ∙ held_on j0.held j1.held first next p.held, refused, omega (arith, is, p.counted, length-append first next), none ∙ p.no_fault)
-  stops_as_on j0 j1 j2 s0 s1 s2 l0 l1 c0 c1 first next rest TooLong p q = q
-  stops_as_on j0 j1 j2 s0 s1 s2 l0 l1 c0 c1 first next rest NoMemory p ((before, more, is, held), none) = (
+      (held ∙ held_on r0.journal.held r1.journal.held first next p.held, damaged, omega (arith, is, len, size), none ∙ p.no_fault)
+  stops_as_on r0 r1 r2 first next rest (Refused number) p (held, refused, is, none) =
+      (held ∙ held_on r0.journal.held r1.journal.held first next p.held, refused, omega (arith, is, p.counted, length-append first next), none ∙ p.no_fault)
+  stops_as_on r0 r1 r2 first next rest TooLong p q = q
+  stops_as_on r0 r1 r2 first next rest NoMemory p ((before, more, is, held), none) = (
     (
       first ++ before,
       more,
       ap (λ l. first ++ l) is ∙ sym (append_assoc first before more),
-      held ∙ held_on j0.held j1.held first before p.held,
+      held ∙ held_on r0.journal.held r1.journal.held first before p.held,
     ),
     none ∙ p.no_fault,
   )
 
-  pub stops_on : (j0 j1 j2 : JournalState) (s0 s1 s2 : S) (l0 l1 : LogState) (c0 c1 : ℕ) (first : List Request) (bytes left : List ℕ) (fault : RestartFault)
-      → ReplayStep stands refuses j0 j1 s0 s1 l0 l1 c0 c1 first → bytes ≡ text first ++ left → Stops stands refuses j1 j2 s1 s2 l1 c1 left fault → Stops stands refuses j0 j2 s0 s2 l0 c0 bytes fault
-  stops_on j0 j1 j2 s0 s1 s2 l0 l1 c0 c1 first bytes left fault p split q = record {
+  pub stops_on : (r0 r1 r2 : ReplayProgress S) (first : List Request) (bytes left : List ℕ) (fault : RestartFault)
+      → ReplayStep stands refuses r0 r1 first → bytes ≡ text first ++ left → Stops stands refuses r1 r2 left fault → Stops stands refuses r0 r2 bytes fault
+  stops_on r0 r1 r2 first bytes left fault p split q = record {
     requests = first ++ q.requests;
     rest = q.rest;
     told = All-append IsRecordedRequest first q.requests p.told q.told;
     split = split ∙ ap (λ l. text first ++ l) q.split ∙ sym (append_assoc (text first) (text q.requests) q.rest) ∙ ap (λ l. l ++ q.rest) (sym (text-append first q.requests));
-    redone = redoes_all_on s0 s1 s2 first q.requests p.redone q.redone;
-    ending = stops_as_on j0 j1 j2 s0 s1 s2 l0 l1 c0 c1 first q.requests q.rest fault p q.ending;
-    goes = goes_on j0 j1 j2 p.goes q.goes;
+    redone = redoes_all_on r0.replayer r1.replayer r2.replayer first q.requests p.redone q.redone;
+    ending = stops_as_on r0 r1 r2 first q.requests q.rest fault p q.ending;
+    goes = goes_on r0.journal r1.journal r2.journal p.goes q.goes;
   }
 
   -- the request at the front is refused
-  pub stops_refused : (journal : JournalState) (replayer replayer' : S) (log : LogState) (count number : ℕ) (request : Request) (more : List ℕ) → IsRecordedRequest request
-      → refuses replayer request × MeansTheSame stands refuses replayer replayer' → number ≡ count + 1
-      → Stops stands refuses journal journal replayer replayer' log count (record_of request ++ more) (Refused number)
-  stops_refused journal replayer replayer' log count number request more told (refused, same) is = record {
+  pub stops_refused : (at : ReplayProgress S) (replayer' : S) (number : ℕ) (request : Request) (more : List ℕ) → IsRecordedRequest request
+      → refuses at.replayer request × MeansTheSame stands refuses at.replayer replayer' → number ≡ at.count + 1
+      → Stops stands refuses at (record at { replayer = replayer' }) (record_of request ++ more) (Refused number)
+  stops_refused at replayer' number request more told (refused, same) is = record {
     requests = [];
     rest = record_of request ++ more;
     told = All-nil IsRecordedRequest;
     split = refl;
     redone = same;
-    ending = (sym (append-nil journal.held), (request, more, (told, refl), (same.refuses_too request).1 refused), omega (arith, is), refl);
-    goes = goes_none journal;
+    ending = (sym (append-nil at.journal.held), (request, more, (told, refl), (same.refuses_too request).1 refused), omega (arith, is), refl);
+    goes = goes_none at.journal;
   }
 
   one_told : (request : Request) → IsRecordedRequest request → All IsRecordedRequest (request ∷ [])
@@ -159,77 +167,75 @@ module _ {S : Type 0} (stands : S → List Request → Type 0) (refuses : S → 
       first_of_none (b ∷ rest) bytes p = absurd (omega (arith, ap length p.1))
 
   -- a request was replayed, and then its record was to be added
-  pub one_redone : (journal journal' : JournalState) (replayer replayer' : S) (log log' : LogState) (count count' : ℕ) (request : Request) (more : List ℕ)
-      → IsRecordedRequest request → log.is_torn ≡ false → Fits log journal → Redoes stands refuses replayer request Done replayer' → count' ≡ count + 1
-      → AddsRecord (record { log = log; journal = journal }) (record_of request) (Ok tt) (record { log = log'; journal = journal' }) → IsJournalProgress journal journal'
-      → RedoesHeld stands refuses journal journal' replayer replayer' log log' count count' (record_of request ++ more) more (Ok tt)
-  one_redone journal journal' replayer replayer' log log' count count' request more told whole fits redo counts (added, held, none) goes =
-      let all : take log.len journal.held ≡ journal.held = take_all log.len journal.held (omega (arith, whole_len log journal whole fits)) in (
+  pub one_redone : (old new : ReplayProgress S) (request : Request) (more : List ℕ) → IsRecordedRequest request → old.log.is_torn ≡ false → Fits old.log old.journal
+      → Redoes stands refuses old.replayer request Done new.replayer → new.count ≡ old.count + 1 → AddsRecord (journal_with_log old) (record_of request) (Ok tt) (journal_with_log new) → IsJournalProgress old.journal new.journal
+      → RedoesHeld stands refuses old new (record_of request ++ more) more (Ok tt)
+  one_redone old new request more told whole fits redo counts (added, held, none) goes =
+      let all : take old.log.len old.journal.held ≡ old.journal.held = take_all old.log.len old.journal.held (omega (arith, whole_len old.log old.journal whole fits)) in (
         request ∷ [],
         ap (λ l. l ++ more) (sym (append-nil (record_of request))),
         record {
           told = one_told request told;
-          redone = redoes_one replayer replayer' request redo;
-          held = held ∙ ap (λ l. l ++ record_of request) all ∙ ap (λ l. journal.held ++ l) (sym (append-nil (record_of request)));
-          added = added ∙ ap (λ l. log_with log l) (sym (append-nil (record_of request)));
+          redone = redoes_one old.replayer new.replayer request redo;
+          held = held ∙ ap (λ l. l ++ record_of request) all ∙ ap (λ l. old.journal.held ++ l) (sym (append-nil (record_of request)));
+          added = added ∙ ap (λ l. log_with old.log l) (sym (append-nil (record_of request)));
           counted = omega (arith, counts);
           goes = goes;
           no_fault = none;
         },
       )
 
-  pub one_stopped : (journal journal' : JournalState) (replayer replayer' : S) (log log' : LogState) (count : ℕ) (request : Request) (fault : AppendFault) (more : List ℕ)
-      → IsRecordedRequest request → log.is_torn ≡ false → Fits log journal → Redoes stands refuses replayer request Done replayer'
-      → AddsRecord (record { log = log; journal = journal }) (record_of request) (Err fault) (record { log = log'; journal = journal' }) → IsJournalProgress journal journal'
-      → Stops stands refuses journal journal' replayer replayer' log count (record_of request ++ more) (fault_of fault)
-  one_stopped journal journal' replayer replayer' log log' count request Failed more told whole fits redo (torn, kept, rose) goes = record {
+  pub one_stopped : (old new : ReplayProgress S) (request : Request) (fault : AppendFault) (more : List ℕ) → IsRecordedRequest request → old.log.is_torn ≡ false → Fits old.log old.journal
+      → Redoes stands refuses old.replayer request Done new.replayer → AddsRecord (journal_with_log old) (record_of request) (Err fault) (journal_with_log new) → IsJournalProgress old.journal new.journal
+      → Stops stands refuses old new (record_of request ++ more) (fault_of fault)
+  one_stopped old new request Failed more told whole fits redo (torn, kept, rose) goes = record {
     requests = request ∷ [];
     rest = more;
     told = one_told request told;
     split = ap (λ l. l ++ more) (sym (append-nil (record_of request)));
-    redone = redoes_one replayer replayer' request redo;
+    redone = redoes_one old.replayer new.replayer request redo;
     ending =
-        let adds = some_added journal.held journal'.held log.len (record_of request) (whole_len log journal whole fits) kept in
-        (([], request, refl, (adds.0, adds.1, adds.2 ∙ ap (λ l. l ++ adds.0) (sym (append-nil journal.held)))), rose);
+        let adds = some_added old.journal.held new.journal.held old.log.len (record_of request) (whole_len old.log old.journal whole fits) kept in
+        (([], request, refl, (adds.0, adds.1, adds.2 ∙ ap (λ l. l ++ adds.0) (sym (append-nil old.journal.held)))), rose);
     goes = goes;
   }
-  one_stopped journal journal' replayer replayer' log log' count request NoRecord more told whole fits redo (same, stays) goes = record {
+  one_stopped old new request NoRecord more told whole fits redo (same, stays) goes = record {
     requests = request ∷ [];
     rest = more;
     told = one_told request told;
     split = ap (λ l. l ++ more) (sym (append-nil (record_of request)));
-    redone = redoes_one replayer replayer' request redo;
-    ending = (([], request ∷ [], refl, ap (λ (j : JournalState). j.held) stays ∙ sym (append-nil journal.held)), ap (λ (j : JournalState). j.faults) stays);
+    redone = redoes_one old.replayer new.replayer request redo;
+    ending = (([], request ∷ [], refl, ap (λ (j : JournalState). j.held) stays ∙ sym (append-nil old.journal.held)), ap (λ (j : JournalState). j.faults) stays);
     goes = goes;
   }
 
   -- some requests were replayed, and then more
-  pub held_next : (j0 j1 j2 : JournalState) (s0 s1 s2 : S) (l0 l1 l2 : LogState) (c0 c1 c2 : ℕ) (bytes left more rest : List ℕ)
-      → RedoesHeld stands refuses j0 j1 s0 s1 l0 l1 c0 c1 bytes left (Ok tt) → left ≡ more → RedoesHeld stands refuses j1 j2 s1 s2 l1 l2 c1 c2 more rest (Ok tt)
-      → RedoesHeld stands refuses j0 j2 s0 s2 l0 l2 c0 c2 bytes rest (Ok tt)
-  held_next j0 j1 j2 s0 s1 s2 l0 l1 l2 c0 c1 c2 bytes left more rest (first, split, p) same (next, split', q) = (
+  pub held_next : (r0 r1 r2 : ReplayProgress S) (bytes left more rest : List ℕ)
+      → RedoesHeld stands refuses r0 r1 bytes left (Ok tt) → left ≡ more → RedoesHeld stands refuses r1 r2 more rest (Ok tt)
+      → RedoesHeld stands refuses r0 r2 bytes rest (Ok tt)
+  held_next r0 r1 r2 bytes left more rest (first, split, p) same (next, split', q) = (
     first ++ next,
     split ∙ ap (λ l. text first ++ l) (same ∙ split') ∙ sym (append_assoc (text first) (text next) rest) ∙ ap (λ l. l ++ rest) (sym (text-append first next)),
-    redone_on j0 j1 j2 s0 s1 s2 l0 l1 l2 c0 c1 c2 first next p q,
+    redone_on r0 r1 r2 first next p q,
   )
 
   -- some requests were replayed, and then it stopped
-  pub held_stops : (j0 j1 j2 : JournalState) (s0 s1 s2 : S) (l0 l1 : LogState) (c0 c1 : ℕ) (bytes left more : List ℕ) (fault : RestartFault)
-      → RedoesHeld stands refuses j0 j1 s0 s1 l0 l1 c0 c1 bytes left (Ok tt) → left ≡ more → Stops stands refuses j1 j2 s1 s2 l1 c1 more fault
-      → Stops stands refuses j0 j2 s0 s2 l0 c0 bytes fault
-  held_stops j0 j1 j2 s0 s1 s2 l0 l1 c0 c1 bytes left more fault (first, split, p) same q =
-      stops_on j0 j1 j2 s0 s1 s2 l0 l1 c0 c1 first bytes more fault p (split ∙ ap (λ l. text first ++ l) same) q
+  pub held_stops : (r0 r1 r2 : ReplayProgress S) (bytes left more : List ℕ) (fault : RestartFault)
+      → RedoesHeld stands refuses r0 r1 bytes left (Ok tt) → left ≡ more → Stops stands refuses r1 r2 more fault
+      → Stops stands refuses r0 r2 bytes fault
+  held_stops r0 r1 r2 bytes left more fault (first, split, p) same q =
+      stops_on r0 r1 r2 first bytes more fault p (split ∙ ap (λ l. text first ++ l) same) q
 
   -- the log is no longer than it was plus the bytes
-  pub held_short : (j0 j1 : JournalState) (s0 s1 : S) (l0 l1 : LogState) (c0 c1 : ℕ) (bytes left : List ℕ) → RedoesHeld stands refuses j0 j1 s0 s1 l0 l1 c0 c1 bytes left (Ok tt)
-      → l1.len + length left ≡ l0.len + length bytes
-  held_short j0 j1 s0 s1 l0 l1 c0 c1 bytes left (requests, split, p) =
-      let len : l1.len ≡ l0.len + length (text requests) = ap (λ (l : LogState). l.len) p.added in
+  pub held_short : (r0 r1 : ReplayProgress S) (bytes left : List ℕ) → RedoesHeld stands refuses r0 r1 bytes left (Ok tt)
+      → r1.log.len + length left ≡ r0.log.len + length bytes
+  held_short r0 r1 bytes left (requests, split, p) =
+      let len : r1.log.len ≡ r0.log.len + length (text requests) = ap (λ (l : LogState). l.len) p.added in
       omega (arith, len, ap length split, length-append (text requests) left)
 
   -- and it has at least as many bytes as records were counted
-  pub held_few : (j0 j1 : JournalState) (s0 s1 : S) (l0 l1 : LogState) (c0 c1 : ℕ) (bytes left : List ℕ) → c0 ≤ l0.len → RedoesHeld stands refuses j0 j1 s0 s1 l0 l1 c0 c1 bytes left (Ok tt)
-      → c1 ≤ l1.len
-  held_few j0 j1 s0 s1 l0 l1 c0 c1 bytes left few (requests, split, p) =
-      let len : l1.len ≡ l0.len + length (text requests) = ap (λ (l : LogState). l.len) p.added in
+  pub held_few : (r0 r1 : ReplayProgress S) (bytes left : List ℕ) → r0.count ≤ r0.log.len → RedoesHeld stands refuses r0 r1 bytes left (Ok tt)
+      → r1.count ≤ r1.log.len
+  held_few r0 r1 bytes left few (requests, split, p) =
+      let len : r1.log.len ≡ r0.log.len + length (text requests) = ap (λ (l : LogState). l.len) p.added in
       omega (arith, few, len, p.counted, records_longer requests)

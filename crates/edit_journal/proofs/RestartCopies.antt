@@ -5,7 +5,7 @@ use Rattle.http_wire.specs.declared.request.Request.{Request}
 use Rattle.edit_journal.specs.Journals.{AddsSome, IsFirstOf}
 use Rattle.edit_journal.specs.Logs.{LogState}
 use Rattle.edit_journal.specs.Records.{record_of}
-use Rattle.edit_journal.specs.Limits.{max_journal_bytes}
+use Rattle.edit_journal.specs.declared.limits.TheConstants.{MAX_JOURNAL_BYTES}
 use Rattle.edit_journal.specs.Restarts.{RestartState, Restarts}
 use Rattle.edit_journal.specs.Texts.{text, IsRecordedRequest, Whole}
 use Rattle.edit_journal.specs.declared.journal_restart.RestartFault.{RestartFault}
@@ -24,11 +24,11 @@ first_some requests before last held is (some, (more, is'), is'') = (
   ap text is ∙ text-append before (last ∷ []) ∙ ap (λ l. text before ++ l) (append-nil (record_of last) ∙ is') ∙ sym (append_assoc (text before) some more) ∙ ap (λ l. l ++ more) (sym is''),
 )
 
-module _ (bytes rest : List ℕ) (requests : List Request) (split : take max_journal_bytes bytes ≡ text requests ++ rest) where
+module _ (bytes rest : List ℕ) (requests : List Request) (split : take MAX_JOURNAL_BYTES bytes ≡ text requests ++ rest) where
   of_bytes : (held : List ℕ) → IsFirstOf held (text requests) → IsFirstOf held bytes
   of_bytes held begins =
       first_of_first held (text requests) bytes begins
-      (rest ++ drop max_journal_bytes bytes, sym (take-append-drop max_journal_bytes bytes) ∙ ap (λ l. l ++ drop max_journal_bytes bytes) split ∙ append_assoc (text requests) rest (drop max_journal_bytes bytes))
+      (rest ++ drop MAX_JOURNAL_BYTES bytes, sym (take-append-drop MAX_JOURNAL_BYTES bytes) ∙ ap (λ l. l ++ drop MAX_JOURNAL_BYTES bytes) split ∙ append_assoc (text requests) rest (drop MAX_JOURNAL_BYTES bytes))
 
   all_of_it : (held : List ℕ) → held ≡ text requests → IsFirstOf held bytes
   all_of_it held is = of_bytes held ([], sym is ∙ sym (append-nil held))

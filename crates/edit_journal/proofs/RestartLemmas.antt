@@ -5,13 +5,13 @@ use Rattle.http_wire.specs.declared.request.Request.{Request}
 use Rattle.edit_journal.specs.Journals.{IsFirstOf}
 use Rattle.edit_journal.specs.Logs.{LogState}
 use Rattle.edit_journal.specs.Records.{record_of}
-use Rattle.edit_journal.specs.Limits.{max_journal_bytes}
+use Rattle.edit_journal.specs.declared.limits.TheConstants.{MAX_JOURNAL_BYTES}
 use Rattle.edit_journal.specs.Restarts.{RestartState, Restarts}
 use Rattle.edit_journal.specs.Texts.{text, BeginsWith, HasNoRecord, IsDamaged, IsRecordedRequest}
 use Rattle.edit_journal.specs.declared.journal_restart.RestartFault.{RestartFault}
 use Rattle.edit_journal.specs.declared.journal_restart.RestartFault.TheVariants.{ReadFailed, AppendFailed, Damaged, Refused, TooLong, NoMemory}
 use Rattle.edit_journal.specs.JournalPrefixes.{BreaksOff}
-use Rattle.edit_journal.specs.PrefixRestarts.{EndsBehind}
+use Rattle.edit_journal.specs.PrefixRestarts.{EndsAfter}
 use Rattle.edit_journal.proofs.Beginnings.{begin_alike}
 use Rattle.edit_journal.proofs.Broken.{breaks_off, is_torn}
 
@@ -40,17 +40,17 @@ module _ (all requests : List Request) (bytes rest : List ℕ) (told : All IsRec
 
 module _ {S : Type 0} (stands : S → List Request → Type 0) (refuses : S → Request → Type 0) where
   pub ends_behind : (all : List Request) (old new : RestartState S) (result : Result LogState RestartFault) → All IsRecordedRequest all
-      → (restarts : Restarts stands refuses old new result) → IsFirstOf (take max_journal_bytes restarts.bytes) (text all)
-      → (left : List Request) × EndsBehind refuses (record { all = all; bytes = take max_journal_bytes restarts.bytes; done = restarts.requests; left = left; rest = restarts.rest }) new.replayer result
-  ends_behind all old new (Ok log) told r begins = whole all r.requests (take max_journal_bytes r.bytes) r.rest told begins r.told r.split r.ending.2
-  ends_behind all old new (Err ReadFailed) told r begins = whole all r.requests (take max_journal_bytes r.bytes) r.rest told begins r.told r.split r.ending.1
-  ends_behind all old new (Err AppendFailed) told r begins = first all r.requests (take max_journal_bytes r.bytes) r.rest told begins r.told r.split
+      → (restarts : Restarts stands refuses old new result) → IsFirstOf (take MAX_JOURNAL_BYTES restarts.bytes) (text all)
+      → (left : List Request) × EndsAfter refuses (record { all = all; bytes = take MAX_JOURNAL_BYTES restarts.bytes; done = restarts.requests; left = left; rest = restarts.rest }) new.replayer result
+  ends_behind all old new (Ok log) told r begins = whole all r.requests (take MAX_JOURNAL_BYTES r.bytes) r.rest told begins r.told r.split r.ending.2
+  ends_behind all old new (Err ReadFailed) told r begins = whole all r.requests (take MAX_JOURNAL_BYTES r.bytes) r.rest told begins r.told r.split r.ending.1
+  ends_behind all old new (Err AppendFailed) told r begins = first all r.requests (take MAX_JOURNAL_BYTES r.bytes) r.rest told begins r.told r.split
   ends_behind all old new (Err (Damaged place)) told r begins =
-      absurd (undamaged all r.requests (take max_journal_bytes r.bytes) r.rest told begins r.told r.split r.ending.1)
+      absurd (undamaged all r.requests (take MAX_JOURNAL_BYTES r.bytes) r.rest told begins r.told r.split r.ending.1)
   ends_behind all old new (Err (Refused number)) told r begins =
-      let here = alike all r.requests (take max_journal_bytes r.bytes) r.rest told begins r.told r.split in
+      let here = alike all r.requests (take MAX_JOURNAL_BYTES r.bytes) r.rest told begins r.told r.split in
       let refused = r.ending.1 in
-      let more = next all r.requests (take max_journal_bytes r.bytes) r.rest told begins r.told r.split refused.0 refused.1 refused.2 in
+      let more = next all r.requests (take MAX_JOURNAL_BYTES r.bytes) r.rest told begins r.told r.split refused.0 refused.1 refused.2 in
       (here.0, (here.1, (refused.0, more.0, more.1, refused.3)))
-  ends_behind all old new (Err TooLong) told r begins = whole all r.requests (take max_journal_bytes r.bytes) r.rest told begins r.told r.split r.ending.2
-  ends_behind all old new (Err NoMemory) told r begins = first all r.requests (take max_journal_bytes r.bytes) r.rest told begins r.told r.split
+  ends_behind all old new (Err TooLong) told r begins = whole all r.requests (take MAX_JOURNAL_BYTES r.bytes) r.rest told begins r.told r.split r.ending.2
+  ends_behind all old new (Err NoMemory) told r begins = first all r.requests (take MAX_JOURNAL_BYTES r.bytes) r.rest told begins r.told r.split

@@ -1,7 +1,7 @@
 -- What contracts see of a journal, and what a call on it may change. This is the project's own.
 use Rattle.std.specs.Prelude.{◌≡◌, ℕ, ◌≤◌, ◌⊎◌, List, ◌++◌, take, Result, MatchResult}
 use Rattle.std.specs.Borrow.{GName}
-use Rattle.xcap_io.specs.Causes.{Aside, CountRises, Counts}
+use Rattle.xcap_io.specs.Causes.{HiddenState, CountRises, Counts}
 
 -- A journal at one moment.
 pub record JournalState : Type 0 where
@@ -15,7 +15,7 @@ pub record JournalState : Type 0 where
   pub beneath : ℕ
   -- the references inside the journal, by name, and what it hides of the underlying object
   pub holds : List GName
-  pub aside : List Aside
+  pub aside : List HiddenState
 
 -- Only calls on the journal happened between the two states, if anything did. No counter falls,
 -- and the first fault has a cause in the underlying object. The bytes before the journal's, its

@@ -1,6 +1,5 @@
 pub mod JournalPrefixes
 pub mod Journals
-pub mod Limits
 pub mod LoggedMachines
 pub mod LoggedRequests
 pub mod Logs

@@ -31,8 +31,8 @@ module _ {M E : Type 0} (Step : M → Request → SentReply → M → Option E �
 
   -- How a request was answered, by the edit, if there was one. A request that makes no change is
   -- answered as the machine answers it. One that makes a change was recorded in the log, and is
-  -- answered so, too; or it couldn't be recorded, is answered the 500, and nothing changed except
-  -- the journal after the complete records.
+  -- answered the same way; or it couldn't be recorded, gets a 500, and nothing changed except the
+  -- journal after the complete records.
   pub data Answers (old : JournaledState M) (request : Request) (reply : SentReply)
       (new : JournaledState M) (edit : Option E) : Type 0 where
     stays : edit ≡ None → Step old.machine request reply new.machine None

@@ -5,7 +5,7 @@ use Rattle.reply_text.specs.ReplyHeads.{SentReply}
 use Rattle.http_wire.specs.declared.request.Request.{Request}
 use Rattle.xcap_io.specs.Causes.{RoseBy}
 use Rattle.xml_names.specs.Limits.{u64_max}
-use Rattle.edit_journal.specs.Limits.{max_record_bytes}
+use Rattle.edit_journal.specs.declared.limits.TheConstants.{MAX_RECORD_BYTES}
 use Rattle.edit_journal.specs.Logs.{LogState}
 use Rattle.http_serve.specs.Ports.{ServeOutcome, ServesPort}
 use Rattle.http_serve.specs.ReplyBytes.{InBytes}
@@ -15,7 +15,7 @@ use Rattle.edit_journal.specs.LoggedMachines.{HoldsLog, LoggedStep}
 
 -- n records of any length fit the log, whose length has 64 bits
 abbrev pub HasRoom : LogState → ℕ → Type 0
-HasRoom log records = log.len + records * max_record_bytes ≤ u64_max
+HasRoom log records = log.len + records * MAX_RECORD_BYTES ≤ u64_max
 
 module _ {M W E : Type 0} (Step : M → Request → SentReply → M → Option E → Type 0) where
   -- At most the wanted number of connections was served, by a machine that had accepted these

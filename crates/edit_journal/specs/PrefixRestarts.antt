@@ -27,14 +27,14 @@ module _ {S : Type 0} (refuses : S → Request → Type 0) where
   -- How a restart ended from these bytes. The replayed requests are exactly those complete in the
   -- bytes where it read all that it reads, or all that was given. It never finds damage, and it
   -- stops at a request only where that is refused after the ones before it.
-  abbrev pub EndsBehind : ReplayedPrefix → S → Result LogState RestartFault → Type 0
-  EndsBehind prefix replayer (Ok log) = IsCut prefix
-  EndsBehind prefix replayer (Err ReadFailed) = IsCut prefix
-  EndsBehind prefix replayer (Err TooLong) = IsCut prefix
-  EndsBehind prefix replayer (Err AppendFailed) = prefix.all ≡ prefix.done ++ prefix.left
-  EndsBehind prefix replayer (Err (Damaged place)) = ⊥
-  EndsBehind prefix replayer (Err (Refused number)) =
+  abbrev pub EndsAfter : ReplayedPrefix → S → Result LogState RestartFault → Type 0
+  EndsAfter prefix replayer (Ok log) = IsCut prefix
+  EndsAfter prefix replayer (Err ReadFailed) = IsCut prefix
+  EndsAfter prefix replayer (Err TooLong) = IsCut prefix
+  EndsAfter prefix replayer (Err AppendFailed) = prefix.all ≡ prefix.done ++ prefix.left
+  EndsAfter prefix replayer (Err (Damaged place)) = ⊥
+  EndsAfter prefix replayer (Err (Refused number)) =
       (prefix.all ≡ prefix.done ++ prefix.left)
       × ((next : Request) × (others : List Request)
       × (prefix.left ≡ next ∷ others) × refuses replayer next)
-  EndsBehind prefix replayer (Err NoMemory) = prefix.all ≡ prefix.done ++ prefix.left
+  EndsAfter prefix replayer (Err NoMemory) = prefix.all ≡ prefix.done ++ prefix.left

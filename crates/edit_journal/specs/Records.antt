@@ -7,8 +7,8 @@ use Rattle.std.specs.Str.{bytes_eq}
 use Rattle.httparse.specs.Grammar.{IsToken}
 use Rattle.http_wire.specs.declared.request.Field.{Field}
 use Rattle.http_wire.specs.declared.request.Request.{Request}
-use Rattle.http_wire.specs.Limits.{max_body_bytes, max_field_lines}
-use Rattle.edit_journal.specs.Limits.{max_content_bytes}
+use Rattle.http_wire.specs.declared.limits.TheConstants.{MAX_BODY_BYTES, MAX_FIELD_LINES}
+use Rattle.edit_journal.specs.declared.limits.TheConstants.{MAX_CONTENT_BYTES}
 
 -- the number of a recorded method, and 0 for any other
 unfoldable pub method_number : List ℕ → ℕ
@@ -40,9 +40,9 @@ record_of request = block (record_content request)
 pub record IsRecordable (request : Request) : Type 0 where
   pub method : 0 < method_number request.method
   pub names : All (λ (field : Field). IsToken field.name) request.fields
-  pub few : length request.fields ≤ max_field_lines
-  pub body : length request.body ≤ max_body_bytes
-  pub short : length (record_content request) ≤ max_content_bytes
+  pub few : length request.fields ≤ MAX_FIELD_LINES
+  pub body : length request.body ≤ MAX_BODY_BYTES
+  pub short : length (record_content request) ≤ MAX_CONTENT_BYTES
 
 -- the request as its record gives it
 abbrev pub recorded : Request → Request

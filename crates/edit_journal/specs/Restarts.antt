@@ -9,7 +9,7 @@ use Rattle.edit_journal.specs.declared.journal_restart.RestartFault.TheVariants.
 use Rattle.edit_journal.specs.declared.journal_restart.RestartFault.TheVariants.{AppendFailed}
 use Rattle.edit_journal.specs.declared.journal_restart.RestartFault.TheVariants.{Damaged, Refused}
 use Rattle.edit_journal.specs.declared.journal_restart.RestartFault.TheVariants.{TooLong, NoMemory}
-use Rattle.edit_journal.specs.Limits.{max_journal_bytes}
+use Rattle.edit_journal.specs.declared.limits.TheConstants.{MAX_JOURNAL_BYTES}
 use Rattle.edit_journal.specs.Records.{record_of}
 use Rattle.edit_journal.specs.Journals.{JournalState, IsJournalProgress, AddsSome}
 use Rattle.edit_journal.specs.Logs.{LogState}
@@ -45,7 +45,7 @@ module _ {S : Type 0} (stands : S → List Request → Type 0) (refuses : S → 
   abbrev pub EndsAs : RestartState S → ReadRecords → Result LogState RestartFault → Type 0
   -- all bytes were given, the rest is torn, and the journal has the records
   EndsAs state read (Ok log) =
-      IsEnded state.source.inward × (length read.bytes ≤ max_journal_bytes)
+      IsEnded state.source.inward × (length read.bytes ≤ MAX_JOURNAL_BYTES)
       × HasNoRecord read.rest × IsTorn read.rest × (state.journal.held ≡ text read.requests)
       × (log ≡ record { len = length (text read.requests); is_torn = false })
   -- the rest of the bytes that were given is torn
@@ -68,7 +68,7 @@ module _ {S : Type 0} (stands : S → List Request → Type 0) (refuses : S → 
       × (number ≡ length read.requests + 1)
   -- more bytes were given than are read, and the rest of those read is torn
   EndsAs state read (Err TooLong) =
-      (state.journal.held ≡ text read.requests) × (max_journal_bytes < length read.bytes)
+      (state.journal.held ≡ text read.requests) × (MAX_JOURNAL_BYTES < length read.bytes)
       × HasNoRecord read.rest × IsTorn read.rest
   EndsAs state read (Err NoMemory) =
       (before more : List Request) × (read.requests ≡ before ++ more)
@@ -84,7 +84,7 @@ module _ {S : Type 0} (stands : S → List Request → Type 0) (refuses : S → 
     pub rest : List ℕ
     pub given : Gave old.source.inward new.source.inward bytes
     pub told : All IsRecordedRequest requests
-    pub split : take max_journal_bytes bytes ≡ text requests ++ rest
+    pub split : take MAX_JOURNAL_BYTES bytes ≡ text requests ++ rest
     pub redone : RedoesAll stands refuses old.replayer requests new.replayer
     -- so the state represents each list that it represented before, with these requests at the end
     pub stood : (past : List Request) → stands old.replayer past

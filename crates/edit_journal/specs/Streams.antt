@@ -2,7 +2,7 @@
 use Rattle.std.specs.Prelude.{ℕ, ◌-◌, ◌∷◌, length, drop, take}
 use Rattle.std.specs.Borrow.{GName}
 use Rattle.xcap_io.specs.Causes.{StreamState}
-use Rattle.xcap_io.specs.Pairs.{unwritten}
+use Rattle.xcap_io.specs.Pairs.{hidden_by_output}
 use Rattle.edit_journal.specs.Journals.{JournalState}
 
 -- A journal that wrote the last `len` bytes that the sink took.
@@ -13,5 +13,5 @@ stream_state sink name len faults = record {
   faults = faults;
   beneath = sink.write_faults;
   holds = name ∷ sink.holds;
-  aside = unwritten sink ∷ sink.aside;
+  aside = hidden_by_output sink ∷ sink.aside;
 }

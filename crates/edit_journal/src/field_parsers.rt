@@ -96,7 +96,7 @@ fn first(bytes: &[u8], count: usize) -> &[u8]
 }
 
 /// A length between two bounds, and that many bytes.
-pub(crate) fn block(bytes: &[u8], least: usize, most: usize) -> Result<&[u8], FieldError>
+pub(crate) fn read_block(bytes: &[u8], least: usize, most: usize) -> Result<&[u8], FieldError>
     requires nonempty { least ≤ most }
     requires fits { most < 2 ^ 32 }
     ensures reads_rule { Reads (λ piece. piece.now) (Block least most) bytes.now result }

@@ -5,7 +5,7 @@ ghost use Rattle.http_wire.specs.declared.request.Request.{Request as TheRequest
 ghost use Rattle.edit_journal.specs.declared.journal_log.AppendFault.{AppendFault};
 ghost use Rattle.xml_names.specs.Limits.{u64_max};
 ghost use Rattle.edit_journal.specs.Journals.{IsJournalProgress};
-ghost use Rattle.edit_journal.specs.Limits.{max_record_bytes};
+ghost use Rattle.edit_journal.specs.declared.limits.TheConstants.{MAX_RECORD_BYTES};
 ghost use Rattle.edit_journal.specs.Records.{IsRecordable, record_of};
 ghost use Rattle.edit_journal.specs.Logs.{Fits, HoldsRecords, AddsRecord, with_request};
 ghost use Rattle.edit_journal.specs.inner.AppendSteps.{Repaired, Added, NotAdded};
@@ -141,7 +141,7 @@ impl JournalLog {
     ) -> Result<(), AppendFault>
         requires recordable { IsRecordable request.now }
         requires fits { Fits self.old (J.state journal.old) }
-        requires room_left { self.old.len ≤ u64_max - max_record_bytes }
+        requires room_left { self.old.len ≤ u64_max - MAX_RECORD_BYTES }
         ensures adds_record { AddsRecord
             (record { log = self.old; journal = J.state journal.old }) (record_of request.now)
             result (record { log = self.new; journal = J.state journal.new }) }

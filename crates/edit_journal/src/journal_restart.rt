@@ -1,7 +1,7 @@
 // Replays an old journal at a restart.
 ghost use Rattle.std.specs.Prelude.{◌≡◌, ◌+◌, ◌≤◌, ℕ, List, [], ◌++◌, length, false, OnOk};
 ghost use Rattle.edit_journal.specs.Logs.{Fits};
-ghost use Rattle.edit_journal.specs.Limits.{max_journal_bytes};
+ghost use Rattle.edit_journal.specs.declared.limits.TheConstants.{MAX_JOURNAL_BYTES};
 ghost use Rattle.edit_journal.specs.Records.{record_of};
 ghost use Rattle.edit_journal.specs.Texts.{IsRecordedRequest, HasNoRecord, IsTorn};
 ghost use Rattle.edit_journal.specs.Restarts.{Restarts};
@@ -25,7 +25,7 @@ pub enum RestartFault {
     /// The request of this record, counted from 1, is refused in the state after the requests
     /// before it.
     Refused(u64),
-    /// The old journal has more than `MAX_JOURNAL` bytes.
+    /// The old journal has more than `MAX_JOURNAL_BYTES` bytes.
     TooLong,
     /// Out of memory.
     NoMemory,
@@ -76,11 +76,22 @@ fn redo_one<J: Journal, R: Replayer>(
     requires is_reported { IsRecordedRequest request.now }
     requires not_torn { log.old.is_torn ≡ false }
     requires fits { Fits log.old (J.state journal.old) }
-    requires length_bounded { log.old.len ≤ max_journal_bytes }
-    requires within_max { count.old ≤ max_journal_bytes }
+    requires length_bounded { log.old.len ≤ MAX_JOURNAL_BYTES }
+    requires within_max { count.old ≤ MAX_JOURNAL_BYTES }
     ensures redoes_request { (more : List ℕ)
-        → RedoesHeld R.stands R.refuses (J.state journal.old) (J.state journal.new)
-        replayer.old replayer.new log.old log.new count.old count.new
+        → RedoesHeld R.stands R.refuses
+        (record {
+          replayer = replayer.old;
+          journal = J.state journal.old;
+          log = log.old;
+          count = count.old;
+        })
+        (record {
+          replayer = replayer.new;
+          journal = J.state journal.new;
+          log = log.new;
+          count = count.new;
+        })
         (record_of request.now ++ more) more result }
     ensures same_subject { R.about replayer.new ≡ R.about replayer.old }
 {
@@ -106,11 +117,22 @@ fn redo_held<J: Journal, R: Replayer>(
 ) -> Result<(), RestartFault>
     requires not_torn { log.old.is_torn ≡ false }
     requires fits { Fits log.old (J.state journal.old) }
-    requires length_bounded { log.old.len + length read_buffer.old.held ≤ max_journal_bytes }
+    requires length_bounded { log.old.len + length read_buffer.old.held ≤ MAX_JOURNAL_BYTES }
     requires within_max { count.old ≤ log.old.len }
-    ensures redoes_whole { RedoesHeld R.stands R.refuses (J.state journal.old) (J.state journal.new)
-        replayer.old replayer.new log.old log.new count.old count.new read_buffer.old.held
-        read_buffer.new.held result }
+    ensures redoes_whole { RedoesHeld R.stands R.refuses
+        (record {
+          replayer = replayer.old;
+          journal = J.state journal.old;
+          log = log.old;
+          count = count.old;
+        })
+        (record {
+          replayer = replayer.new;
+          journal = J.state journal.new;
+          log = log.new;
+          count = count.new;
+        })
+        read_buffer.old.held read_buffer.new.held result }
     ensures torn_rest { OnOk result
         (HasNoRecord read_buffer.new.held × IsTorn read_buffer.new.held) }
     ensures takes_no_more { read_buffer.new.taken ≡ read_buffer.old.taken }

@@ -34,6 +34,7 @@ pub use journal::Journal;
 pub use journal_log::{AppendFault, JournalLog};
 pub use journal_restart::{RestartFault, restart};
 pub use laws::bytes_have_one_list;
+pub use limits::{MAX_JOURNAL_BYTES, MAX_RECORD_BYTES};
 pub use machine::LoggedMachine;
 pub use mem_journal::MemJournal;
 pub use recovery_laws::{

@@ -4,7 +4,7 @@ ghost use Rattle.reply_text.specs.ReplyHeads.{SentReply};
 ghost use Rattle.http_wire.specs.declared.request.Request.{Request as TheRequest};
 ghost use Rattle.xml_names.specs.Limits.{u64_max};
 ghost use Rattle.edit_journal.specs.Journals.{IsJournalProgress};
-ghost use Rattle.edit_journal.specs.Limits.{max_record_bytes};
+ghost use Rattle.edit_journal.specs.declared.limits.TheConstants.{MAX_RECORD_BYTES};
 ghost use Rattle.edit_journal.specs.Logs.{Fits};
 ghost use Rattle.edit_journal.specs.LoggedRequests.{Answers, IsLoggable};
 
@@ -36,7 +36,7 @@ pub trait LoggedMachine {
     ) -> Result<MachineReply<Self::Edit>, AllocError>
         requires loggable { IsLoggable request.now }
         requires fits { Fits log.old (J.state journal.old) }
-        requires room_left { log.old.len ≤ u64_max - max_record_bytes }
+        requires room_left { log.old.len ≤ u64_max - MAX_RECORD_BYTES }
         ensures machine_reply { IfOk result
             (λ answered. Answers steps
             (record { machine = self.old; log = log.old; journal = J.state journal.old })

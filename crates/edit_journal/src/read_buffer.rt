@@ -4,7 +4,7 @@ ghost use Rattle.xcap_io.specs.Causes.{OnlyReads};
 ghost use Rattle.edit_journal.specs.inner.ReadBuffer.{Fills, Ends, TakesRecord};
 
 use crate::journal_restart::RestartFault;
-use crate::limits::{MAX_JOURNAL, MAX_RECORD};
+use crate::limits::{MAX_JOURNAL_BYTES, MAX_RECORD_BYTES};
 use crate::record_scan::{RecordScan, front_of};
 use http_wire::Request;
 use std::alloc::Global;
@@ -35,7 +35,8 @@ pub(crate) struct ReadBuffer {
 impl Model for ReadBuffer {
     ghost use Rattle.std.specs.Prelude.{◌≡◌, ◌≤◌, length, slice_range};
     ghost use Rattle.edit_journal.specs.inner.ReadBuffer.{InflowState};
-    ghost use Rattle.edit_journal.specs.declared.limits.TheConstants.{MAX_JOURNAL, MAX_RECORD};
+    ghost use Rattle.edit_journal.specs.declared.limits.TheConstants.{MAX_JOURNAL_BYTES};
+    ghost use Rattle.edit_journal.specs.declared.limits.TheConstants.{MAX_RECORD_BYTES};
 
     ghost Value = { InflowState };
 
@@ -45,8 +46,8 @@ impl Model for ReadBuffer {
     } };
 
     ghost invariant = { λ i.
-        (i.start ≤ i.end) × (i.end ≤ MAX_RECORD) × (length i.buffer.items ≡ MAX_RECORD)
-        × (i.taken ≤ MAX_JOURNAL) };
+        (i.start ≤ i.end) × (i.end ≤ MAX_RECORD_BYTES) × (length i.buffer.items ≡ MAX_RECORD_BYTES)
+        × (i.taken ≤ MAX_JOURNAL_BYTES) };
 }
 
 // Moves a range of the buffer to its front.
@@ -77,7 +78,7 @@ impl ReadBuffer {
             (λ read_buffer. read_buffer ≡ record { held = []; taken = 0 }) }
     {
         Ok(ReadBuffer {
-            buffer: vec![in alloc; 0; MAX_RECORD]?,
+            buffer: vec![in alloc; 0; MAX_RECORD_BYTES]?,
             start: 0,
             end: 0,
             taken: 0,
@@ -100,18 +101,20 @@ impl ReadBuffer {
 
     // Reads once, into all the space that is left, up to the limit of an old journal.
     fn read_more<S: Source>(&mut self, source: &mut S) -> Result<FillResult, Failed>
-        requires room_left { length self.old.held < MAX_RECORD }
-        requires below_limit { self.old.taken < MAX_JOURNAL }
+        requires room_left { length self.old.held < MAX_RECORD_BYTES }
+        requires below_limit { self.old.taken < MAX_JOURNAL_BYTES }
         ensures reads_more { Fills self.old self.new (S.state source.old).inward
             (S.state source.new).inward result }
-        ensures at_most_limit { self.new.taken ≤ MAX_JOURNAL }
+        ensures at_most_limit { self.new.taken ≤ MAX_JOURNAL_BYTES }
         ensures only_reads { OnlyReads (S.state source.old) (S.state source.new) result }
     {
         let held = self.end - self.start;
         move_to_front(&mut self.buffer, self.start, self.end);
         self.start = 0;
         self.end = held;
-        let end = MAX_RECORD.min(held + (MAX_JOURNAL - self.taken).min(MAX_RECORD as u64) as usize);
+        let end = MAX_RECORD_BYTES.min(
+            held + (MAX_JOURNAL_BYTES - self.taken).min(MAX_RECORD_BYTES as u64) as usize,
+        );
         let count = source.read(&mut self.buffer[held..end])?;
         if count == 0 {
             return Ok(FillResult::End);
@@ -123,13 +126,13 @@ impl ReadBuffer {
 
     /// Reads once, if the buffer has space for more.
     pub(crate) fn fill<S: Source>(&mut self, source: &mut S) -> Result<FillResult, Failed>
-        requires { length self.old.held < MAX_RECORD }
+        requires { length self.old.held < MAX_RECORD_BYTES }
         ensures reads_more { Fills self.old self.new (S.state source.old).inward
             (S.state source.new).inward result }
-        ensures at_most_limit { self.new.taken ≤ MAX_JOURNAL }
+        ensures at_most_limit { self.new.taken ≤ MAX_JOURNAL_BYTES }
         ensures only_reads { OnlyReads (S.state source.old) (S.state source.new) result }
     {
-        if self.taken < MAX_JOURNAL {
+        if self.taken < MAX_JOURNAL_BYTES {
             return self.read_more(source);
         }
         Ok(if has_ended(source)? {

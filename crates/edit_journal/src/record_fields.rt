@@ -1,13 +1,13 @@
 // Parses the header fields and the body of a record, in bytes that may break off.
 ghost use Rattle.std.specs.Prelude.{◌≡◌, ◌≤◌, ◌<◌, ◌+◌, ◌-◌, ◌*◌, drop, take, length, IfOk, OnOk};
 ghost use Rattle.std.specs.Prelude.{if◌then◌else◌, ◌==◌};
-ghost use Rattle.http_wire.specs.Limits.{max_body_bytes, max_field_lines};
+ghost use Rattle.http_wire.specs.declared.limits.TheConstants.{MAX_FIELD_LINES};
 ghost use Rattle.edit_journal.specs.inner.PartReaders.{Reads, Value, FieldPart, FieldsAndBody};
 ghost use Rattle.edit_journal.specs.inner.PartReaders.{HasRoom};
 
-use crate::field_parsers::{FieldError, after, block, name};
-use crate::limits::MAX_CONTENT;
-use http_wire::{Field, MAX_BODY, token_text};
+use crate::field_parsers::{FieldError, after, name, read_block};
+use crate::limits::MAX_CONTENT_BYTES;
+use http_wire::{Field, MAX_BODY_BYTES, token_text};
 use std::alloc::Global;
 use xcap_io::{Bytes, NoMemory};
 use xml_names::List;
@@ -24,10 +24,10 @@ impl From<NoMemory> for FieldError {
 
 // The least length of a value: without a field after it, the rest may not be longer than a body.
 fn least_value(others: usize, left: usize) -> usize
-    ensures exact { result ≡ (if others == 0 then left - (max_body_bytes + 8) else 0) }
+    ensures exact { result ≡ (if others == 0 then left - (MAX_BODY_BYTES + 8) else 0) }
 {
     if others == 0 {
-        left.saturating_sub(MAX_BODY + 8)
+        left.saturating_sub(MAX_BODY_BYTES + 8)
     } else {
         0
     }
@@ -35,12 +35,12 @@ fn least_value(others: usize, left: usize) -> usize
 
 // The value of a field, where `left` bytes have it, `others` more fields and a body.
 fn value(bytes: &[u8], others: usize, left: usize) -> Result<&[u8], FieldError>
-    requires others_bounded { others < max_field_lines }
+    requires others_bounded { others < MAX_FIELD_LINES }
     requires room_left { 9 * others + 8 ≤ left }
-    requires left_bounded { left ≤ MAX_CONTENT }
+    requires left_bounded { left ≤ MAX_CONTENT_BYTES }
     ensures reads_rule { Reads (λ piece. piece.now) (Value others left) bytes.now result }
 {
-    block(bytes, least_value(others, left), left - 8 - 9 * others)
+    read_block(bytes, least_value(others, left), left - 8 - 9 * others)
 }
 
 fn field_of(alloc: Global, name: &[u8], value: &[u8]) -> Result<Field, NoMemory>
@@ -54,9 +54,9 @@ fn field_of(alloc: Global, name: &[u8], value: &[u8]) -> Result<Field, NoMemory>
 
 // A field, where `left` bytes have it, `others` more fields and a body.
 fn field(alloc: Global, bytes: &[u8], others: usize, left: usize) -> Result<Field, FieldError>
-    requires others_bounded { others < max_field_lines }
+    requires others_bounded { others < MAX_FIELD_LINES }
     requires room_left { 9 * others + 13 ≤ left }
-    requires left_bounded { left ≤ MAX_CONTENT }
+    requires left_bounded { left ≤ MAX_CONTENT_BYTES }
     ensures reads_rule { Reads (λ field. field) (FieldPart others left) bytes.now result }
 {
     let token = name(bytes, 1, left - 12 - 9 * others)?;
@@ -74,15 +74,15 @@ pub(crate) fn fields_and_body(
     left: usize,
     fields: &mut List<Field>,
 ) -> Result<Bytes, FieldError>
-    requires count_bounded { count ≤ max_field_lines }
+    requires count_bounded { count ≤ MAX_FIELD_LINES }
     requires room_left { HasRoom count left }
-    requires left_bounded { left ≤ MAX_CONTENT }
+    requires left_bounded { left ≤ MAX_CONTENT_BYTES }
     ensures reads_rule { Reads (λ body. (drop (length fields.old) fields.new, body))
         (FieldsAndBody count left) bytes.now result }
     ensures keeps_prefix { OnOk result (take (length fields.old) fields.new ≡ fields.old) }
 {
     if count == 0 {
-        return Ok(Bytes::from(alloc, block(bytes, left - 4, left - 4)?)?);
+        return Ok(Bytes::from(alloc, read_block(bytes, left - 4, left - 4)?)?);
     }
     let field = field(alloc, bytes, count - 1, left)?;
     let used = 8 + field.name.count() + field.value.len();

@@ -1,30 +1,33 @@
 // Parses a record, in bytes that may break off.
 ghost use Rattle.std.specs.Prelude.{◌≡◌, ◌≤◌, ◌+◌, ◌-◌, nat_lt, if◌then◌else◌};
-ghost use Rattle.http_wire.specs.Limits.{max_body_bytes};
 ghost use Rattle.edit_journal.specs.inner.PartReaders.{Reads, Method, Rest, Content, Record};
 
-use crate::field_parsers::{FieldError, after, block, number, short};
-use crate::limits::MAX_CONTENT;
+use crate::field_parsers::{FieldError, after, number, read_block, short};
+use crate::limits::MAX_CONTENT_BYTES;
 use crate::record_fields::fields_and_body;
-use http_wire::{Field, MAX_BODY, MAX_FIELDS, Request};
+use http_wire::{Field, MAX_BODY_BYTES, MAX_FIELD_LINES, Request};
 use std::alloc::Global;
 use xcap_io::Bytes;
 use xml_names::{List, Text};
 
 // The least number of fields: one, where the rest is longer than a body may be.
 fn least_count(left: usize) -> usize
-    ensures exact { result ≡ (if nat_lt (max_body_bytes + 6) left then 1 else 0) }
+    ensures exact { result ≡ (if nat_lt (MAX_BODY_BYTES + 6) left then 1 else 0) }
 {
-    if left > MAX_BODY + 6 { 1 } else { 0 }
+    if left > MAX_BODY_BYTES + 6 { 1 } else { 0 }
 }
 
 // The number of fields, the fields and the body, which fill `left` bytes.
 fn rest(alloc: Global, bytes: &[u8], left: usize) -> Result<(List<Field>, Bytes), FieldError>
     requires lower_bound { 6 ≤ left }
-    requires upper_bound { left ≤ MAX_CONTENT }
+    requires upper_bound { left ≤ MAX_CONTENT_BYTES }
     ensures reads_rule { Reads (λ value. (value.0, value.1)) (Rest left) bytes.now result }
 {
-    let count = short(bytes, least_count(left), ((left - 6) / 9).min(MAX_FIELDS))?;
+    let count = short(
+        bytes,
+        least_count(left),
+        ((left - 6) / 9).min(MAX_FIELD_LINES),
+    )?;
     let mut fields = List::empty(alloc);
     let body = fields_and_body(alloc, after(bytes, 2), count, left - 2, &mut fields)?;
     Ok((fields, body))
@@ -45,11 +48,11 @@ fn method(alloc: Global, bytes: &[u8]) -> Result<Text, FieldError>
 // What a record has after its length.
 fn content(alloc: Global, bytes: &[u8], len: usize) -> Result<Request, FieldError>
     requires lower_bound { 11 ≤ len }
-    requires upper_bound { len ≤ MAX_CONTENT }
+    requires upper_bound { len ≤ MAX_CONTENT_BYTES }
     ensures reads_rule { Reads (λ request. request) (Content len) bytes.now result }
 {
     let method = method(alloc, bytes)?;
-    let target = block(after(bytes, 1), 0, len - 11)?;
+    let target = read_block(after(bytes, 1), 0, len - 11)?;
     let used = 5 + target.len();
     let (fields, body) = rest(alloc, after(bytes, used), len - used)?;
     Ok(Request {
@@ -65,6 +68,6 @@ fn content(alloc: Global, bytes: &[u8], len: usize) -> Result<Request, FieldErro
 pub(crate) fn read_record(alloc: Global, bytes: &[u8]) -> Result<Request, FieldError>
     ensures reads_rule { Reads (λ request. request) Record bytes.now result }
 {
-    let len = number(bytes, 11, MAX_CONTENT)?;
+    let len = number(bytes, 11, MAX_CONTENT_BYTES)?;
     content(alloc, after(bytes, 4), len)
 }

@@ -26,7 +26,7 @@ fn method_number(method: &Text) -> u8
 
 // Appends a length and that many bytes.
 #[tactic(auto, unfolding(crate::specs::Records::block))]
-fn put_block(made: &mut Bytes, bytes: &[u8]) -> Result<(), NoMemory>
+fn append_block(made: &mut Bytes, bytes: &[u8]) -> Result<(), NoMemory>
     requires { length bytes.now < 2 ^ 32 }
     ensures appended { OnOk result (made.new ≡ made.old ++ block bytes.now) }
 {
@@ -38,8 +38,8 @@ fn put_field(made: &mut Bytes, field: &Field) -> Result<(), NoMemory>
     requires { IsWritable field.now }
     ensures appended { OnOk result (made.new ≡ made.old ++ field_text field.now) }
 {
-    put_block(made, field.name.as_str().as_bytes())?;
-    put_block(made, field.value.as_slice())
+    append_block(made, field.name.as_str().as_bytes())?;
+    append_block(made, field.value.as_slice())
 }
 
 fn put_fields(made: &mut Bytes, fields: &[Field]) -> Result<(), NoMemory>
@@ -58,11 +58,11 @@ fn content_of(alloc: Global, request: &Request) -> Result<Bytes, NoMemory>
 {
     let mut bytes = Bytes::new(alloc);
     bytes.push(method_number(&request.method))?;
-    put_block(&mut bytes, request.target.as_slice())?;
+    append_block(&mut bytes, request.target.as_slice())?;
     let fields = request.fields.as_slice();
     bytes.extend(&(fields.len() as u16).to_be_bytes())?;
     put_fields(&mut bytes, fields)?;
-    put_block(&mut bytes, request.body.as_slice())?;
+    append_block(&mut bytes, request.body.as_slice())?;
     Ok(bytes)
 }
 
@@ -73,6 +73,6 @@ pub(crate) fn record_of(alloc: Global, request: &Request) -> Result<Bytes, NoMem
 {
     let content = content_of(alloc, request)?;
     let mut made = Bytes::new(alloc);
-    put_block(&mut made, content.as_slice())?;
+    append_block(&mut made, content.as_slice())?;
     Ok(made)
 }

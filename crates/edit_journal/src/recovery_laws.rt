@@ -3,12 +3,12 @@ ghost use Rattle.std.specs.Prelude.{◌≡◌, ℕ, ◌≤◌, ◌++◌, List, [
 ghost use Rattle.http_wire.specs.declared.request.Request.{Request};
 ghost use Rattle.edit_journal.specs.Journals.{IsFirstOf};
 ghost use Rattle.edit_journal.specs.Logs.{HoldsRecords, LogState};
-ghost use Rattle.edit_journal.specs.Limits.{max_journal_bytes};
+ghost use Rattle.edit_journal.specs.declared.limits.TheConstants.{MAX_JOURNAL_BYTES};
 ghost use Rattle.edit_journal.specs.Restarts.{RestartState, Restarts};
 ghost use Rattle.edit_journal.specs.Texts.{IsRecordedRequest, Whole, text};
 ghost use Rattle.edit_journal.specs.declared.journal_restart.RestartFault.{RestartFault};
 ghost use Rattle.edit_journal.specs.JournalPrefixes.{BreaksOff};
-ghost use Rattle.edit_journal.specs.PrefixRestarts.{EndsBehind};
+ghost use Rattle.edit_journal.specs.PrefixRestarts.{EndsAfter};
 
 use crate::Replayer;
 
@@ -41,11 +41,11 @@ pub fn restarts_do_the_first_requests<R: Replayer>()
         (result : Result LogState RestartFault)
         → All IsRecordedRequest all
         → (restarts : Restarts R.stands R.refuses old new result)
-        → IsFirstOf (take max_journal_bytes restarts.bytes) (text all)
-        → (left : List Request) × EndsBehind R.refuses
+        → IsFirstOf (take MAX_JOURNAL_BYTES restarts.bytes) (text all)
+        → (left : List Request) × EndsAfter R.refuses
         (record {
           all = all;
-          bytes = take max_journal_bytes restarts.bytes;
+          bytes = take MAX_JOURNAL_BYTES restarts.bytes;
           done = restarts.requests;
           left = left;
           rest = restarts.rest;

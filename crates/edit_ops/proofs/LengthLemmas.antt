@@ -9,14 +9,14 @@ use Rattle.xml_names.specs.Markup.{byte_len}
 use Rattle.xml_tree.specs.Print.{is_empty, print}
 use Rattle.xml_tree.specs.declared.tree.Node.{Node}
 use Rattle.xml_tree.specs.declared.tree.Node.TheVariants.{Elem, Comment}
-use Rattle.xml_names.proofs.PrintLengths.{byte_len-append, byte_len-opening}
+use Rattle.xml_names.proofs.PrintLengths.{byte_len-append, byte_len-tag_front}
 use Rattle.xml_tree.proofs.PrintEdits.{attrs-dropped, attrs-written, content-cut, content-put, ending_len, full-put, full-there, print-at, print-attrs, print-change_at, print-parts}
 use Rattle.edit_ops.specs.declared.change.Change.{Change}
 use Rattle.edit_ops.specs.declared.change.Change.TheVariants.{CreateDocument, Insert, Replace, Remove, SetAttr, DropAttr, RemoveDocument}
 use Rattle.edit_ops.specs.Changes.{edited}
-use Rattle.edit_ops.specs.inner.Lengths.{inserted_part, end_tag_len, lost}
+use Rattle.edit_ops.specs.inner.Lengths.{inserted_part, end_tag_len, removed_len}
 use Rattle.edit_ops.specs.ElementChanges.{site}
-use Rattle.edit_ops.specs.inner.LocalChanges.{FitsHere, made_here}
+use Rattle.edit_ops.specs.inner.LocalChanges.{FitsLocally, local_result}
 use Rattle.edit_ops.proofs.SiteLemmas.{edited_there}
 
 -- ---- an element that gets its first node, or loses its only one
@@ -84,7 +84,7 @@ there (suc i) (x ∷ xs) h = there i xs (omega arith)
 
 -- the print of the element that a change is made in, with what it loses and what it gains
 abbrev Balanced : Change → Tree → Type 0
-Balanced change e = (byte_len (print (made_here change e)) + lost change e ≡ byte_len (print e) + inserted_part change e) × (lost change e ≤ byte_len (print e))
+Balanced change e = (byte_len (print (local_result change e)) + removed_len change e ≡ byte_len (print e) + inserted_part change e) × (removed_len change e ≤ byte_len (print e))
 
 put_here : (gap : ℕ) (k e : Tree) → gap ≤ length (child_elements_of e) → (b : Bool) → is_empty e.content ≡ b
     → byte_len (print (put_kid gap k e)) ≡ byte_len (print e) + (byte_len (print k) + cond (is_empty e.content) (end_tag_len e.name) 0)
@@ -132,7 +132,7 @@ cut_here i k e is false h =
       ap (λ (b : Bool). cond b (end_tag_len e.name) 0) h,
     )
 
-balanced : (change : Change) (e : Tree) → FitsHere change e → Balanced change e
+balanced : (change : Change) (e : Tree) → FitsLocally change e → Balanced change e
 balanced (CreateDocument root) e fits = absurd fits
 balanced (Insert parent gap k) e fits = (omega (arith, put_here gap k e fits (is_empty e.content) refl), omega arith)
 balanced (Replace p other) e fits = (omega arith, omega arith)
@@ -144,20 +144,20 @@ balanced (Remove p) e fits =
 balanced (SetAttr p name value) e fits =
     let tag = print-attrs e (with_attr name value e.attrs) in
     let gone = attrs-dropped name e.attrs in
-    (omega (arith, tag, attrs-written name value e.attrs), omega (arith, gone, print-parts e, byte_len-opening e.name e.decls e.attrs))
+    (omega (arith, tag, attrs-written name value e.attrs), omega (arith, gone, print-parts e, byte_len-tag_front e.name e.decls e.attrs))
 balanced (DropAttr p name) e fits =
     let tag = print-attrs e (without_attr name e.attrs) in
     let gone = attrs-dropped name e.attrs in
-    (omega (arith, tag, gone), omega (arith, gone, print-parts e, byte_len-opening e.name e.decls e.attrs))
+    (omega (arith, tag, gone), omega (arith, gone, print-parts e, byte_len-tag_front e.name e.decls e.attrs))
 balanced RemoveDocument e fits = absurd fits
 
 -- ---- the whole tree
 
-pub len_after : (t e : Tree) (change : Change) → at (site change) t ≡ Some e → FitsHere change e
-    → (byte_len (print (edited t change)) + lost change e ≡ byte_len (print t) + inserted_part change e) × (lost change e ≤ byte_len (print t))
+pub len_after : (t e : Tree) (change : Change) → at (site change) t ≡ Some e → FitsLocally change e
+    → (byte_len (print (edited t change)) + removed_len change e ≡ byte_len (print t) + inserted_part change e) × (removed_len change e ≤ byte_len (print t))
 len_after t e change is fits =
     let here = balanced change e fits in
-    let whole = print-change_at (site change) (made_here change) e t is in
+    let whole = print-change_at (site change) (local_result change) e t is in
     let within = print-at (site change) e t is in
     let same = ap (λ x. byte_len (print x)) (edited_there t change) in
     (omega (arith, here.0, whole, same), omega (arith, here.1, within))

@@ -10,8 +10,8 @@ use Rattle.xml_tree.proofs.PlaceLaws.{at-change_at, child_elements-cut, child_el
 use Rattle.edit_ops.specs.declared.change.Change.{Change}
 use Rattle.edit_ops.specs.declared.change.Change.TheVariants.{CreateDocument, Insert, Replace, Remove, SetAttr, DropAttr, RemoveDocument}
 use Rattle.edit_ops.specs.Changes.{Fits, edited}
-use Rattle.edit_ops.specs.MovedPaths.{KeepsTheOthers, behind, closed_up, made_room, re_routed, under, unless}
-use Rattle.edit_ops.proofs.WayLemmas.{behind-other, behind-same, behind-whole, front-apart, front-none}
+use Rattle.edit_ops.specs.MovedPaths.{KeepsTheOthers, path_below, closed_up, made_room, re_routed, under, unless}
+use Rattle.edit_ops.proofs.WayLemmas.{path_below-other, path_below-same, path_below-whole, front-apart, front-none}
 
 -- ---- items beside one that is inserted or removed
 
@@ -49,7 +49,7 @@ before_hole (x ∷ xs) (suc i) (suc n) lt = before_hole xs i n (omega arith)
 
 -- the change g of the element at q moves what is below that element as f does
 abbrev Shifts : (List ℕ → List ℕ) → (Tree → Tree) → List ℕ → List ℕ → Tree → Type 0
-Shifts f g q p t = (n : ℕ) (r : List ℕ) (e : Tree) → behind q p ≡ Some (n ∷ r) → at q t ≡ Some e → at (f (n ∷ r)) (g e) ≡ at (n ∷ r) e
+Shifts f g q p t = (n : ℕ) (r : List ℕ) (e : Tree) → path_below q p ≡ Some (n ∷ r) → at q t ≡ Some e → at (f (n ∷ r)) (g e) ≡ at (n ∷ r) e
 
 longer : (f : List ℕ → List ℕ) (m : ℕ) (q p : List ℕ) (o : Option (List ℕ)) → re_routed f (m ∷ q) (m ∷ p) o ≡ m ∷ re_routed f q p o
 longer f m q p None = refl
@@ -59,25 +59,25 @@ below : (o : Option Tree) (u p : List ℕ) (g : Tree → Tree) → ((k : Tree) �
 below None u p g h = refl
 below (Some k) u p g h = h k refl
 
-same_way : (m : ℕ) (q p : List ℕ) (f : List ℕ → List ℕ) (g : Tree → Tree) (t : Tree) → behind (m ∷ p) (m ∷ q) ≡ None → Shifts f g (m ∷ q) (m ∷ p) t
-    → ((k : Tree) → behind p q ≡ None → Shifts f g q p k → at (under f q p) (change_at q g k) ≡ at p k) → at (under f (m ∷ q) (m ∷ p)) (change_at (m ∷ q) g t) ≡ at (m ∷ p) t
+same_way : (m : ℕ) (q p : List ℕ) (f : List ℕ → List ℕ) (g : Tree → Tree) (t : Tree) → path_below (m ∷ p) (m ∷ q) ≡ None → Shifts f g (m ∷ q) (m ∷ p) t
+    → ((k : Tree) → path_below p q ≡ None → Shifts f g q p k → at (under f q p) (change_at q g k) ≡ at p k) → at (under f (m ∷ q) (m ∷ p)) (change_at (m ∷ q) g t) ≡ at (m ∷ p) t
 same_way m q p f g t away shifts ih =
-    ap (λ u. at u (change_at (m ∷ q) g t)) (ap (re_routed f (m ∷ q) (m ∷ p)) (behind-same m q p) ∙ longer f m q p (behind q p))
+    ap (λ u. at u (change_at (m ∷ q) g t)) (ap (re_routed f (m ∷ q) (m ∷ p)) (path_below-same m q p) ∙ longer f m q p (path_below q p))
     ∙ ap (option_and_then (at (under f q p))) (this_kid m (change_at q g) t.content)
     ∙ below (slice_get (child_elements_of t) m) (under f q p) p (change_at q g)
-    (λ k is. ih k (sym (behind-same m p q) ∙ away) (λ n r e b there. shifts n r e (behind-same m q p ∙ b) (ap (option_and_then (at q)) is ∙ there)))
+    (λ k is. ih k (sym (path_below-same m p q) ∙ away) (λ n r e b there. shifts n r e (path_below-same m q p ∙ b) (ap (option_and_then (at q)) is ∙ there)))
 
 other_way : (m n : ℕ) (q p : List ℕ) (f : List ℕ → List ℕ) (g : Tree → Tree) (t : Tree) → (m ≡ n → ⊥) → at (under f (m ∷ q) (n ∷ p)) (change_at (m ∷ q) g t) ≡ at (n ∷ p) t
 other_way m n q p f g t ne =
-    ap (λ o. at (re_routed f (m ∷ q) (n ∷ p) o) (change_at (m ∷ q) g t)) (behind-other m n q p ne) ∙ at-change_at (m ∷ q) (n ∷ p) g t (inl ne)
+    ap (λ o. at (re_routed f (m ∷ q) (n ∷ p) o) (change_at (m ∷ q) g t)) (path_below-other m n q p ne) ∙ at-change_at (m ∷ q) (n ∷ p) g t (inl ne)
 
-pub at-under : (q p : List ℕ) (f : List ℕ → List ℕ) (g : Tree → Tree) (t : Tree) → behind p q ≡ None → Shifts f g q p t → at (under f q p) (change_at q g t) ≡ at p t
+pub at-under : (q p : List ℕ) (f : List ℕ → List ℕ) (g : Tree → Tree) (t : Tree) → path_below p q ≡ None → Shifts f g q p t → at (under f q p) (change_at q g t) ≡ at p t
 at-under [] [] f g t away shifts = absurd (cc)
 at-under [] (n ∷ p) f g t away shifts = shifts n p t refl refl
 at-under (m ∷ q) [] f g t away shifts = absurd (cc)
 at-under (m ∷ q) (n ∷ p) f g t away shifts =
     ⊎_elim
-    (λ same. subst (λ x. behind (x ∷ p) (m ∷ q) ≡ None → Shifts f g (m ∷ q) (x ∷ p) t → at (under f (m ∷ q) (x ∷ p)) (change_at (m ∷ q) g t) ≡ at (x ∷ p) t) same
+    (λ same. subst (λ x. path_below (x ∷ p) (m ∷ q) ≡ None → Shifts f g (m ∷ q) (x ∷ p) t → at (under f (m ∷ q) (x ∷ p)) (change_at (m ∷ q) g t) ≡ at (x ∷ p) t) same
     (λ away' shifts'. same_way m q p f g t away' shifts' (λ k. at-under q p f g k)) away shifts)
     (λ ne. other_way m n q p f g t ne)
     (cases_eq m n)
@@ -103,11 +103,11 @@ hole i n r e ne =
     ∙ ap (option_and_then (at r)) (ap (λ l. slice_get l n) (child_elements-cut i e.content) ∙ before_hole (child_elements_of e) i n lt)))
     (cases_order i n)
 
-after_insert : (q p : List ℕ) (j : ℕ) (k t : Tree) → IsSomeAnd (at q t) (λ e. j ≤ length (child_elements_of e)) → behind p q ≡ None → at (under (made_room j) q p) (put_in q j k t) ≡ at p t
+after_insert : (q p : List ℕ) (j : ℕ) (k t : Tree) → IsSomeAnd (at q t) (λ e. j ≤ length (child_elements_of e)) → path_below p q ≡ None → at (under (made_room j) q p) (put_in q j k t) ≡ at p t
 after_insert q p j k t fits away =
     at-under q p (made_room j) (put_kid j k) t away (λ n r e b is. room j n r k e (from_there (at q t) (λ x. j ≤ length (child_elements_of x)) e fits is))
 
-after_remove : (q p : List ℕ) (t : Tree) → 0 < length q → behind p q ≡ None → behind q p ≡ None → at (under (closed_up (own_number q)) (parent_path q) p) (cut_out q t) ≡ at p t
+after_remove : (q p : List ℕ) (t : Tree) → 0 < length q → path_below p q ≡ None → path_below q p ≡ None → at (under (closed_up (own_number q)) (parent_path q) p) (cut_out q t) ≡ at p t
 after_remove q p t some away gone =
     at-under (parent_path q) p (closed_up (own_number q)) (cut_child (own_number q)) t (front-none p q away) (λ n r e b is. hole (own_number q) n r e (front-apart q p n r some gone b))
 
@@ -117,9 +117,9 @@ stays_if : (f : List ℕ → List ℕ) (q p : List ℕ) (o : Option (List ℕ)) 
 stays_if f q p None whole same = refl
 stays_if f q p (Some r) whole same = ap (λ x. q ++ x) (same r) ∙ sym (whole r refl)
 
-unmoved : (q p : List ℕ) (g : Tree → Tree) (t : Tree) → behind p q ≡ None → ((e : Tree) → (g e).content ≡ e.content) → at p (change_at q g t) ≡ at p t
+unmoved : (q p : List ℕ) (g : Tree → Tree) (t : Tree) → path_below p q ≡ None → ((e : Tree) → (g e).content ≡ e.content) → at p (change_at q g t) ≡ at p t
 unmoved q p g t away same =
-    ap (λ x. at x (change_at q g t)) (sym (stays_if (λ r. r) q p (behind q p) (behind-whole q p) (λ r. refl)))
+    ap (λ x. at x (change_at q g t)) (sym (stays_if (λ r. r) q p (path_below q p) (path_below-whole q p) (λ r. refl)))
     ∙ at-under q p (λ r. r) g t away (λ n r e b is. ap (λ c. option_and_then (at r) (slice_get (child_elements c) n)) (same e))
 
 kept_there : (o : Option (List ℕ)) {B : Type 0} (x y : B) → unless o x ≡ Some y → (o ≡ None) × (x ≡ y)
@@ -129,7 +129,7 @@ kept_there (Some r) x y h = absurd (cc)
 -- ---- every change
 
 -- a change at q, where p doesn't lead through q nor q through p
-parted : (q p : List ℕ) (g : Tree → Tree) (t : Tree) → behind p q ≡ None → behind q p ≡ None → at p (change_at q g t) ≡ at p t
+parted : (q p : List ℕ) (g : Tree → Tree) (t : Tree) → path_below p q ≡ None → path_below q p ≡ None → at p (change_at q g t) ≡ at p t
 parted q p g t away gone =
     ap (λ o. at (re_routed (λ r. r) q p o) (change_at q g t)) (sym gone) ∙ at-under q p (λ r. r) g t away (λ n r e b is. absurd (let c : None ≡ Some (n ∷ r) = sym gone ∙ b in cc))
 
@@ -138,9 +138,9 @@ others_stay t (CreateDocument root) fits p q away is = absurd fits
 others_stay t (Insert parent gap element) fits p q away is =
     let e : under (made_room gap) parent p ≡ q = cc in ap (λ x. at x (put_in parent gap element t)) (sym e) ∙ after_insert parent p gap element t fits away
 others_stay t (Replace w element) fits p q away is =
-    let k = kept_there (behind w p) p q is in ap (λ x. at x (put_over w element t)) (sym k.1) ∙ parted w p (λ _. element) t away k.0
+    let k = kept_there (path_below w p) p q is in ap (λ x. at x (put_over w element t)) (sym k.1) ∙ parted w p (λ _. element) t away k.0
 others_stay t (Remove w) fits p q away is =
-    let k = kept_there (behind w p) (under (closed_up (own_number w)) (parent_path w) p) q is in ap (λ x. at x (cut_out w t)) (sym k.1) ∙ after_remove w p t fits.0 away k.0
+    let k = kept_there (path_below w p) (under (closed_up (own_number w)) (parent_path w) p) q is in ap (λ x. at x (cut_out w t)) (sym k.1) ∙ after_remove w p t fits.0 away k.0
 others_stay t (SetAttr w name value) fits p q away is = let e : p ≡ q = cc in ap (λ x. at x (set_at w name value t)) (sym e) ∙ unmoved w p (write_attr name value) t away (λ e. refl)
 others_stay t (DropAttr w name) fits p q away is = let e : p ≡ q = cc in ap (λ x. at x (drop_at w name t)) (sym e) ∙ unmoved w p (drop_attr name) t away (λ e. refl)
 others_stay t RemoveDocument fits p q away is = absurd fits

@@ -7,7 +7,7 @@ use Rattle.xml_names.specs.declared.names.Decl.{Decl}
 use Rattle.xml_names.specs.declared.names.Attr.{Attr}
 use Rattle.xml_names.specs.Markup.{byte_len, print_attr, print_decl, print_name}
 use Rattle.xml_tree.specs.Print.{print, print_content}
-use Rattle.xml_names.proofs.PrintLengths.{ascii, byte_len-append, byte_len-attr, byte_len-closing, byte_len-opening}
+use Rattle.xml_names.proofs.PrintLengths.{ascii, byte_len-append, byte_len-attr, byte_len-end_tag_text, byte_len-tag_front}
 use Rattle.xml_tree.proofs.PrintedNodes.{byte_len-bare, byte_len-whole}
 use Rattle.xml_tree.specs.PathTexts.{path_text, steps_text}
 use Rattle.xml_names.specs.ExpandedNames.{name_of as in_diff}
@@ -83,15 +83,15 @@ bare : (w : List ℕ) (ds : List Decl) (ats : List Attr)
     → byte_len (print (operation_of (codes "d") ds w ats (last []))) ≡ bare_len (byte_len w) (byte_len (flat_map print_decl ds)) (byte_len (flat_map print_attr ats))
 bare w ds ats =
     let whole = byte_len-bare (operation_of (codes "d") ds w ats (last [])) refl in
-    let begins = byte_len-opening (in_diff (codes "d") w) ds ats in
+    let begins = byte_len-tag_front (in_diff (codes "d") w) ds ats in
     omega (arith, whole, begins, tag w)
 
 filled : (w : List ℕ) (ds : List Decl) (ats : List Attr) (e : Tree)
     → byte_len (print (operation_of (codes "d") ds w ats (of_children (e ∷ [])))) ≡ filled_len (byte_len w) (byte_len (flat_map print_decl ds)) (byte_len (flat_map print_attr ats)) (byte_len (print e))
 filled w ds ats e =
     let whole = byte_len-whole (operation_of (codes "d") ds w ats (of_children (e ∷ []))) refl in
-    let begins = byte_len-opening (in_diff (codes "d") w) ds ats in
-    let ends = byte_len-closing (in_diff (codes "d") w) in
+    let begins = byte_len-tag_front (in_diff (codes "d") w) ds ats in
+    let ends = byte_len-end_tag_text (in_diff (codes "d") w) in
     let inside : byte_len (print_content (of_children (e ∷ []))) ≡ byte_len (print e) = ap byte_len (append-nil (print e)) in
     omega (arith, whole, begins, ends, inside, tag w)
 
@@ -100,8 +100,8 @@ valued : (w : List ℕ) (ds : List Decl) (ats : List Attr) (v : List ℕ)
 valued w ds ats [] = bare w ds ats
 valued w ds ats (c ∷ cs) =
     let whole = byte_len-whole (operation_of (codes "d") ds w ats (last (c ∷ cs))) refl in
-    let begins = byte_len-opening (in_diff (codes "d") w) ds ats in
-    let ends = byte_len-closing (in_diff (codes "d") w) in
+    let begins = byte_len-tag_front (in_diff (codes "d") w) ds ats in
+    let ends = byte_len-end_tag_text (in_diff (codes "d") w) in
     omega (arith, whole, begins, ends, tag w)
 
 -- ---- the operation of each change

@@ -9,7 +9,7 @@ use Rattle.edit_ops.specs.declared.change.Change.{Change}
 use Rattle.edit_ops.specs.declared.change.Change.TheVariants.{CreateDocument, Insert, Replace, Remove, SetAttr, DropAttr, RemoveDocument}
 use Rattle.edit_ops.specs.Changes.{Fits, edited}
 use Rattle.edit_ops.specs.ElementChanges.{site}
-use Rattle.edit_ops.specs.inner.LocalChanges.{FitsHere, made_here}
+use Rattle.edit_ops.specs.inner.LocalChanges.{FitsLocally, local_result}
 
 -- ---- existing elements
 
@@ -32,19 +32,19 @@ parent_and_number (n ∷ []) h = refl
 parent_and_number (n ∷ m ∷ p) h = ap (λ l. n ∷ l) (parent_and_number (m ∷ p) (omega arith))
 
 -- a change that fits a tree fits the element at its site
-pub fits_there : (t : Tree) (change : Change) → Fits t change → IsSomeAnd (at (site change) t) (FitsHere change)
+pub fits_there : (t : Tree) (change : Change) → Fits t change → IsSomeAnd (at (site change) t) (FitsLocally change)
 fits_there t (CreateDocument root) fits = absurd fits
 fits_there t (Insert parent gap element) fits = fits
 fits_there t (Replace p element) fits = some_there (at p t) fits
 fits_there t (Remove p) fits =
     let below = subst IsSome (ap (λ q. at q t) (parent_and_number p fits.0) ∙ at-snoc (parent_path p) (own_number p) t) fits.1 in
-    there_with (at (parent_path p) t) (λ e. own_number p < length (child_elements_of e)) (FitsHere (Remove p)) (λ e h. (fits.0, h)) (kid_there (at (parent_path p) t) (own_number p) below)
+    there_with (at (parent_path p) t) (λ e. own_number p < length (child_elements_of e)) (FitsLocally (Remove p)) (λ e h. (fits.0, h)) (kid_there (at (parent_path p) t) (own_number p) below)
 fits_there t (SetAttr p name value) fits = some_there (at p t) fits
 fits_there t (DropAttr p name) fits = some_there (at p t) (some_before _ (at p t) fits)
 fits_there t RemoveDocument fits = absurd fits
 
 -- a change of a tree is a change of the element at its site
-pub edited_there : (t : Tree) (change : Change) → edited t change ≡ change_at (site change) (made_here change) t
+pub edited_there : (t : Tree) (change : Change) → edited t change ≡ change_at (site change) (local_result change) t
 edited_there t (CreateDocument root) = refl
 edited_there t (Insert parent gap element) = refl
 edited_there t (Replace p element) = refl

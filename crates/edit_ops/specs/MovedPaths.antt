@@ -10,10 +10,10 @@ use Rattle.edit_ops.specs.declared.change.Change.TheVariants.{Remove, SetAttr, D
 use Rattle.edit_ops.specs.declared.change.Change.TheVariants.{RemoveDocument}
 
 -- the rest of p after q, where p begins with q: the path from the element at q to the one at p
-abbrev pub behind : List ℕ → List ℕ → Option (List ℕ)
-behind [] p = Some p
-behind (m ∷ q) [] = None
-behind (m ∷ q) (n ∷ p) = if m == n then behind q p else None
+abbrev pub path_below : List ℕ → List ℕ → Option (List ℕ)
+path_below [] p = Some p
+path_below (m ∷ q) [] = None
+path_below (m ∷ q) (n ∷ p) = if m == n then path_below q p else None
 
 -- the path below an element, once an element was inserted into its gap j
 abbrev pub made_room : ℕ → List ℕ → List ℕ
@@ -31,7 +31,7 @@ re_routed f q p None = p
 re_routed f q p (Some r) = q ++ f r
 
 abbrev pub under : (List ℕ → List ℕ) → List ℕ → List ℕ → List ℕ
-under f q p = re_routed f q p (behind q p)
+under f q p = re_routed f q p (path_below q p)
 
 -- the second value, where the first is absent
 abbrev pub unless : {A B : Type 0} → Option A → B → Option B
@@ -44,8 +44,8 @@ unless (Some a) b = None
 abbrev pub moved : List ℕ → Change → Option (List ℕ)
 moved p (CreateDocument root) = None
 moved p (Insert parent gap element) = Some (under (made_room gap) parent p)
-moved p (Replace q element) = unless (behind q p) p
-moved p (Remove q) = unless (behind q p) (under (closed_up (own_number q)) (parent_path q) p)
+moved p (Replace q element) = unless (path_below q p) p
+moved p (Remove q) = unless (path_below q p) (under (closed_up (own_number q)) (parent_path q) p)
 moved p (SetAttr q name value) = Some p
 moved p (DropAttr q name) = Some p
 moved p RemoveDocument = None
@@ -54,4 +54,5 @@ moved p RemoveDocument = None
 -- where `moved` says
 abbrev pub KeepsTheOthers : Tree → Change → Tree → Type 0
 KeepsTheOthers t change new =
-    (p q : List ℕ) → behind p (place change) ≡ None → moved p change ≡ Some q → at q new ≡ at p t
+    (p q : List ℕ) → path_below p (place change) ≡ None → moved p change ≡ Some q → at q new
+    ≡ at p t

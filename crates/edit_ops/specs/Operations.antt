@@ -47,14 +47,15 @@ gap_attrs parent zero =
 gap_attrs parent (suc j) =
     sel_attr (path_text (parent ++ j ∷ [])) ∷ plain_attr (codes "pos") (codes "after") ∷ []
 
--- an attribute that is written: added if it is new, else replaced
-abbrev pub writing : List ℕ → List Decl → List ℕ → Name → List ℕ → Bool → Tree
-writing prefix bindings p name value true =
-    operation_of prefix bindings (codes "add")
-    (sel_attr (path_text p) ∷ plain_attr (codes "type") (attr_name_text name) ∷ []) (last value)
-writing prefix bindings p name value false =
-    operation_of prefix bindings (codes "replace") (sel_attr (attr_path_text p name) ∷ [])
-    (last value)
+-- an attribute that is set: added if it is new, else replaced
+abbrev pub set_word : Bool → List ℕ
+set_word true = codes "add"
+set_word false = codes "replace"
+
+abbrev pub set_attrs : List ℕ → Name → Bool → List Attr
+set_attrs p name true =
+    sel_attr (path_text p) ∷ plain_attr (codes "type") (attr_name_text name) ∷ []
+set_attrs p name false = sel_attr (attr_path_text p name) ∷ []
 
 -- the operation of a change, with the bindings of its place; creating or removing a document has
 -- none, and an empty `remove` takes its place here
@@ -69,7 +70,7 @@ change_operation prefix bindings fresh (Replace p element) =
 change_operation prefix bindings fresh (Remove p) =
     operation_of prefix bindings (codes "remove") (sel_attr (path_text p) ∷ []) (last [])
 change_operation prefix bindings fresh (SetAttr p name value) =
-    writing prefix bindings p name value fresh
+    operation_of prefix bindings (set_word fresh) (set_attrs p name fresh) (last value)
 change_operation prefix bindings fresh (DropAttr p name) =
     operation_of prefix bindings (codes "remove") (sel_attr (attr_path_text p name) ∷ []) (last [])
 change_operation prefix bindings fresh RemoveDocument =

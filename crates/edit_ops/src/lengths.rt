@@ -10,8 +10,8 @@ ghost use Rattle.xml_names.specs.Markup.{byte_len, print_attr};
 ghost use Rattle.xml_tree.specs.Print.{is_empty, print};
 ghost use Rattle.edit_ops.specs.Changes.{Fits, edited};
 ghost use Rattle.edit_ops.specs.Lengths.{element_len};
-ghost use Rattle.edit_ops.specs.inner.Lengths.{inserted_part, end_tag_len, lost};
-ghost use Rattle.edit_ops.specs.inner.LocalChanges.{FitsHere};
+ghost use Rattle.edit_ops.specs.inner.Lengths.{inserted_part, end_tag_len, removed_len};
+ghost use Rattle.edit_ops.specs.inner.LocalChanges.{FitsLocally};
 
 use crate::change::{Change, site_of};
 use xml_names::{Name, attr_len, name_len};
@@ -93,8 +93,8 @@ fn child_and_end_tag_len(element: &Element, child: usize) -> usize
 // What a change takes off the print of the element that it is made in.
 #[tactic(auto, using(crate::proofs::WayLemmas::parents))]
 fn lost_len(element: &Element, change: &Change) -> usize
-    requires { FitsHere change.now element.now }
-    ensures exact { result ≡ min (lost change.now element.now) usize.MAX }
+    requires { FitsLocally change.now element.now }
+    ensures exact { result ≡ min (removed_len change.now element.now) usize.MAX }
 {
     match change {
         Change::CreateDocument { .. } => 0,

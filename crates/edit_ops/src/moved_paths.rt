@@ -2,15 +2,15 @@
 ghost use Rattle.std.specs.Prelude.{◌≡◌, ◌≤◌, ◌+◌, ◌++◌, ◌∷◌, suc, All, IfSome, length};
 ghost use Rattle.std.specs.Option.{option_copied};
 ghost use Rattle.xml_tree.specs.declared.path.TheConstants.{PATH_LIMIT};
-ghost use Rattle.edit_ops.specs.MovedPaths.{behind, closed_up, made_room, moved, under, unless};
+ghost use Rattle.edit_ops.specs.MovedPaths.{path_below, closed_up, made_room, moved, under, unless};
 ghost use Rattle.xml_tree.specs.Edits.{own_number, parent_path};
 
 use crate::change::Change;
 use xml_tree::Path;
 
 // The rest of a path after a place, where the path begins with the place.
-fn way<'a>(place: &[usize], path: &'a [usize]) -> Option<&'a [usize]>
-    ensures exact { option_copied result ≡ behind place.now path.now }
+fn path_below<'a>(place: &[usize], path: &'a [usize]) -> Option<&'a [usize]>
+    ensures exact { option_copied result ≡ path_below place.now path.now }
     ensures completes_path { IfSome result (λ rest. path.now ≡ place.now ++ rest.now) }
 {
     match place.split_first() {
@@ -21,7 +21,7 @@ fn way<'a>(place: &[usize], path: &'a [usize]) -> Option<&'a [usize]>
                 if first != number {
                     return None;
                 }
-                way(place, below)
+                path_below(place, below)
             }
         },
     }
@@ -59,7 +59,7 @@ fn after_insertion(path: &Path, parent: &Path, gap: usize) -> Path
     requires { All (λ n. n ≤ 4294967295) path.now }
     ensures exact { result ≡ under (made_room gap) parent.now path.now }
 {
-    let rest = match way(parent.numbers(), path.numbers()) {
+    let rest = match path_below(parent.numbers(), path.numbers()) {
         None => return path.copy(),
         Some(rest) => rest,
     };
@@ -78,7 +78,7 @@ fn after_insertion(path: &Path, parent: &Path, gap: usize) -> Path
 fn after_removal(path: &Path, parent: &Path, gone: usize) -> Path
     ensures exact { result ≡ under (closed_up gone) parent.now path.now }
 {
-    let rest = match way(parent.numbers(), path.numbers()) {
+    let rest = match path_below(parent.numbers(), path.numbers()) {
         None => return path.copy(),
         Some(rest) => rest,
     };
@@ -97,10 +97,10 @@ fn after_removal(path: &Path, parent: &Path, gone: usize) -> Path
 // there or through it.
 #[tactic(auto, using(crate::proofs::WayLemmas::parents))]
 fn after_cut(path: &Path, place: &Path) -> Option<Path>
-    ensures exact { result ≡ unless (behind place.now path.now)
+    ensures exact { result ≡ unless (path_below place.now path.now)
         (under (closed_up (own_number place.now)) (parent_path place.now) path.now) }
 {
-    if way(place.numbers(), path.numbers()).is_some() {
+    if path_below(place.numbers(), path.numbers()).is_some() {
         return None;
     }
     match place.split_last() {
@@ -120,7 +120,7 @@ pub fn moved(path: &Path, change: &Change) -> Option<Path>
         Change::CreateDocument { .. } => None,
         Change::Insert { parent, gap, .. } => Some(after_insertion(path, parent, *gap)),
         Change::Replace { at, .. } => {
-            if way(at.numbers(), path.numbers()).is_some() {
+            if path_below(at.numbers(), path.numbers()).is_some() {
                 return None;
             }
             Some(path.copy())

@@ -7,7 +7,7 @@ ghost use Rattle.xml_tree.specs.Edits.{write_attr};
 ghost use Rattle.xml_tree.specs.Nodes.{content_of};
 ghost use Rattle.xml_tree.specs.declared.tree.Node.TheVariants as node;
 ghost use Rattle.edit_ops.specs.Changes.{Fits, edited};
-ghost use Rattle.edit_ops.specs.inner.LocalChanges.{FitsHere, made_here};
+ghost use Rattle.edit_ops.specs.inner.LocalChanges.{FitsLocally, local_result};
 
 use crate::change::{Change, site_of};
 use std::alloc::{AllocError, Global};
@@ -135,7 +135,7 @@ fn push_nodes(alloc: Global, made: &mut Vec<Node>, nodes: &[Node]) -> Result<(),
 }
 
 // Copies of nodes, an element, and copies of further nodes.
-fn around(
+fn nodes_around(
     alloc: Global,
     before: &[Node],
     element: Element,
@@ -150,7 +150,7 @@ fn around(
 }
 
 // Copies of nodes, and of further nodes.
-fn together(alloc: Global, before: &[Node], behind: &[Node]) -> Result<Vec<Node>, AllocError>
+fn join_nodes(alloc: Global, before: &[Node], behind: &[Node]) -> Result<Vec<Node>, AllocError>
     ensures ok { IfOk result (λ made. made.items ≡ before.now ++ behind.now) }
 {
     let mut made = copy_nodes(alloc, before)?;
@@ -184,7 +184,7 @@ fn with_element(
     let nodes = element.nodes();
     let (before, behind) = nodes.split_at(place_of_gap(nodes, gap));
     let put = copy_tree(alloc, put)?;
-    let nodes = around(alloc, before, put, behind)?;
+    let nodes = nodes_around(alloc, before, put, behind)?;
     with_nodes(alloc, element, nodes)
 }
 
@@ -201,7 +201,7 @@ fn with_child(
 {
     let nodes = element.nodes();
     let at = place_of(nodes, child);
-    let nodes = around(alloc, nodes.split_at(at).0, put, nodes.split_at(at + 1).1)?;
+    let nodes = nodes_around(alloc, nodes.split_at(at).0, put, nodes.split_at(at + 1).1)?;
     with_nodes(alloc, element, nodes)
 }
 
@@ -213,7 +213,7 @@ fn without_child(alloc: Global, element: &Element, child: usize) -> Result<Eleme
 {
     let nodes = element.nodes();
     let at = place_of(nodes, child);
-    let nodes = together(alloc, nodes.split_at(at).0, nodes.split_at(at + 1).1)?;
+    let nodes = join_nodes(alloc, nodes.split_at(at).0, nodes.split_at(at + 1).1)?;
     with_nodes(alloc, element, nodes)
 }
 
@@ -247,9 +247,9 @@ fn without_attr(alloc: Global, element: &Element, name: &Name) -> Result<Element
 
 // The element that a change is made in, after it.
 #[tactic(auto, using(crate::proofs::WayLemmas::parents))]
-fn rebuilt_here(alloc: Global, element: &Element, change: &Change) -> Result<Element, AllocError>
-    requires { FitsHere change.now element.now }
-    ensures ok { IfOk result (λ made. made ≡ made_here change.now element.now) }
+fn rebuild_here(alloc: Global, element: &Element, change: &Change) -> Result<Element, AllocError>
+    requires { FitsLocally change.now element.now }
+    ensures ok { IfOk result (λ made. made ≡ local_result change.now element.now) }
 {
     match change {
         Change::CreateDocument { root: _ } => unreachable!(),
@@ -270,22 +270,23 @@ fn rebuilt_here(alloc: Global, element: &Element, change: &Change) -> Result<Ele
 }
 
 // The element at the start of a path to the element that a change is made in, after it.
-fn rebuilt_below(
+fn rebuild_below(
     alloc: Global,
     element: &Element,
     way: &[usize],
     change: &Change,
 ) -> Result<Element, AllocError>
-    requires { IsSomeAnd (at way.now element.now) (FitsHere change.now) }
-    ensures ok { IfOk result (λ made. made ≡ change_at way.now (made_here change.now) element.now) }
+    requires { IsSomeAnd (at way.now element.now) (FitsLocally change.now) }
+    ensures ok { IfOk result (λ made. made
+        ≡ change_at way.now (local_result change.now) element.now) }
 {
     let [child, way @ ..] = way else {
-        return rebuilt_here(alloc, element, change);
+        return rebuild_here(alloc, element, change);
     };
     let Some(child_element) = element.child_element(*child) else {
         unreachable!()
     };
-    let made = rebuilt_below(alloc, child_element, way, change)?;
+    let made = rebuild_below(alloc, child_element, way, change)?;
     with_child(alloc, element, *child, made)
 }
 
@@ -297,7 +298,7 @@ pub fn rebuilt(alloc: Global, root: &Element, change: &Change) -> Result<Element
     requires { Fits root.now change.now }
     ensures makes_change { IfOk result (λ made. made ≡ edited root.now change.now) }
 {
-    rebuilt_below(alloc, root, site_of(change).numbers(), change)
+    rebuild_below(alloc, root, site_of(change).numbers(), change)
 }
 
 /// An element with another's name, declarations and attributes, and without content.

@@ -9,9 +9,9 @@ ghost use Rattle.xml_names.specs.declared.names.Attr.{Attr as AnAttr};
 ghost use Rattle.xml_tree.specs.declared.tree.Node.{Node as ANode};
 ghost use Rattle.edit_ops.specs.Changes.{Fits, WantsMemory, edited};
 ghost use Rattle.edit_ops.specs.MovedPaths.{KeepsTheOthers};
-ghost use Rattle.edit_ops.specs.inner.LocalChanges.{FitsHere, made_here};
+ghost use Rattle.edit_ops.specs.inner.LocalChanges.{FitsLocally, local_result};
 ghost use Rattle.edit_ops.specs.StagedChanges.{IsStaged, IsStagedHere};
-ghost use Rattle.edit_ops.specs.inner.LocalChanges.{WantsHere};
+ghost use Rattle.edit_ops.specs.inner.LocalChanges.{NeedsMemoryLocally};
 ghost use Rattle.edit_ops.specs.declared.staged_change.Staged.TheVariants as staging;
 
 use crate::change::{Change, site_of};
@@ -99,10 +99,10 @@ fn joint(alloc: Global, parent: &Element, place: &Path) -> Result<Staged, AllocE
 }
 
 // What a change inserts into the element that it is made in.
-fn staged_here(alloc: Global, here: &Element, change: &Change) -> Result<Staged, AllocError>
-    requires { FitsHere change.now here.now }
+fn stage_here(alloc: Global, here: &Element, change: &Change) -> Result<Staged, AllocError>
+    requires { FitsLocally change.now here.now }
     ensures stages_change { IfOk result (λ made. IsStagedHere change.now here.now made) }
-    ensures err_wants_memory { IfErr result (λ _. WantsHere change.now here.now) }
+    ensures err_wants_memory { IfErr result (λ _. NeedsMemoryLocally change.now here.now) }
 {
     match change {
         Change::CreateDocument { root: _ } => unreachable!(),
@@ -133,7 +133,7 @@ pub fn stage(alloc: Global, root: &Element, change: &Change) -> Result<Staged, A
     let Some(here) = element_at(root, &site_of(change)) else {
         unreachable!()
     };
-    staged_here(alloc, here, change)
+    stage_here(alloc, here, change)
 }
 
 // ---- the change
@@ -156,9 +156,9 @@ fn take_out(parent: &mut Element, place: &Path, joined: Option<Text>)
 
 // Makes a change in the element that it is made in.
 fn make_here(here: &mut Element, change: &Change, staged: Staged)
-    requires fits { FitsHere change.now here.old }
+    requires fits { FitsLocally change.now here.old }
     requires change_staged { IsStagedHere change.now here.old staged }
-    ensures changed_here { here.new ≡ made_here change.now here.old }
+    ensures changed_here { here.new ≡ local_result change.now here.old }
 {
     match (change, staged) {
         (Change::Insert { gap, .. }, Staged::Child { element, room }) => {
@@ -188,9 +188,9 @@ pub fn apply_staged(root: &mut Element, change: &Change, staged: Staged)
     root.edit_at(
         &site_of(change),
         |here: &mut Element|
-            requires fits { FitsHere change.now here.old }
+            requires fits { FitsLocally change.now here.old }
             requires change_staged { IsStagedHere change.now here.old staged }
-            ensures changed_here { here.new ≡ made_here change.entry.now here.old }
+            ensures changed_here { here.new ≡ local_result change.entry.now here.old }
         { make_here(here, change, staged) },
     )
 }

@@ -2,7 +2,7 @@
 use Rattle.std.proofs.Common.{◌≡◌, ◌↔◌, inl, inr, ◌+◌, ℕ, Bool, false, List, length, Option, Some, None, Result, Ok, Err, IsTrue, refl, sym, ap, ◌∙◌, subst}
 use Rattle.std.specs.Option.{ForSome}
 use Rattle.std.proofs.lemmas.Option.{same_Some, none-some}
-use Rattle.node_select.specs.InsertionPoints.{IsLawfulInsertion, PlanIs}
+use Rattle.node_select.specs.InsertionPoints.{IsLawfulInsertion, IsInsertionPlan}
 use Rattle.doc_names.specs.declared.usages.Usage.{Usage}
 use Rattle.xml_tree.specs.Tree.{Tree, child_elements_of}
 use Rattle.node_select.specs.declared.selector.Step.{Step}
@@ -28,7 +28,7 @@ use Rattle.edit_plans.specs.declared.insertion_points.NoInsertionPoint.{NoInsert
 use Rattle.edit_plans.specs.declared.insertion_points.NoInsertionPoint.TheVariants.{Unlawful, Invalid}
 use Rattle.edit_plans.specs.inner.ChildChanges.{FormedIn, IsJudgedIn, IsPlacedIn}
 use Rattle.edit_plans.specs.inner.Neighbours.{FitsIn}
-use Rattle.edit_plans.specs.inner.CheckedChanges.{IsJudgedAs, IsTestedAs, IsTold, allowed_change}
+use Rattle.edit_plans.specs.inner.CheckedChanges.{IsJudgedAs, IsTestedAs, RefusesWithFault, allowed_change}
 
 pub true_false : (b : Bool) → IsTrue b → b ≡ false → ⊥
 true_false b t f = cc
@@ -74,7 +74,7 @@ module _ (row : Option ElementKind) (c : Scope) (step : Step) (parent new : Tree
   V = FitsIn row c parent.content new
 
   abbrev pub Chosen : Result ℕ NoInsertionPoint → Type 0
-  Chosen r = PlanIs Unlawful Invalid (IsLawfulInsertion (is_named c step) (is_tested c step) step.position (child_elements_of parent) new) V (length (child_elements_of parent) + 1) r
+  Chosen r = IsInsertionPlan Unlawful Invalid (IsLawfulInsertion (is_named c step) (is_tested c step) step.position (child_elements_of parent) new) V (length (child_elements_of parent) + 1) r
 
   pub placed_ok : (gap : ℕ) (result : Result ℕ EditRefusal) → Chosen (Ok gap) → IsJudgedIn (FormedIn row c new) (record { kind = row; scope = c; elements = child_elements_of parent; path = q }) new gap result → IsPlacedIn (record { kind = row; scope = c; step = step; element = parent }) new q result
   placed_ok gap result chosen check_insertion = record { gap = Ok gap; is_chosen = chosen; then = check_insertion }
@@ -103,7 +103,7 @@ judged_from formed row c child_elements new q gap u after r valid forms first fo
     by (Some kind) is f = first kind is None (f kind refl)
 
 -- the change, by the result for the document that it makes
-made_told : (change : Change) (fault : Option Fault) (found : Result ℕ EditRefusal) → IsTold fault found → allowed_change change found ≡ by_fault change fault
+made_told : (change : Change) (fault : Option Fault) (found : Result ℕ EditRefusal) → RefusesWithFault fault found → allowed_change change found ≡ by_fault change fault
 made_told change None found h = ap (allowed_change change) h.1
 made_told change (Some fault) found h = ap (allowed_change change) h
 

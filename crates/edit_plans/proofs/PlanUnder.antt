@@ -1,7 +1,7 @@
 -- The plan of an insertion decided from the parent is the plan of the whole document, in which
 -- every insertion point is tried and selected again.
 use Rattle.std.proofs.Common.{◌≡◌, inl, inr, ◌+◌, ◌≤◌, ℕ, List, [], ◌∷◌, ◌++◌, length, length-append, get_or, Option, Some, None, IsSome, Result, Ok, Err, refl, sym, ap, ◌∙◌, subst, arith}
-use Rattle.node_select.specs.InsertionPoints.{IsLawfulInsertion, PlanIs}
+use Rattle.node_select.specs.InsertionPoints.{IsLawfulInsertion, IsInsertionPlan}
 use Rattle.node_select.proofs.GapPlans.{plan_alike}
 use Rattle.doc_names.specs.declared.usages.Usage.{Usage}
 use Rattle.xml_tree.specs.Tree.{Tree, at, child_elements_of}
@@ -30,7 +30,7 @@ use Rattle.edit_rules.proofs.StaysSelected.{lawful_gap}
 use Rattle.edit_rules.proofs.ValidBeside.{valid_beside}
 use Rattle.edit_plans.specs.inner.ChildChanges.{FormedIn, FromGapIn, IsJudgedIn, IsPlacedIn}
 use Rattle.edit_plans.specs.inner.Neighbours.{FitsIn}
-use Rattle.edit_plans.specs.inner.CheckedChanges.{IsTold, element_insertion}
+use Rattle.edit_plans.specs.inner.CheckedChanges.{RefusesWithFault, element_insertion}
 use Rattle.edit_plans.proofs.ParentAnswers.{judged_from}
 
 same_number : (gap n : ℕ) → ◌≡◌ {A = Result ℕ EditRefusal} (Ok gap) (Ok n) → n ≡ gap
@@ -42,7 +42,7 @@ judged_number formed row c child_elements new q gap placed (inl h) n is = let z 
 judged_number formed row c child_elements new q gap placed (inr (inl h)) n is = let z = sym h.1.0 ∙ is in cc
 judged_number formed row c child_elements new q gap placed (inr (inr h)) n is = same_number gap n (sym h.0 ∙ is)
 
-inserted_told : (q : List ℕ) (new : Tree) (gap : ℕ) (fault : Option Fault) (placed : Result ℕ EditRefusal) → ((n : ℕ) → placed ≡ Ok n → n ≡ gap) → IsTold fault placed → element_insertion q new placed ≡ by_fault (Insert q gap new) fault
+inserted_told : (q : List ℕ) (new : Tree) (gap : ℕ) (fault : Option Fault) (placed : Result ℕ EditRefusal) → ((n : ℕ) → placed ≡ Ok n → n ≡ gap) → RefusesWithFault fault placed → element_insertion q new placed ≡ by_fault (Insert q gap new) fault
 inserted_told q new gap None placed one h = ap (element_insertion q new) h.1 ∙ ap (λ (n : ℕ). Ok (Insert q n new)) (one h.0 h.1)
 inserted_told q new gap (Some fault) placed one h = ap (element_insertion q new) h
 
@@ -60,7 +60,7 @@ module _ (u : Usage) (t parent new : Tree) (q : List ℕ) (there : at q t ≡ So
   from_gap (Err why) placed within h = ap (element_insertion q new) h
 
 -- the chosen insertion point exists, and is valid
-within_plan : {E : Type 0} (unlawful invalid : E) (L V : ℕ → Type 0) (many j : ℕ) (r : Result ℕ E) → PlanIs unlawful invalid L V (many + 1) r → r ≡ Ok j → (j ≤ many) × V j
+within_plan : {E : Type 0} (unlawful invalid : E) (L V : ℕ → Type 0) (many j : ℕ) (r : Result ℕ E) → IsInsertionPlan unlawful invalid L V (many + 1) r → r ≡ Ok j → (j ≤ many) × V j
 within_plan unlawful invalid L V many j (Ok gap) h is = let same : gap ≡ j = cc in let lt = h.within in (omega arith, subst V same h.is_valid)
 within_plan unlawful invalid L V many j (Err e) h is = cc
 

@@ -6,7 +6,7 @@ use Rattle.std.specs.Option.{ForSome}
 use Rattle.std.proofs.lemmas.Option.{same_Some, none-some, slice_get_within}
 use Rattle.std.proofs.lemmas.Bool.{cases_lt}
 use Rattle.node_select.specs.StepSelection.{IsAtPosition, Matches, is_at_position}
-use Rattle.node_select.specs.InsertionPoints.{IsFree, IsLawfulInsertion, PlanIs}
+use Rattle.node_select.specs.InsertionPoints.{IsFree, IsLawfulInsertion, IsInsertionPlan}
 use Rattle.node_select.proofs.SelectionAgreement.{is_at_position_is}
 use Rattle.node_select.proofs.GapLaws.{lawful_by_count, lawful_free}
 use Rattle.xml_tree.specs.Tree.{Content, last, more, comment_node, Tree, tree_of, child_elements}
@@ -98,17 +98,17 @@ lawful_here named tested position xs e gap before lawful le n t free counted is 
 
 -- ---- no insertion point is lawful
 
-none_planned : {E : Type 0} (unlawful invalid : E) (L V : ℕ → Type 0) (many : ℕ) → ((k : ℕ) → k < many + 1 → L k → ⊥) → PlanIs unlawful invalid L V (many + 1) (Err unlawful)
+none_planned : {E : Type 0} (unlawful invalid : E) (L V : ℕ → Type 0) (many : ℕ) → ((k : ℕ) → k < many + 1 → L k → ⊥) → IsInsertionPlan unlawful invalid L V (many + 1) (Err unlawful)
 none_planned unlawful invalid L V many h = inl (refl, record { none = h })
 
 module _ {E : Type 0} (unlawful invalid : E) (named tested : Tree → Bool) (position : Option ℕ) (xs : List Tree) (e : Tree) (V : ℕ → Type 0) where
-  pub not_free : (IsFree named tested position xs → ⊥) → PlanIs unlawful invalid (IsLawfulInsertion named tested position xs e) V (length xs + 1) (Err unlawful)
+  pub not_free : (IsFree named tested position xs → ⊥) → IsInsertionPlan unlawful invalid (IsLawfulInsertion named tested position xs e) V (length xs + 1) (Err unlawful)
   not_free no_room = none_planned unlawful invalid (IsLawfulInsertion named tested position xs e) V (length xs) (λ k lt l. no_room (lawful_free named tested position xs e k (omega arith) l))
 
 -- ---- the last insertion point of all, where the step has no position
 
 pub last_of_all : {E : Type 0} (unlawful invalid : E) (named tested : Tree → Bool) (position : Option ℕ) (xs : List Tree) (e : Tree) (V : ℕ → Type 0) (many : ℕ) → many ≡ length xs → position ≡ None → IsTrue (named e) → IsTrue (tested e) → IsFree named tested position xs → V many
-    → PlanIs unlawful invalid (IsLawfulInsertion named tested position xs e) V (length xs + 1) (Ok many)
+    → IsInsertionPlan unlawful invalid (IsLawfulInsertion named tested position xs e) V (length xs + 1) (Ok many)
 last_of_all unlawful invalid named tested position xs e V many same none n t free fits =
     let before = count_by named (take many xs) in
     let l = lawful_by_count named tested position xs e many before (omega arith) n t free refl in
@@ -142,8 +142,8 @@ pub none_at_all : {A : Type 0} (named tested : A → Bool) (xs : List A) (n : �
 none_at_all named tested xs n end none (k, m) = none k (let lt = slice_get_within xs k m.child_element m.there in omega arith) m
 
 -- a plan at equal numbers and results
-pub plan_at : {E : Type 0} (unlawful invalid : E) (L V : ℕ → Type 0) (n n' : ℕ) (r r' : Result ℕ E) → n' ≡ n → r' ≡ r → PlanIs unlawful invalid L V n r → PlanIs unlawful invalid L V n' r'
-plan_at {E = E} unlawful invalid L V n n' r r' sn sr h = subst (λ (k : ℕ). PlanIs unlawful invalid L V k r') (sym sn) (subst (λ (x : Result ℕ E). PlanIs unlawful invalid L V n x) (sym sr) h)
+pub plan_at : {E : Type 0} (unlawful invalid : E) (L V : ℕ → Type 0) (n n' : ℕ) (r r' : Result ℕ E) → n' ≡ n → r' ≡ r → IsInsertionPlan unlawful invalid L V n r → IsInsertionPlan unlawful invalid L V n' r'
+plan_at {E = E} unlawful invalid L V n n' r r' sn sr h = subst (λ (k : ℕ). IsInsertionPlan unlawful invalid L V k r') (sym sn) (subst (λ (x : Result ℕ E). IsInsertionPlan unlawful invalid L V n x) (sym sr) h)
 
 -- the test that no other child keeps the new one from being selected
 pub free_none : (named tested : Tree → Bool) (position : Option ℕ) (xs : List Tree) (some free : Bool) → position ≡ None → free ≡ not some → IsTrue some ↔ ((k : ℕ) × Matches named tested None xs k) → IsTrue free ↔ IsFree named tested position xs

@@ -1,6 +1,6 @@
 //! Whether an element may have its attributes changed (RFC 4825, sections 8.2.4 and 8.4).
 ghost use Rattle.std.specs.Prelude.{◌≡◌, ◌≤◌, Some, None};
-ghost use Rattle.xml_names.specs.Limits.{max_levels};
+ghost use Rattle.xml_names.specs.declared.limits.TheConstants.{MAX_LEVELS};
 ghost use Rattle.xml_tree.specs.Tree.{at, height};
 ghost use Rattle.node_select.specs.Selection.{SelectsPath};
 ghost use Rattle.node_select.specs.declared.selector.End.TheVariants as ends;
@@ -30,7 +30,7 @@ pub(crate) fn plan_attribute_change(
     tag: &Element,
     sought: &AttributeEdit<'_>,
 ) -> Result<usize, EditRefusal>
-    requires height_bounded { height root.now ≤ max_levels }
+    requires height_bounded { height root.now ≤ MAX_LEVELS }
     requires place_exists { at path.now root.now ≡ Some element.now }
     requires tag { tag.now ≡ tag_with tag.now.attrs element.now }
     requires selector_end { selector.now.end

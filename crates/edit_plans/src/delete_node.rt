@@ -1,6 +1,6 @@
 //! The change that a DELETE of a node makes, or why it makes none (RFC 4825, section 8.4).
 ghost use Rattle.std.specs.Prelude.{◌≡◌, ◌≤◌, IfOk, None};
-ghost use Rattle.xml_names.specs.Limits.{max_levels};
+ghost use Rattle.xml_names.specs.declared.limits.TheConstants.{MAX_LEVELS};
 ghost use Rattle.xml_names.specs.Attributes.{without_attr};
 ghost use Rattle.xml_tree.specs.Tree.{height};
 ghost use Rattle.node_select.specs.Selection.{SelectsPath};
@@ -92,7 +92,7 @@ fn plan_drop<'a>(
     uri: &'a Text,
     local: &'a Text,
 ) -> Result<Result<Change, EditRefusal>, NoMemory>
-    requires height_bounded { height root.now ≤ max_levels }
+    requires height_bounded { height root.now ≤ MAX_LEVELS }
     requires selector_end { selector.now.end ≡ ends.Attribute uri.now local.now }
     requires selected { SelectsPath selector.now.steps root.now path }
     requires faultless { HasFirstFault usage root.now None }
@@ -132,7 +132,7 @@ pub fn plan_delete(
     root: &Element,
     selector: &Selector,
 ) -> Result<Result<Change, EditRefusal>, NoMemory>
-    requires height_bounded { height root.now ≤ max_levels }
+    requires height_bounded { height root.now ≤ MAX_LEVELS }
     requires selects_node { selector.now.end ≡ ends.Namespaces → ⊥ }
     requires faultless { HasFirstFault usage root.now None }
     ensures as_specified { IfOk result (IsDeletePlan usage root.now selector.now) }

@@ -4,7 +4,8 @@
 ghost use Rattle.std.specs.Prelude.{◌≡◌, ◌↔◌, ◌<◌, ◌+◌, ◌^◌, ℕ, IsTrue, None, cond, length};
 ghost use Rattle.std.specs.Option.{ForSome};
 ghost use Rattle.node_select.specs.StepSelection.{Matches};
-ghost use Rattle.node_select.specs.InsertionPoints.{IsFree, IsLawfulInsertion, PlanIs, plan_with};
+ghost use Rattle.node_select.specs.InsertionPoints.{IsFree, IsLawfulInsertion, IsInsertionPlan};
+ghost use Rattle.node_select.specs.InsertionPoints.{plan_with};
 ghost use Rattle.xml_tree.specs.Tree.{child_elements_of};
 ghost use Rattle.node_select.specs.Selection.{is_named, is_tested};
 ghost use Rattle.usage_docs.specs.Validity.{ValidChild};
@@ -116,7 +117,7 @@ fn count(before: u64, more: bool) -> u64
 }
 
 // Whether any child passes both tests of a step.
-fn some_passes(alloc: Global, scope: &LinkedScope<'_>, step: &Step, parent: &Element) -> bool
+fn any_passes(alloc: Global, scope: &LinkedScope<'_>, step: &Step, parent: &Element) -> bool
     ensures exact { IsTrue result
         ↔ ((k : ℕ) × Matches (is_named scope.now step.now) (is_tested scope.now step.now) None
         (child_elements_of parent.now) k) }
@@ -141,7 +142,7 @@ fn is_free(alloc: Global, scope: &LinkedScope<'_>, step: &Step, parent: &Element
         (child_elements_of parent.now) }
 {
     match step.position {
-        None => !some_passes(alloc, scope, step, parent),
+        None => !any_passes(alloc, scope, step, parent),
         Some(_) => true,
     }
 }
@@ -159,7 +160,7 @@ fn count_children(parent: &Element) -> usize
     many
 }
 
-// Whether a new child may come after all children, of which there are `many`.
+// Whether a new child may come after all `many` children.
 fn fits_last(
     alloc: Global,
     row: Option<ElementKind>,
@@ -219,7 +220,7 @@ fn greatest_gap(
         (is_tested scope.now step.now) step.now.position (child_elements_of parent.now) }
     requires itself_valid { ForSome row
         (λ kind. IsTrue itself ↔ ValidChild kind scope.now new.now) }
-    ensures lawful_plan { PlanIs Unlawful Invalid
+    ensures lawful_plan { IsInsertionPlan Unlawful Invalid
         (IsLawfulInsertion (is_named scope.now step.now)
         (is_tested scope.now step.now) step.now.position (child_elements_of parent.now) new.now)
         (FitsIn row scope.now parent.now.content new.now)
@@ -248,7 +249,7 @@ fn last_gap(
         (is_tested scope.now step.now) step.now.position (child_elements_of parent.now) }
     requires itself_valid { ForSome row
         (λ kind. IsTrue itself ↔ ValidChild kind scope.now new.now) }
-    ensures lawful_plan { PlanIs Unlawful Invalid
+    ensures lawful_plan { IsInsertionPlan Unlawful Invalid
         (IsLawfulInsertion (is_named scope.now step.now)
         (is_tested scope.now step.now) step.now.position (child_elements_of parent.now) new.now)
         (FitsIn row scope.now parent.now.content new.now)
@@ -285,7 +286,7 @@ pub(crate) fn choose_gap(
     parent: &Element,
     new: &Element,
 ) -> Result<usize, NoInsertionPoint>
-    ensures lawful_plan { PlanIs Unlawful Invalid
+    ensures lawful_plan { IsInsertionPlan Unlawful Invalid
         (IsLawfulInsertion (is_named scope.now step.now)
         (is_tested scope.now step.now) step.now.position (child_elements_of parent.now) new.now)
         (FitsIn row scope.now parent.now.content new.now)

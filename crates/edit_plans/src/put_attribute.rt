@@ -3,7 +3,7 @@
 ghost use Rattle.std.specs.Prelude.{◌≡◌, ◌≤◌, Some, IfOk, option_map, None};
 ghost use Rattle.std.specs.List.{find};
 ghost use Rattle.std.specs.Str.{bytes_eq};
-ghost use Rattle.xml_names.specs.Limits.{max_levels};
+ghost use Rattle.xml_names.specs.declared.limits.TheConstants.{MAX_LEVELS};
 ghost use Rattle.xml_names.specs.Attributes.{with_attr};
 ghost use Rattle.xml_tree.specs.Tree.{height};
 ghost use Rattle.xml_names.specs.Scopes.{xml_uri};
@@ -159,7 +159,7 @@ fn plan_value(
     local: &Text,
     value: Text,
 ) -> Result<Result<Change, EditRefusal>, NoMemory>
-    requires height_bounded { height root.now ≤ max_levels }
+    requires height_bounded { height root.now ≤ MAX_LEVELS }
     requires selector_end { selector.now.end ≡ ends.Attribute uri.now local.now }
     requires selected { SelectsPath selector.now.steps root.now path.now }
     requires faultless { HasFirstFault usage root.now None }
@@ -200,7 +200,7 @@ pub fn plan_attr(
     at: &Path,
     value: Text,
 ) -> Result<Result<Change, EditRefusal>, NoMemory>
-    requires height_bounded { height root.now ≤ max_levels }
+    requires height_bounded { height root.now ≤ MAX_LEVELS }
     requires valid_spot { IsSpotOf root.now selector.now (Value at.now) }
     requires faultless { HasFirstFault usage root.now None }
     ensures as_specified { IfOk result

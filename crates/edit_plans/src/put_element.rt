@@ -1,7 +1,7 @@
 //! The change that a PUT of an element makes, or why it makes none (RFC 4825, sections 8.2.1 to
 //! 8.2.5).
 ghost use Rattle.std.specs.Prelude.{◌≡◌, ◌≤◌, ◌+◌, length, suc, None};
-ghost use Rattle.xml_names.specs.Limits.{max_levels};
+ghost use Rattle.xml_names.specs.declared.limits.TheConstants.{MAX_LEVELS};
 ghost use Rattle.xml_tree.specs.Tree.{height};
 ghost use Rattle.node_select.specs.Selection.{SelectsPath};
 ghost use Rattle.node_select.specs.declared.selector.End.TheVariants as ends;
@@ -77,7 +77,7 @@ fn plan_under(
 ) -> Result<Change, EditRefusal>
     requires selects_parent { SelectsParent steps.now root.now place.now }
     requires faultless { HasFirstFault usage root.now None }
-    requires room_left { length place.now + suc (height element) ≤ max_levels }
+    requires room_left { length place.now + suc (height element) ≤ MAX_LEVELS }
     ensures plans_insertion { IsInsertion
         (record { usage = usage; document = root.now; steps = steps.now }) place.now element
         result }
@@ -98,7 +98,7 @@ fn plan_over(
 ) -> Result<Change, EditRefusal>
     requires selected { SelectsPath steps.now root.now path.now }
     requires faultless { HasFirstFault usage root.now None }
-    requires room_left { length path.now + height element ≤ max_levels }
+    requires room_left { length path.now + height element ≤ MAX_LEVELS }
     ensures plans_replacement { IsReplacement
         (record { usage = usage; document = root.now; steps = steps.now }) path.now element
         result }

@@ -1,7 +1,7 @@
 //! Whether the root may be replaced, or have its attributes changed (RFC 4825, sections 8.2.4 and
 //! 8.4).
 ghost use Rattle.std.specs.Prelude.{◌≡◌, ◌≤◌, [], ◌∷◌, ℕ, List};
-ghost use Rattle.xml_names.specs.Limits.{max_levels};
+ghost use Rattle.xml_names.specs.declared.limits.TheConstants.{MAX_LEVELS};
 ghost use Rattle.xml_tree.specs.Tree.{height};
 ghost use Rattle.node_select.specs.Selection.{SelectsPath};
 ghost use Rattle.usage_docs.specs.Keys.{attrs_pass};
@@ -28,7 +28,7 @@ pub(crate) fn root_replacement(
     new: &Element,
 ) -> Result<usize, EditRefusal>
     requires root_alone { (p : List ℕ) → SelectsPath steps.now new.now p → p ≡ [] }
-    requires height_bounded { height new.now ≤ max_levels }
+    requires height_bounded { height new.now ≤ MAX_LEVELS }
     ensures new_root_plan { IsTestedAs CannotInsert
         (SelectsPath steps.now new.now []) usage new.now result }
 {

@@ -1,7 +1,7 @@
 //! The first clash of a new element with its siblings (RFC 4826, sections 3.2 and 4.2).
 ghost use Rattle.std.specs.Prelude.{◌≡◌, ◌↔◌, ◌<◌, ◌≤◌, ◌+◌, ◌++◌, ◌∷◌, ◌^◌, ℕ, List, [], chars};
 ghost use Rattle.std.specs.Prelude.{length, IsTrue, IfSome, Some, None};
-ghost use Rattle.xml_names.specs.Limits.{max_levels};
+ghost use Rattle.xml_names.specs.declared.limits.TheConstants.{MAX_LEVELS};
 ghost use Rattle.xml_tree.specs.declared.path.TheConstants.{PATH_LIMIT};
 ghost use Rattle.xml_tree.specs.Tree.{height, child_elements_of};
 ghost use Rattle.usage_docs.specs.declared.schema_table.Key.{Key};
@@ -280,7 +280,7 @@ fn first_in_new(
     new: &Element,
     here: &Path,
 ) -> Option<Clash>
-    requires { length here.now + height new.now ≤ max_levels }
+    requires { length here.now + height new.now ≤ MAX_LEVELS }
     ensures first_of_clashes { IsFirst (ClashesInside row scope.now new.now) here.now result }
 {
     let declared = declared_in(alloc, new.decls());

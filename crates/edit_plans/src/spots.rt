@@ -1,6 +1,6 @@
 //! The edit target that the selector of a PUT means in a document (RFC 4825, section 8.2.1).
 ghost use Rattle.std.specs.Prelude.{◌≡◌, ◌≤◌, length};
-ghost use Rattle.xml_names.specs.Limits.{max_levels};
+ghost use Rattle.xml_names.specs.declared.limits.TheConstants.{MAX_LEVELS};
 ghost use Rattle.xml_tree.specs.Tree.{Tree, height};
 ghost use Rattle.node_select.specs.declared.selector.End.TheVariants as ends;
 ghost use Rattle.node_select.specs.declared.selector.Selector.{Selector};
@@ -59,7 +59,7 @@ fn attribute_target(many: usize, reached: Reached) -> Result<Spot, NoParent>
 /// `NoParent` where there is no target, with the length of the longest prefix of the steps that
 /// selects an element.
 pub fn put_spot(alloc: Global, root: &Element, selector: &Selector) -> Result<Spot, NoParent>
-    requires height_bounded { height root.now ≤ max_levels }
+    requires height_bounded { height root.now ≤ MAX_LEVELS }
     requires selects_node { selector.now.end ≡ ends.Namespaces → ⊥ }
     ensures as_specified { IsSpot root.now selector.now result }
 {

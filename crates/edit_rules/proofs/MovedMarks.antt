@@ -21,9 +21,9 @@ use Rattle.usage_docs.specs.UniqueKeys.{Mark, mark, mark_of}
 use Rattle.edit_ops.specs.declared.change.Change.{Change}
 use Rattle.edit_ops.specs.declared.change.Change.TheVariants.{CreateDocument, Insert, Replace, Remove, SetAttr, DropAttr, RemoveDocument}
 use Rattle.edit_ops.specs.Changes.{Fits, edited}
-use Rattle.edit_ops.specs.MovedPaths.{behind, closed_up, made_room, moved, re_routed, under, unless}
+use Rattle.edit_ops.specs.MovedPaths.{path_below, closed_up, made_room, moved, re_routed, under, unless}
 use Rattle.edit_ops.proofs.MoveLaws.{others_stay}
-use Rattle.edit_ops.proofs.WayLemmas.{behind-other, behind-same, behind-whole, front-apart}
+use Rattle.edit_ops.proofs.WayLemmas.{path_below-other, path_below-same, path_below-whole, front-apart}
 use Rattle.usage_docs.specs.Kinds.{kind_below}
 use Rattle.edit_rules.proofs.Marks.{marks_along}
 use Rattle.edit_rules.specs.KeyWrites.{IsKeyOn, WritesKeyOn}
@@ -54,7 +54,7 @@ record Alike (f : List ℕ → List ℕ) (row : ElementKind) (c : Scope) (t : Tr
   below : (row' : ElementKind) (c' : Scope) → marks_along row' c' (child_elements_of new) (f r) ≡ marks_along row' c' (child_elements_of e) r
 
 abbrev Fair : (List ℕ → List ℕ) → (Tree → Tree) → ElementKind → Scope → Tree → List ℕ → List ℕ → Type 0
-Fair f g row c t q p = (e : Tree) (r : List ℕ) → at q t ≡ Some e → behind q p ≡ Some r → Alike f row c t q r e (g e)
+Fair f g row c t q p = (e : Tree) (r : List ℕ) → at q t ≡ Some e → path_below q p ≡ Some r → Alike f row c t q r e (g e)
 
 longer : (f : List ℕ → List ℕ) (m : ℕ) (q p : List ℕ) (o : Option (List ℕ)) → re_routed f (m ∷ q) (m ∷ p) o ≡ m ∷ re_routed f q p o
 longer f m q p None = refl
@@ -67,7 +67,7 @@ kind_next row c t k m q kind there of_kind =
 same_tag : (m : ℕ) (q p : List ℕ) (f : List ℕ → List ℕ) (g : Tree → Tree) (row : ElementKind) (c : Scope) (t k : Tree) → Fair f g row c t (m ∷ q) (m ∷ p) → slice_get (child_elements_of t) m ≡ Some k
     → ((change_at q g k).name ≡ k.name) × ((change_at q g k).decls ≡ k.decls) × ((kind : ElementKind) → kind_of row (inside c k) k.name ≡ Some kind → key_value kind (change_at q g k).attrs ≡ key_value kind k.attrs)
 same_tag m [] p f g row c t k fair there =
-    let a = fair k p (ap (option_and_then (at [])) there) (behind-same m [] p) in
+    let a = fair k p (ap (option_and_then (at [])) there) (path_below-same m [] p) in
     (a.name, a.decls, λ kind of_kind. a.value kind (kind_next row c t k m [] kind there of_kind))
 same_tag m (n ∷ q) p f g row c t k fair there = (refl, refl, λ kind of_kind. refl)
 
@@ -94,13 +94,13 @@ same_way : (m : ℕ) (q p : List ℕ) (f : List ℕ → List ℕ) (g : Tree → 
     → ((row' : ElementKind) (c' : Scope) (k : Tree) → Fair f g row' c' k q p → marks_along row' c' (child_elements_of (change_at q g k)) (under f q p) ≡ marks_along row' c' (child_elements_of k) p)
     → marks_along row c (child_elements_of (change_at (m ∷ q) g t)) (under f (m ∷ q) (m ∷ p)) ≡ marks_along row c (child_elements_of t) (m ∷ p)
 same_way m q p f g row c t fair ih =
-    ap (marks_along row c (child_elements_of (change_at (m ∷ q) g t))) (ap (re_routed f (m ∷ q) (m ∷ p)) (behind-same m q p) ∙ longer f m q p (behind q p))
+    ap (marks_along row c (child_elements_of (change_at (m ∷ q) g t))) (ap (re_routed f (m ∷ q) (m ∷ p)) (path_below-same m q p) ∙ longer f m q p (path_below q p))
     ∙ ap (option_and_then (along_kid row c (under f q p))) (this_kid m (change_at q g) t.content)
     ∙ below (slice_get (child_elements_of t) m) (along_kid row c (under f q p)) (along_kid row c p) (change_at q g) (λ k there.
     let tag = same_tag m q p f g row c t k fair there in
     kid_same row c (under f q p) p k (change_at q g k) (same_mark row c k (change_at q g k) tag.0 tag.1 tag.2) tag.1 (λ n is.
     ih n.kind (inside c k) k (λ e r at_e b.
-    let a = fair e r (ap (option_and_then (at q)) there ∙ at_e) (behind-same m q p ∙ b) in record {
+    let a = fair e r (ap (option_and_then (at q)) there ∙ at_e) (path_below-same m q p ∙ b) in record {
       name = a.name;
       decls = a.decls;
       value = λ kind h. a.value kind (kind_next row c t k m q n.kind there (mark_says row c k n is).0 ∙ h);
@@ -109,7 +109,7 @@ same_way m q p f g row c t fair ih =
 
 other_way : (m n : ℕ) (q p : List ℕ) (f : List ℕ → List ℕ) (g : Tree → Tree) (row : ElementKind) (c : Scope) (t : Tree) → (m ≡ n → ⊥) → marks_along row c (child_elements_of (change_at (m ∷ q) g t)) (under f (m ∷ q) (n ∷ p)) ≡ marks_along row c (child_elements_of t) (n ∷ p)
 other_way m n q p f g row c t ne =
-    ap (λ o. marks_along row c (child_elements_of (change_at (m ∷ q) g t)) (re_routed f (m ∷ q) (n ∷ p) o)) (behind-other m n q p ne) ∙ ap (option_and_then (along_kid row c p)) (other_kid m n (change_at q g) t.content ne)
+    ap (λ o. marks_along row c (child_elements_of (change_at (m ∷ q) g t)) (re_routed f (m ∷ q) (n ∷ p) o)) (path_below-other m n q p ne) ∙ ap (option_and_then (along_kid row c p)) (other_kid m n (change_at q g) t.content ne)
 
 marks_under : (q p : List ℕ) (f : List ℕ → List ℕ) (g : Tree → Tree) (row : ElementKind) (c : Scope) (t : Tree) → Fair f g row c t q p → marks_along row c (child_elements_of (change_at q g t)) (under f q p) ≡ marks_along row c (child_elements_of t) p
 marks_under [] p f g row c t fair = (fair t p refl refl).below row c
@@ -235,7 +235,7 @@ stays_if q p None whole = refl
 stays_if q p (Some r) whole = sym (whole r refl)
 
 unmoved : (q p : List ℕ) → under (λ r. r) q p ≡ p
-unmoved q p = stays_if q p (behind q p) (behind-whole q p)
+unmoved q p = stays_if q p (path_below q p) (path_below-whole q p)
 
 is_there : (o : Option (List ℕ)) (r : List ℕ) → o ≡ Some r → IsSome o
 is_there None r h = cc
@@ -254,7 +254,7 @@ module _ (u : Usage) (t : Tree) (p : List ℕ) where
         name = (tag e).0;
         decls = (tag e).1;
         value = λ kind of_kind. same_value kind (g e).attrs e.attrs (λ key of_key. keeps e key (λ prefix local.
-            free (record { on_path = is_there (behind w p) r b; kind = kind; key = key; of_kind = of_kind; of_key = of_key; unprefixed = prefix; local = local })));
+            free (record { on_path = is_there (path_below w p) r b; kind = kind; key = key; of_kind = of_kind; of_key = of_key; unprefixed = prefix; local = local })));
         below = λ row c. ap (λ k. marks_along row c (child_elements k) r) (tag e).2;
       })
 
@@ -270,11 +270,11 @@ module _ (u : Usage) (t : Tree) (p : List ℕ) where
         below = λ row c. room gap r element e row c (from_there (at parent t) (λ x. gap ≤ length (child_elements_of x)) e fits there);
       })
   marks_moved (Replace w element) q fits is free =
-      let k = kept_there (behind w p) p q is in
+      let k = kept_there (path_below w p) p q is in
       ap (marks_along (root_kind u) (t.decls ∷ []) (child_elements_of (edited t (Replace w element)))) (sym k.1 ∙ sym (unmoved w p))
-      ∙ marks_under w p (λ r. r) (λ _. element) (root_kind u) (t.decls ∷ []) t (λ e r there b. absurd (no_way (behind w p) r k.0 b))
+      ∙ marks_under w p (λ r. r) (λ _. element) (root_kind u) (t.decls ∷ []) t (λ e r there b. absurd (no_way (path_below w p) r k.0 b))
   marks_moved (Remove w) q fits is free =
-      let k = kept_there (behind w p) (under (closed_up (own_number w)) (parent_path w) p) q is in
+      let k = kept_there (path_below w p) (under (closed_up (own_number w)) (parent_path w) p) q is in
       ap (marks_along (root_kind u) (t.decls ∷ []) (child_elements_of (edited t (Remove w)))) (sym k.1)
       ∙ marks_under (parent_path w) p (closed_up (own_number w)) (cut_child (own_number w)) (root_kind u) (t.decls ∷ []) t (λ e r there b. record {
         name = refl;
@@ -299,14 +299,14 @@ root_tag : (q : List ℕ) (g : Tree → Tree) (t : Tree) → ((g t).name ≡ t.n
 root_tag [] g t h = h
 root_tag (n ∷ q) g t h = (refl, refl)
 
-root_beside : (w p : List ℕ) (g : Tree → Tree) (t : Tree) → behind w p ≡ None → ((change_at w g t).name ≡ t.name) × ((change_at w g t).decls ≡ t.decls)
+root_beside : (w p : List ℕ) (g : Tree → Tree) (t : Tree) → path_below w p ≡ None → ((change_at w g t).name ≡ t.name) × ((change_at w g t).decls ≡ t.decls)
 root_beside [] p g t h = cc
 root_beside (n ∷ w) p g t h = (refl, refl)
 
 pub root_kept : (t : Tree) (p : List ℕ) (change : Change) (q : List ℕ) → Fits t change → moved p change ≡ Some q → ((edited t change).name ≡ t.name) × ((edited t change).decls ≡ t.decls)
 root_kept t p (CreateDocument root) q fits is = absurd fits
 root_kept t p (Insert parent gap element) q fits is = root_tag parent (put_kid gap element) t (refl, refl)
-root_kept t p (Replace w element) q fits is = root_beside w p (λ _. element) t (kept_there (behind w p) p q is).0
+root_kept t p (Replace w element) q fits is = root_beside w p (λ _. element) t (kept_there (path_below w p) p q is).0
 root_kept t p (Remove w) q fits is = root_tag (parent_path w) (cut_child (own_number w)) t (refl, refl)
 root_kept t p (SetAttr w name value) q fits is = root_tag w (write_attr name value) t (refl, refl)
 root_kept t p (DropAttr w name) q fits is = root_tag w (drop_attr name) t (refl, refl)

@@ -2,7 +2,7 @@
 use Rattle.std.proofs.Common.{◌≡◌, ◌⊎◌, inl, inr, ℕ, ◌<◌, ◌+◌, List, [], ◌∷◌, ◌++◌, length, Option, Some, None, Result, Ok, Err, refl, sym, ap, ap₂, ◌∙◌, subst, arith}
 use Rattle.std.proofs.lemmas.Bool.{cases_order}
 use Rattle.std.proofs.lemmas.Option.{same_Some}
-use Rattle.node_select.specs.InsertionPoints.{PlanIs}
+use Rattle.node_select.specs.InsertionPoints.{IsInsertionPlan}
 use Rattle.node_select.proofs.GapPlans.{one_plan}
 use Rattle.doc_names.specs.declared.usages.Usage.{Usage}
 use Rattle.xml_tree.specs.Tree.{Tree, at, child_elements_of}
@@ -57,7 +57,7 @@ one_insertion u t steps q e r s a b =
     let many : length (child_elements_of b.parent) ≡ length (child_elements_of a.parent) = ap (λ (x : Tree). length (child_elements_of x)) (same_Some _ _ (sym b.there ∙ a.there)) in
     let L = IsLawfulGap steps t e q in
     let V : ℕ → Type 0 = λ j. usage.IsValidDocument u (put_in q j e t) in
-    let other = subst (λ (n : ℕ). PlanIs CannotInsert (Faulty Invalid) L V (n + 1) b.gap) many b.is_chosen in
+    let other = subst (λ (n : ℕ). IsInsertionPlan CannotInsert (Faulty Invalid) L V (n + 1) b.gap) many b.is_chosen in
     let same : a.gap ≡ b.gap = one_plan CannotInsert (Faulty Invalid) L V (length (child_elements_of a.parent) + 1) a.gap b.gap a.is_chosen other in
     from_one_gap u t q e b.gap r s (subst (λ (g : Result ℕ EditRefusal). FromGap (λ gap. IsJudged u t (Insert q gap e)) g r) same a.then) b.then
 

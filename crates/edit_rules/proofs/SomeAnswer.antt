@@ -4,7 +4,7 @@ use Rattle.std.specs.Cmp.Lexicographic.{bytes_decides}
 use Rattle.std.specs.List.{list_any}
 use Rattle.std.proofs.Common.{◌≡◌, ◌⊎◌, inl, inr, ◌↔◌, ℕ, zero, suc, ◌+◌, Bool, true, false, List, [], ◌∷◌, ◌++◌, length, find, Option, Some, None, IsSome, IsTrue, option_map, Result, Ok, Err, refl, sym, ap, ◌∙◌, subst, add-one}
 use Rattle.std.proofs.lemmas.Option.{same_Some}
-use Rattle.node_select.specs.InsertionPoints.{PlanIs, plan_with}
+use Rattle.node_select.specs.InsertionPoints.{IsInsertionPlan, plan_with}
 use Rattle.node_select.proofs.GapPlans.{plan_more, plan_none}
 use Rattle.doc_names.specs.declared.usages.Usage.{Usage}
 use Rattle.xml_tree.specs.Tree.{Tree, at, child_elements_of}
@@ -102,12 +102,12 @@ some_tested unlawful lawful u t change (inr fails) = (Err unlawful, inl (refl, f
 
 -- ---- PUT of an element
 
-some_gap : (L V : ℕ → Type 0) → ((j : ℕ) → Known (L j)) → ((j : ℕ) → Known (V j)) → (n : ℕ) → (r : Result ℕ EditRefusal) × PlanIs CannotInsert (Faulty Invalid) L V n r
+some_gap : (L V : ℕ → Type 0) → ((j : ℕ) → Known (L j)) → ((j : ℕ) → Known (V j)) → (n : ℕ) → (r : Result ℕ EditRefusal) × IsInsertionPlan CannotInsert (Faulty Invalid) L V n r
 some_gap L V l v zero = (Err CannotInsert, plan_none CannotInsert (Faulty Invalid) L V)
 some_gap L V l v (suc n) =
     let below = some_gap L V l v n in
     let next = plan_with (Faulty Invalid) below.0 n (l n).0 (v n).0 in
-    (next, subst (λ k. PlanIs CannotInsert (Faulty Invalid) L V k next) (add-one n) (plan_more CannotInsert (Faulty Invalid) L V n below.0 (l n).0 (v n).0 below.1 (l n).1 (v n).1))
+    (next, subst (λ k. IsInsertionPlan CannotInsert (Faulty Invalid) L V k next) (add-one n) (plan_more CannotInsert (Faulty Invalid) L V n below.0 (l n).0 (v n).0 below.1 (l n).1 (v n).1))
 
 from_some_gap : (u : Usage) (t : Tree) (q : List ℕ) (e : Tree) (g : Result ℕ EditRefusal) → (r : Result Change EditRefusal) × FromGap (λ gap. IsJudged u t (Insert q gap e)) g r
 from_some_gap u t q e (Ok gap) = some_judged u t (Insert q gap e)

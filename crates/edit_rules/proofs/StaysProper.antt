@@ -6,7 +6,7 @@ use Rattle.std.specs.Option.{option_or, option_map_or}
 use Rattle.std.specs.Prelude.{◌&&◌, unwrap_or}
 use Rattle.std.proofs.Common.{◌≡◌, inl, inr, ℕ, suc, ◌≤◌, ◌+◌, Bool, true, false, cond, List, [], ◌∷◌, ◌++◌, length, find, map, Option, Some, None, IsSome, IsSomeAnd, IsTrue, option_map, option_and_then, Result, Ok, Err, refl, sym, ap, ◌∙◌, subst, arith}
 use Rattle.std.proofs.lemmas.Option.{same_Some}
-use Rattle.node_select.specs.InsertionPoints.{PlanIs}
+use Rattle.node_select.specs.InsertionPoints.{IsInsertionPlan}
 use Rattle.doc_names.specs.declared.usages.Usage.{Usage}
 use Rattle.xml_names.specs.Characters.{all_chars, is_name}
 use Rattle.xml_tree.specs.Tree.{Tree, at, height, child_elements_of, tree_of}
@@ -78,7 +78,7 @@ under_leaves t q gap e parent there le proper low new room = record {
 under_plan : (u : Usage) (t : Tree) (steps : List Step) (q : List ℕ) (e : Tree) (plan : Change) → IsInsertion (record { usage = u; document = t; steps = steps }) q e (Ok plan) → ProperIn [] t → height t ≤ 64 → ProperIn (scope_at q t) e → length q + suc (height e) ≤ 64 → LeavesProper t plan
 under_plan u t steps q e plan h proper low new room = by h.gap h.is_chosen h.then
   where
-    by : (g : Result ℕ EditRefusal) → PlanIs CannotInsert (Faulty Invalid) (IsLawfulGap steps t e q) (λ j. usage.IsValidDocument u (put_in q j e t)) (length (child_elements_of h.parent) + 1) g → FromGap (λ gap. IsJudged u t (Insert q gap e)) g (Ok plan) → LeavesProper t plan
+    by : (g : Result ℕ EditRefusal) → IsInsertionPlan CannotInsert (Faulty Invalid) (IsLawfulGap steps t e q) (λ j. usage.IsValidDocument u (put_in q j e t)) (length (child_elements_of h.parent) + 1) g → FromGap (λ gap. IsJudged u t (Insert q gap e)) g (Ok plan) → LeavesProper t plan
     by (Err why) chosen then = let z = then in cc
     by (Ok gap) chosen then =
         let j = judged_ok u t (Insert q gap e) plan then in

@@ -5,7 +5,7 @@ use Rattle.std.proofs.Common.{◌≡◌, inl, inr, ℕ, ◌≤◌, ◌+◌, Bool
 use Rattle.std.specs.Prelude.{◌&&◌}
 use Rattle.std.specs.Cmp.Lexicographic.{bytes_decides}
 use Rattle.std.proofs.lemmas.Option.{same_Some}
-use Rattle.node_select.specs.InsertionPoints.{PlanIs}
+use Rattle.node_select.specs.InsertionPoints.{IsInsertionPlan}
 use Rattle.node_select.proofs.ListEdits.{get-insert_at}
 use Rattle.doc_names.specs.declared.usages.Usage.{Usage}
 use Rattle.xml_tree.specs.Tree.{Tree, at, child_elements_of, tree_of}
@@ -98,7 +98,7 @@ in_gap t parent e q gap there le =
 put_under_is : (u : Usage) (t : Tree) (steps : List Step) (q : List ℕ) (e : Tree) (plan : Change) → IsInsertion (record { usage = u; document = t; steps = steps }) q e (Ok plan) → Put u t steps e plan
 put_under_is u t steps q e plan h = by h.gap h.is_chosen h.then
   where
-    by : (g : Result ℕ EditRefusal) → PlanIs CannotInsert (Faulty Invalid) (IsLawfulGap steps t e q) (λ j. usage.IsValidDocument u (put_in q j e t)) (length (child_elements_of h.parent) + 1) g → FromGap (λ gap. IsJudged u t (Insert q gap e)) g (Ok plan) → Put u t steps e plan
+    by : (g : Result ℕ EditRefusal) → IsInsertionPlan CannotInsert (Faulty Invalid) (IsLawfulGap steps t e q) (λ j. usage.IsValidDocument u (put_in q j e t)) (length (child_elements_of h.parent) + 1) g → FromGap (λ gap. IsJudged u t (Insert q gap e)) g (Ok plan) → Put u t steps e plan
     by (Err why) chosen then = let z = then in cc
     by (Ok gap) chosen then =
         let j = judged_ok u t (Insert q gap e) plan then in

@@ -6,7 +6,7 @@ use Rattle.std.specs.List.{list_all}
 use Rattle.std.proofs.Common.{◌≡◌, ◌⊎◌, inl, inr, ℕ, Bool, true, false, List, [], ◌∷◌, ◌++◌, length, Option, Some, None, IsTrue, Result, Ok, Err, refl, sym, ap, ◌∙◌, subst, append_assoc}
 use Rattle.std.proofs.lemmas.List.{append-nil}
 use Rattle.std.proofs.lemmas.Option.{same_Some}
-use Rattle.xml_grammar.specs.Rules.{AllPass, Event, Mark, Rule, Split, keeping_second, empty, judged, only, optional, sequence, valued, word}
+use Rattle.xml_grammar.specs.Rules.{AllPass, Event, Mark, Rule, Split, keeping_second, empty, with_value_marks, only, optional, sequence, map_rule, word}
 use Rattle.xml_grammar.specs.TextReading.{Stop}
 use Rattle.xml_grammar.specs.Answers.{Answers, IsCalm}
 use Rattle.xml_names.specs.Characters.{is_name, is_name_char, is_name_start}
@@ -20,7 +20,7 @@ use Rattle.xml_tokens.specs.declared.fault_kind.FaultKind.{FaultKind}
 use Rattle.xml_tokens.specs.declared.fault_kind.FaultKind.TheVariants.{Unbound}
 use Rattle.xml_tokens.proofs.CharacterTests.{pass_all}
 use Rattle.node_select.specs.Faults.{IsSelectorAnswer, marks, selector_result as told}
-use Rattle.node_select.specs.Grammar.{IsUnbound, attribute, end, names_attribute, selector, steps}
+use Rattle.node_select.specs.Grammar.{IsUnbound, attribute, end, is_attribute_name, selector, steps}
 use Rattle.node_select.specs.readers.SelectorValues.{end_or_element}
 use Rattle.node_select.specs.readers.Words.{at_sign, namespaces, slash}
 use Rattle.node_select.specs.Names.{attr_uri, is_unbound, prefix_uri}
@@ -58,7 +58,7 @@ record EndsIn (bindings : List Decl) (uri local : List ℕ) (Meets : Event Fault
   written_so : List ℕ
   joined : text ≡ before ++ written_so
   spelled : qname.Spells written_so name
-  names : names_attribute name ≡ true
+  names : is_attribute_name name ≡ true
   uri_is : attr_uri bindings name ≡ uri
   local_is : name.local ≡ local
   met : (kind : FaultKind) (back : ℕ) → IsUnbound bindings name kind back → Meets (Mark kind back) text
@@ -99,7 +99,7 @@ module _ (bindings : List Decl) (default uri local : List ℕ) where
   at_attribute : (text : List ℕ) (n : Name) → (attribute bindings default).Spells text n → attr_uri bindings n ≡ uri → n.local ≡ local → EndsSo (attribute bindings default) text
   at_attribute text n m same_uri same_local =
       let q = m.1.back_is in
-      in_sequence (word at_sign) (λ _. judged (IsUnbound bindings) (only names_attribute qname)) tt text (record {
+      in_sequence (word at_sign) (λ _. with_value_marks (IsUnbound bindings) (only is_attribute_name qname)) tt text (record {
         front = m.1.front;
         back = m.1.back;
         joined = m.1.joined;
@@ -145,7 +145,7 @@ module _ (bindings : List Decl) (default uri local : List ℕ) where
   at_selector text s m is =
       let t = m.1.back_is in
       let same : end_or_element t.0 ≡ ends.Attribute uri local = sym t.2 ∙ sym (ap (λ (z : Selector). z.end) m.2) ∙ is in
-      in_sequence (steps bindings default) (λ _. valued end_or_element tail) m.0.0 text (record {
+      in_sequence (steps bindings default) (λ _. map_rule end_or_element tail) m.0.0 text (record {
         front = m.1.front;
         back = m.1.back;
         joined = m.1.joined;
@@ -187,7 +187,7 @@ no_prefix bindings n is none = by (bytes_eq n.prefix []) refl (prefix_uri bindin
     by false e (Some w) f = let z : w ≡ [] = rw e at (rw f at none) in absurd (prefix_some bindings n.prefix w f z)
     by false e None f = let z : true ≡ false = rw e at (rw f at is) in cc
 
-not_xmlns : (n : Name) → bytes_eq n.prefix [] ≡ true → names_attribute n ≡ true → n.local ≢ xmlns_prefix
+not_xmlns : (n : Name) → bytes_eq n.prefix [] ≡ true → is_attribute_name n ≡ true → n.local ≢ xmlns_prefix
 not_xmlns n e names same = let d = (bytes_decides n.local xmlns_prefix).1 same in let z : false ≡ true = rw e at (rw d at names) in cc
 
 -- ---- the result for a text

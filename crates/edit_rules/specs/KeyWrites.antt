@@ -11,7 +11,7 @@ use Rattle.usage_docs.specs.Kinds.{kind_at}
 use Rattle.node_select.specs.Selection.{SelectsPath}
 use Rattle.node_select.specs.declared.selector.Selector.{Selector}
 use Rattle.edit_ops.specs.Changes.{edited}
-use Rattle.edit_ops.specs.MovedPaths.{behind, moved}
+use Rattle.edit_ops.specs.MovedPaths.{path_below, moved}
 use Rattle.edit_ops.specs.declared.change.Change.{Change}
 use Rattle.edit_ops.specs.declared.change.Change.TheVariants.{SetAttr, DropAttr}
 use Rattle.edit_rules.specs.KeyAddresses.{IsKeyAddressOf}
@@ -20,7 +20,7 @@ use Rattle.edit_rules.specs.KeyAddresses.{IsKeyAddressOf}
 
 -- the element at q is the one at p, or a descendant of it
 abbrev pub LiesIn : List ℕ → List ℕ → Type 0
-LiesIn p q = IsSome (behind p q)
+LiesIn p q = IsSome (path_below p q)
 
 -- the name is the key's name of the element at q, which is on the path p: the element at p, or an
 -- ancestor of it

@@ -5,7 +5,7 @@ use Rattle.std.specs.Prelude.{◌≡◌, ◌⊎◌, ◌≤◌, [], Option, None,
 use Rattle.doc_names.specs.declared.usages.Usage.{Usage}
 use Rattle.xml_tree.specs.Tree.{Tree, height}
 use Rattle.xml_tree.specs.Proper.{ProperIn}
-use Rattle.xml_names.specs.Limits.{max_levels}
+use Rattle.xml_names.specs.declared.limits.TheConstants.{MAX_LEVELS}
 use Rattle.usage_docs.specs.Validation.{HasFirstFault}
 use Rattle.usage_docs.specs.declared.validation.Fault.{Fault}
 use Rattle.edit_ops.specs.Changes.{Fits, edited}
@@ -30,8 +30,8 @@ abbrev pub IsTested : EditRefusal → Type 0 → (Result Change EditRefusal → 
 IsTested unlawful lawful Judgement result =
     ((result ≡ Err unlawful) × (lawful → ⊥)) ⊎ (lawful × Judgement result)
 
--- the change fits the document, and makes a proper one of at most `max_levels` levels
+-- the change fits the document, and makes a proper one of at most `MAX_LEVELS` levels
 pub record LeavesProper (t : Tree) (change : Change) : Type 0 where
   pub fits : Fits t change
   pub proper : ProperIn [] (edited t change)
-  pub low : height (edited t change) ≤ max_levels
+  pub low : height (edited t change) ≤ MAX_LEVELS

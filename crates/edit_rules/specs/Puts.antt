@@ -3,12 +3,12 @@
 -- document is valid. The definition tries every gap, and selects in and tests the new document
 -- anew.
 use Rattle.std.specs.Prelude.{◌≡◌, ◌≤◌, ℕ, suc, ◌+◌, List, length, Some, Result, Ok, Err}
-use Rattle.node_select.specs.InsertionPoints.{PlanIs}
+use Rattle.node_select.specs.InsertionPoints.{IsInsertionPlan}
 use Rattle.xml_tree.specs.Tree.{Tree, at, height, child_elements_of}
 use Rattle.xml_tree.specs.Edits.{put_in}
 use Rattle.xml_tree.specs.Proper.{ProperIn}
 use Rattle.xml_tree.specs.TreeScopes.{scope_around, scope_at}
-use Rattle.xml_names.specs.Limits.{max_levels}
+use Rattle.xml_names.specs.declared.limits.TheConstants.{MAX_LEVELS}
 use Rattle.usage_docs.specs.Validity as usage
 use Rattle.edit_ops.specs.declared.change.Change.{Change}
 use Rattle.edit_ops.specs.declared.change.Change.TheVariants.{Insert, Replace}
@@ -35,7 +35,7 @@ pub record IsInsertion (context : PutContext) (q : List ℕ) (e : Tree)
   pub parent : Tree
   pub there : at q context.document ≡ Some parent
   pub gap : Result ℕ EditRefusal
-  pub is_chosen : PlanIs CannotInsert (Faulty Invalid)
+  pub is_chosen : IsInsertionPlan CannotInsert (Faulty Invalid)
       (IsLawfulGap context.steps context.document e q)
       (λ j. usage.IsValidDocument context.usage (put_in q j e context.document))
       (length (child_elements_of parent) + 1) gap
@@ -57,8 +57,8 @@ IsPutPlan context (Value p) e result = ⊥
 
 -- an element at this edit target has no level below the 64th
 abbrev pub HasRoomAt : Spot → Tree → Type 0
-HasRoomAt (Over p) e = length p + height e ≤ max_levels
-HasRoomAt (Under q) e = length q + suc (height e) ≤ max_levels
+HasRoomAt (Over p) e = length p + height e ≤ MAX_LEVELS
+HasRoomAt (Under q) e = length q + suc (height e) ≤ MAX_LEVELS
 HasRoomAt Beside e = Unit {0}
 HasRoomAt (Value p) e = Unit {0}
 

@@ -3,7 +3,7 @@
 //! nothing (RFC 4825, sections 8.2.3, 8.2.4 and 8.4; RFC 9110, section 9.2.2).
 ghost use Rattle.std.specs.Prelude.{◌≡◌, ◌≤◌, ℕ, List, [], None, Some, Result, Ok, IsTrue};
 ghost use Rattle.doc_names.specs.declared.usages.Usage.{Usage};
-ghost use Rattle.xml_names.specs.Limits.{max_levels};
+ghost use Rattle.xml_names.specs.declared.limits.TheConstants.{MAX_LEVELS};
 ghost use Rattle.xml_names.specs.Characters.{all_chars};
 ghost use Rattle.xml_tree.specs.Proper.{ProperIn};
 ghost use Rattle.xml_tree.specs.Tree.{Tree, at, height};
@@ -124,16 +124,16 @@ pub fn planned_changes_leave_proper_documents()
     ensures for_element { (u : Usage) (t : Tree) (selector : Selector) (spot : Spot) (e : Tree)
         (change : Change)
         → IsPutPlan (record { usage = u; document = t; steps = selector.steps }) spot e (Ok change)
-        → IsSpotOf t selector spot → ProperIn [] t → height t ≤ max_levels → IsProperAt t spot e
+        → IsSpotOf t selector spot → ProperIn [] t → height t ≤ MAX_LEVELS → IsProperAt t spot e
         → HasRoomAt spot e
         → LeavesProper t change }
     ensures for_attribute { (context : PutContext) (uri local p value : List ℕ) (change : Change)
         → IsAttrPlan context (ends.Attribute uri local) p value (Ok change)
-        → ProperIn [] context.document → height context.document ≤ max_levels
+        → ProperIn [] context.document → height context.document ≤ MAX_LEVELS
         → IsWritable uri local → IsTrue (all_chars value)
         → LeavesProper context.document change }
     ensures for_deletion { (u : Usage) (t : Tree) (selector : Selector) (change : Change)
-        → IsDeletePlan u t selector (Ok change) → ProperIn [] t → height t ≤ max_levels
+        → IsDeletePlan u t selector (Ok change) → ProperIn [] t → height t ≤ MAX_LEVELS
         → LeavesProper t change }
 {}
 

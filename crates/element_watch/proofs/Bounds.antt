@@ -6,10 +6,10 @@ use Rattle.std.proofs.lemmas.List.Elements.{All-from_recursion, recursion_from_A
 use Rattle.std.proofs.lemmas.Option.{same_Some}
 use Rattle.xml_tree.specs.Edits.{own_number, parent_path}
 use Rattle.xml_tree.proofs.PathLemmas.{final-snoc, front-snoc}
-use Rattle.edit_ops.specs.MovedPaths.{behind, closed_up, made_room, re_routed, under}
+use Rattle.edit_ops.specs.MovedPaths.{path_below, closed_up, made_room, re_routed, under}
 use Rattle.edit_ops.specs.declared.change.Change.{Change}
 use Rattle.edit_ops.specs.declared.change.Change.TheVariants.{CreateDocument, Insert, Replace, Remove, SetAttr, DropAttr, RemoveDocument}
-use Rattle.edit_ops.proofs.WayLemmas.{behind-whole}
+use Rattle.edit_ops.proofs.WayLemmas.{path_below-whole}
 use Rattle.edit_ops.specs.Notes.{Note}
 use Rattle.edit_ops.specs.RecordParts.{all_notes}
 use Rattle.element_watch.specs.TouchedElements.{PassesThrough}
@@ -23,9 +23,9 @@ below_root [] i = refl
 below_root (n ∷ w) i = refl
 
 abbrev room_if : List ℕ → Bool → List ℕ → ℕ → Option (List ℕ)
-room_if q b g k = cond (b && not (is_some (behind q g))) (Some (under (made_room k) g q)) None
+room_if q b g k = cond (b && not (is_some (path_below q g))) (Some (under (made_room k) g q)) None
 
-pub cut_parts : (q w f : List ℕ) (i : ℕ) → w ≡ f ++ i ∷ [] → came_from q (Remove w) ≡ cond (not (is_some (behind q f))) (Some (under (made_room i) f q)) None
+pub cut_parts : (q w f : List ℕ) (i : ℕ) → w ≡ f ++ i ∷ [] → came_from q (Remove w) ≡ cond (not (is_some (path_below q f))) (Some (under (made_room i) f q)) None
 cut_parts q w f i is =
     ap (λ x. came_from q (Remove x)) is
     ∙ by (is_below_root (f ++ i ∷ [])) (parent_path (f ++ i ∷ [])) (own_number (f ++ i ∷ [])) (below_root f i) (front-snoc f i) (final-snoc f i)
@@ -70,10 +70,10 @@ closed_within : (j b : ℕ) (r : List ℕ) → Within b r → Within (suc b) (cl
 closed_within j b [] h = tt
 closed_within j b (n ∷ r) h = (one_less (nat_le (suc j) n) n b h.0, more b (suc b) r (omega arith) h.1)
 
-routed_within : (f : List ℕ → List ℕ) (b : ℕ) (w q : List ℕ) (o : Option (List ℕ)) → behind w q ≡ o → ((r : List ℕ) → Within b r → Within (suc b) (f r)) → Within b q → Within (suc b) (re_routed f w q o)
+routed_within : (f : List ℕ → List ℕ) (b : ℕ) (w q : List ℕ) (o : Option (List ℕ)) → path_below w q ≡ o → ((r : List ℕ) → Within b r → Within (suc b) (f r)) → Within b q → Within (suc b) (re_routed f w q o)
 routed_within f b w q None is h g = more b (suc b) q (omega arith) g
 routed_within f b w q (Some r) is h g =
-    let parts = split b w r (subst (Within b) (behind-whole w q r is) g) in join (suc b) w (f r) (more b (suc b) w (omega arith) parts.0) (h r parts.1)
+    let parts = split b w r (subst (Within b) (path_below-whole w q r is) g) in join (suc b) w (f r) (more b (suc b) w (omega arith) parts.0) (h r parts.1)
 
 gap_within : (j b : ℕ) (r s : List ℕ) → without_gap j r ≡ Some s → Within b r → Within (suc b) s
 gap_within j b [] s h g = subst (Within (suc b)) (same_Some [] s h) tt
@@ -83,10 +83,10 @@ gap_within j b (n ∷ r) s h g = by (n == j) h
     by true e = cc
     by false e = subst (Within (suc b)) (same_Some (closed_up j (n ∷ r)) s e) (closed_within j b (n ∷ r) g)
 
-routed_if_within : (j b : ℕ) (w q p : List ℕ) (o : Option (List ℕ)) → behind w q ≡ o → re_routed_if (without_gap j) w q o ≡ Some p → Within b q → Within (suc b) p
+routed_if_within : (j b : ℕ) (w q p : List ℕ) (o : Option (List ℕ)) → path_below w q ≡ o → re_routed_if (without_gap j) w q o ≡ Some p → Within b q → Within (suc b) p
 routed_if_within j b w q p None is h g = subst (Within (suc b)) (same_Some q p h) (more b (suc b) q (omega arith) g)
 routed_if_within j b w q p (Some r) is h g =
-    let parts = split b w r (subst (Within b) (behind-whole w q r is) g) in by (without_gap j r) refl h parts.0 parts.1
+    let parts = split b w r (subst (Within b) (path_below-whole w q r is) g) in by (without_gap j r) refl h parts.0 parts.1
   where
     by : (x : Option (List ℕ)) → without_gap j r ≡ x → option_map (λ s. w ++ s) x ≡ Some p → Within b w → Within b r → Within (suc b) p
     by None e k front_in rest_in = cc
@@ -105,10 +105,10 @@ same_within b q p h g = subst (Within (suc b)) (same_Some q p h) (more b (suc b)
 
 came_within : (change : Change) (b : ℕ) (q p : List ℕ) → came_from q change ≡ Some p → Within b q → Within (suc b) p
 came_within (CreateDocument root) b q p h g = cc
-came_within (Insert w j element) b q p h g = routed_if_within j b w q p (behind w q) refl (if_none _ _ p h) g
+came_within (Insert w j element) b q p h g = routed_if_within j b w q p (path_below w q) refl (if_none _ _ p h) g
 came_within (Replace w element) b q p h g = same_within b q p (if_none _ _ p h) g
 came_within (Remove w) b q p h g =
-    subst (Within (suc b)) (same_Some (under (made_room (own_number w)) (parent_path w) q) p (if_some _ _ p h)) (routed_within (made_room (own_number w)) b (parent_path w) q (behind (parent_path w) q) refl (room_within (own_number w) b) g)
+    subst (Within (suc b)) (same_Some (under (made_room (own_number w)) (parent_path w) q) p (if_some _ _ p h)) (routed_within (made_room (own_number w)) b (parent_path w) q (path_below (parent_path w) q) refl (room_within (own_number w) b) g)
 came_within (SetAttr w name value) b q p h g = same_within b q p (if_none _ _ p h) g
 came_within (DropAttr w name) b q p h g = same_within b q p (if_none _ _ p h) g
 came_within RemoveDocument b q p h g = cc

@@ -9,7 +9,7 @@ use Rattle.node_select.specs.Selection.{SelectsPath}
 use Rattle.node_select.specs.declared.selector.Selector.{Selector}
 use Rattle.doc_names.specs.declared.usages.Usage.{Usage}
 use Rattle.edit_ops.specs.Changes.{Fits, edited, place}
-use Rattle.edit_ops.specs.MovedPaths.{behind}
+use Rattle.edit_ops.specs.MovedPaths.{path_below}
 use Rattle.edit_ops.specs.declared.change.Change.{Change}
 use Rattle.edit_ops.specs.declared.change.Change.TheVariants.{CreateDocument, Insert, Replace, Remove, SetAttr, DropAttr, RemoveDocument}
 use Rattle.edit_ops.proofs.MoveLaws.{others_stay}
@@ -30,13 +30,13 @@ none_if None h = refl
 none_if (Some x) h = absurd (h refl)
 
 -- isn't made in it
-outside : (t : Tree) (p : List ℕ) (change : Change) → Fits t change → (Touches p change → ⊥) → behind p (place change) ≡ None
+outside : (t : Tree) (p : List ℕ) (change : Change) → Fits t change → (Touches p change → ⊥) → path_below p (place change) ≡ None
 outside t p (CreateDocument root) fits free = absurd fits
-outside t p (Insert parent gap element) fits free = none_if (behind p parent) free
-outside t p (Replace w element) fits free = none_if (behind p w) (λ h. free (inl h))
-outside t p (Remove w) fits free = none_if (behind p w) (λ h. free (inl h))
-outside t p (SetAttr w name value) fits free = none_if (behind p w) (λ h. free (inl h))
-outside t p (DropAttr w name) fits free = none_if (behind p w) (λ h. free (inl h))
+outside t p (Insert parent gap element) fits free = none_if (path_below p parent) free
+outside t p (Replace w element) fits free = none_if (path_below p w) (λ h. free (inl h))
+outside t p (Remove w) fits free = none_if (path_below p w) (λ h. free (inl h))
+outside t p (SetAttr w name value) fits free = none_if (path_below p w) (λ h. free (inl h))
+outside t p (DropAttr w name) fits free = none_if (path_below p w) (λ h. free (inl h))
 outside t p RemoveDocument fits free = absurd fits
 
 -- and writes no key on its path
@@ -72,10 +72,10 @@ last_passes [] n p q h = (p, (refl, subst (Passes p n.change) h.1.1 h.1.0))
 last_passes (m ∷ ns) n p q h = let r = last_passes ns n h.0 q h.1.1 in (r.0, ((h.0, (h.1.0, r.1.0)), r.1.1))
 
 -- one more record after those of the later versions
-one_more : (v : Version) (vs : List Version) (n : Note) (k : ℕ) (behind : List Note) → v.note ≡ Some n → reverse (notes_of (take k vs)) ++ n ∷ behind ≡ reverse (notes_of (take (suc k) (v ∷ vs))) ++ behind
-one_more v vs n k behind is =
+one_more : (v : Version) (vs : List Version) (n : Note) (k : ℕ) (path_below : List Note) → v.note ≡ Some n → reverse (notes_of (take k vs)) ++ n ∷ path_below ≡ reverse (notes_of (take (suc k) (v ∷ vs))) ++ path_below
+one_more v vs n k path_below is =
     let xs = notes_of (take k vs) in
-    sym (append_assoc (reverse xs) (n ∷ []) behind) ∙ ap (λ (l : List Note). l ++ behind) (sym (turned n xs)) ∙ ap (λ (l : List Note). reverse l ++ behind) (sym (some_noted v (take k vs) n is))
+    sym (append_assoc (reverse xs) (n ∷ []) path_below) ∙ ap (λ (l : List Note). l ++ path_below) (sym (turned n xs)) ∙ ap (λ (l : List Note). reverse l ++ path_below) (sym (some_noted v (take k vs) n is))
 
 -- ---- from version to version
 
@@ -86,14 +86,14 @@ keyed u t sound = record { unique = sound.faultless.2; proper = sound.proper }
 module _ (u : Usage) (selector : Selector) (e : Tree) (p : List ℕ) where
   -- what the address selects in a version, it selects in the earlier ones as far as records move
   -- the place
-  pub found_in_each : (v : Version) (ws : List Version) (front rest behind : List Note) (q former : List ℕ) → AllByRecursion (λ x. IsSound u x.tree) (v ∷ ws) → FollowFrom v ws → notes_of (v ∷ ws) ≡ front ++ rest
-      → SelectsPath selector.steps v.tree q → IsKeyAddressOf u v.tree selector q → at q v.tree ≡ Some e → moved_through q behind ≡ Some p → PassesThrough former (reverse front) q
-      → (k : ℕ) (x : Version) → k ≤ length front → slice_get (v ∷ ws) k ≡ Some x → Finds selector.steps e x.tree (reverse (notes_of (take k (v ∷ ws))) ++ behind) p
-  found_in_each v ws front rest behind q former sound follows is selects address there moves passes zero x le found =
-      subst (λ (w : Version). Finds selector.steps e w.tree behind p) (same_Some v x found) (record { path = q; selects = selects; there = there; moves = moves })
-  found_in_each v ws [] rest behind q former sound follows is selects address there moves passes (suc k) x le found = absurd (omega arith)
-  found_in_each v [] (n ∷ front) rest behind q former sound follows is selects address there moves passes (suc k) x le found = cc
-  found_in_each v (w ∷ ws) (n ∷ front) rest behind q former sound follows is selects address there moves passes (suc k) x le found =
+  pub found_in_each : (v : Version) (ws : List Version) (front rest path_below : List Note) (q former : List ℕ) → AllByRecursion (λ x. IsSound u x.tree) (v ∷ ws) → FollowFrom v ws → notes_of (v ∷ ws) ≡ front ++ rest
+      → SelectsPath selector.steps v.tree q → IsKeyAddressOf u v.tree selector q → at q v.tree ≡ Some e → moved_through q path_below ≡ Some p → PassesThrough former (reverse front) q
+      → (k : ℕ) (x : Version) → k ≤ length front → slice_get (v ∷ ws) k ≡ Some x → Finds selector.steps e x.tree (reverse (notes_of (take k (v ∷ ws))) ++ path_below) p
+  found_in_each v ws front rest path_below q former sound follows is selects address there moves passes zero x le found =
+      subst (λ (w : Version). Finds selector.steps e w.tree path_below p) (same_Some v x found) (record { path = q; selects = selects; there = there; moves = moves })
+  found_in_each v ws [] rest path_below q former sound follows is selects address there moves passes (suc k) x le found = absurd (omega arith)
+  found_in_each v [] (n ∷ front) rest path_below q former sound follows is selects address there moves passes (suc k) x le found = cc
+  found_in_each v (w ∷ ws) (n ∷ front) rest path_below q former sound follows is selects address there moves passes (suc k) x le found =
       let m = follows.0.0 in
       let noted = follows.0.1 in
       let fits = follows.0.2 in
@@ -108,9 +108,9 @@ module _ (u : Usage) (selector : Selector) (e : Tree) (p : List ℕ) where
       let before = before_change u w.tree m.change selector middle q (keyed u w.tree sound.1.0) fits now (subst (λ (t : Tree). IsKeyAddressOf u t selector q) made address)
       (subst (λ (t : Tree). SelectsPath selector.steps t q) made selects) passed.goes_on (no_key u w.tree middle m.change passed.untouched) in
       let same : at middle w.tree ≡ Some e = sym (others_stay w.tree m.change fits middle q (outside w.tree middle m.change fits passed.untouched) passed.goes_on) ∙ ap (at q) (sym made) ∙ there in
-      let goes : moved_through middle (m ∷ behind) ≡ Some p = ap (option_and_then (λ r. moved_through r behind)) passed.goes_on ∙ moves in
-      subst (λ (l : List Note). Finds selector.steps e x.tree l p) (one_more v (w ∷ ws) m k behind noted)
-      (found_in_each w ws front rest (m ∷ behind) middle former sound.1 follows.2 others before.0 before.1 same goes split.1.0 k x (omega arith) found)
+      let goes : moved_through middle (m ∷ path_below) ≡ Some p = ap (option_and_then (λ r. moved_through r path_below)) passed.goes_on ∙ moves in
+      subst (λ (l : List Note). Finds selector.steps e x.tree l p) (one_more v (w ∷ ws) m k path_below noted)
+      (found_in_each w ws front rest (m ∷ path_below) middle former sound.1 follows.2 others before.0 before.1 same goes split.1.0 k x (omega arith) found)
 
 -- ---- the version that the records begin with
 

@@ -7,11 +7,11 @@ use Rattle.std.proofs.lemmas.Option.{same_Some}
 use Rattle.std.proofs.lemmas.Slice.Eq.{bytes_eq-Decides}
 use Rattle.xml_tree.specs.Edits.{own_number, parent_path}
 use Rattle.xml_names.specs.declared.names.Name.{Name}
-use Rattle.edit_ops.specs.MovedPaths.{behind, closed_up, made_room, re_routed, under, unless}
+use Rattle.edit_ops.specs.MovedPaths.{path_below, closed_up, made_room, re_routed, under, unless}
 use Rattle.edit_ops.specs.declared.change.Change.{Change}
 use Rattle.edit_ops.specs.declared.change.Change.TheVariants.{CreateDocument, Insert, Replace, Remove, SetAttr, DropAttr, RemoveDocument}
-use Rattle.edit_ops.proofs.WayLemmas.{behind-other, behind-same, behind-whole}
-use Rattle.element_watch.proofs.Ways.{above-none, behind-append, behind-common, behind-longer, parent-none}
+use Rattle.edit_ops.proofs.WayLemmas.{path_below-other, path_below-same, path_below-whole}
+use Rattle.element_watch.proofs.Ways.{above-none, path_below-append, path_below-common, path_below-longer, parent-none}
 use Rattle.edit_ops.specs.Notes.{Note}
 use Rattle.element_watch.specs.inner.PathHistory.{back, came_from, is_touched, re_routed_if, without_gap}
 use Rattle.element_watch.specs.TouchedElements.{PassesThrough, Passes, TouchesByAttr}
@@ -118,35 +118,35 @@ room_number i n e =
 
 -- ---- a path changed after a place
 
-under_none : (f : List ℕ → List ℕ) (q p : List ℕ) → behind q p ≡ None → under f q p ≡ p
+under_none : (f : List ℕ → List ℕ) (q p : List ℕ) → path_below q p ≡ None → under f q p ≡ p
 under_none f q p h = ap (re_routed f q p) h
 
 under_some : (f : List ℕ → List ℕ) (q r : List ℕ) → under f q (q ++ r) ≡ q ++ f r
-under_some f q r = ap (re_routed f q (q ++ r)) (behind-append q r)
+under_some f q r = ap (re_routed f q (q ++ r)) (path_below-append q r)
 
 -- ---- an insertion
 
 -- by the part of the path after the parent
 abbrev AtGap : List ℕ → ℕ → List ℕ → List ℕ → Type 0
-AtGap w j p q = (under (made_room j) w p ≡ q) × (behind p w ≡ None)
+AtGap w j p q = (under (made_room j) w p ≡ q) × (path_below p w ≡ None)
 
 CameTo : List ℕ → ℕ → List ℕ → List ℕ → Type 0
-CameTo w j p q = cond (is_some (behind q w)) None (re_routed_if (without_gap j) w q (behind w q)) ≡ Some p
+CameTo w j p q = cond (is_some (path_below q w)) None (re_routed_if (without_gap j) w q (path_below w q)) ≡ Some p
 
-insert_to : (w : List ℕ) (j : ℕ) (p q : List ℕ) (o : Option (List ℕ)) → behind w p ≡ o → AtGap w j p q → CameTo w j p q
+insert_to : (w : List ℕ) (j : ℕ) (p q : List ℕ) (o : Option (List ℕ)) → path_below w p ≡ o → AtGap w j p q → CameTo w j p q
 unfolding CameTo
 insert_to w j p q None is (goes, free) =
     let same : p ≡ q = sym (under_none (made_room j) w p is) ∙ goes in
-    when_false (is_some (behind q w)) (re_routed_if (without_gap j) w q (behind w q)) p (not_there (behind q w) (ap (λ x. behind x w) (sym same) ∙ free))
-    (ap (re_routed_if (without_gap j) w q) (ap (behind w) (sym same) ∙ is) ∙ ap Some (sym same))
+    when_false (is_some (path_below q w)) (re_routed_if (without_gap j) w q (path_below w q)) p (not_there (path_below q w) (ap (λ x. path_below x w) (sym same) ∙ free))
+    (ap (re_routed_if (without_gap j) w q) (ap (path_below w) (sym same) ∙ is) ∙ ap Some (sym same))
 insert_to w j p q (Some []) is (goes, free) =
-    let whole = behind-whole w p [] is in
-    absurd (let z : None ≡ Some [] = sym free ∙ ap (λ x. behind x w) (whole ∙ append-nil w) ∙ ap (behind w) (sym (append-nil w)) ∙ behind-append w [] in cc)
+    let whole = path_below-whole w p [] is in
+    absurd (let z : None ≡ Some [] = sym free ∙ ap (λ x. path_below x w) (whole ∙ append-nil w) ∙ ap (path_below w) (sym (append-nil w)) ∙ path_below-append w [] in cc)
 insert_to w j p q (Some (n ∷ r)) is (goes, free) =
-    let whole = behind-whole w p (n ∷ r) is in
+    let whole = path_below-whole w p (n ∷ r) is in
     let to : q ≡ w ++ made_room j (n ∷ r) = sym goes ∙ ap (under (made_room j) w) whole ∙ under_some (made_room j) w (n ∷ r) in
-    when_false (is_some (behind q w)) (re_routed_if (without_gap j) w q (behind w q)) p (not_there (behind q w) (ap (λ x. behind x w) to ∙ behind-longer w (cond (nat_le j n) (suc n) n) r))
-    (ap (re_routed_if (without_gap j) w q) (ap (behind w) to ∙ behind-append w (made_room j (n ∷ r))) ∙ ap (option_map (λ s. w ++ s)) (gap_filled j n r) ∙ ap Some (sym whole))
+    when_false (is_some (path_below q w)) (re_routed_if (without_gap j) w q (path_below w q)) p (not_there (path_below q w) (ap (λ x. path_below x w) to ∙ path_below-longer w (cond (nat_le j n) (suc n) n) r))
+    (ap (re_routed_if (without_gap j) w q) (ap (path_below w) to ∙ path_below-append w (made_room j (n ∷ r))) ∙ ap (option_map (λ s. w ++ s)) (gap_filled j n r) ∙ ap Some (sym whole))
 
 gap_from : (w : List ℕ) (j n : ℕ) (r p : List ℕ) (x : Option (List ℕ)) → without_gap j (n ∷ r) ≡ x → option_map (λ s. w ++ s) x ≡ Some p → (s : List ℕ) × ((without_gap j (n ∷ r) ≡ Some s) × (w ++ s ≡ p))
 gap_from w j n r p None is h = cc
@@ -156,24 +156,24 @@ not_empty : (j n : ℕ) (r s : List ℕ) → made_room j s ≡ n ∷ r → (m : 
 not_empty j n r [] h = cc
 not_empty j n r (m ∷ t) h = (m, (t, refl))
 
-insert_from : (w : List ℕ) (j : ℕ) (p q : List ℕ) (o : Option (List ℕ)) → behind w q ≡ o → CameTo w j p q → AtGap w j p q
+insert_from : (w : List ℕ) (j : ℕ) (p q : List ℕ) (o : Option (List ℕ)) → path_below w q ≡ o → CameTo w j p q → AtGap w j p q
 unfolding CameTo
 insert_from w j p q None is h =
-    let a = if_none (is_some (behind q w)) (re_routed_if (without_gap j) w q (behind w q)) p h in
+    let a = if_none (is_some (path_below q w)) (re_routed_if (without_gap j) w q (path_below w q)) p h in
     let same : q ≡ p = same_Some q p (sym (ap (re_routed_if (without_gap j) w q) is) ∙ a.1) in
-    (under_none (made_room j) w p (ap (behind w) (sym same) ∙ is) ∙ sym same, ap (λ x. behind x w) (sym same) ∙ none_there (behind q w) a.0)
+    (under_none (made_room j) w p (ap (path_below w) (sym same) ∙ is) ∙ sym same, ap (λ x. path_below x w) (sym same) ∙ none_there (path_below q w) a.0)
 insert_from w j p q (Some []) is h =
-    let a = if_none (is_some (behind q w)) (re_routed_if (without_gap j) w q (behind w q)) p h in
-    let whole = behind-whole w q [] is in
-    absurd (let z : None ≡ Some [] = sym (none_there (behind q w) a.0) ∙ ap (λ x. behind x w) (whole ∙ append-nil w) ∙ ap (behind w) (sym (append-nil w)) ∙ behind-append w [] in cc)
+    let a = if_none (is_some (path_below q w)) (re_routed_if (without_gap j) w q (path_below w q)) p h in
+    let whole = path_below-whole w q [] is in
+    absurd (let z : None ≡ Some [] = sym (none_there (path_below q w) a.0) ∙ ap (λ x. path_below x w) (whole ∙ append-nil w) ∙ ap (path_below w) (sym (append-nil w)) ∙ path_below-append w [] in cc)
 insert_from w j p q (Some (n ∷ r)) is h =
-    let a = if_none (is_some (behind q w)) (re_routed_if (without_gap j) w q (behind w q)) p h in
+    let a = if_none (is_some (path_below q w)) (re_routed_if (without_gap j) w q (path_below w q)) p h in
     let g = gap_from w j n r p (without_gap j (n ∷ r)) refl (sym (ap (re_routed_if (without_gap j) w q) is) ∙ a.1) in
-    let whole = behind-whole w q (n ∷ r) is in
+    let whole = path_below-whole w q (n ∷ r) is in
     let back_to = filled_gap j n r g.0 g.1.0 in
     let some = not_empty j n r g.0 back_to in (
       ap (under (made_room j) w) (sym g.1.1) ∙ under_some (made_room j) w g.0 ∙ ap (λ s. w ++ s) back_to ∙ sym whole,
-      ap (λ x. behind x w) (sym g.1.1 ∙ ap (λ s. w ++ s) some.1.1) ∙ behind-longer w some.0 some.1.0,
+      ap (λ x. path_below x w) (sym g.1.1 ∙ ap (λ s. w ++ s) some.1.1) ∙ path_below-longer w some.0 some.1.0,
     )
 
 -- ---- a removal
@@ -181,53 +181,53 @@ insert_from w j p q (Some (n ∷ r)) is h =
 -- the element at w, which isn't the root, is the i-th child of the one at f
 module _ (w f : List ℕ) (i : ℕ) (whole : w ≡ f ++ i ∷ []) where
   OutOf : List ℕ → List ℕ → Type 0
-  OutOf p q = (behind w p ≡ None) × (under (closed_up i) f p ≡ q) × (behind p w ≡ None)
+  OutOf p q = (path_below w p ≡ None) × (under (closed_up i) f p ≡ q) × (path_below p w ≡ None)
 
-  remove_to : (p q : List ℕ) (o : Option (List ℕ)) → behind f p ≡ o → OutOf p q → (behind q f ≡ None) × (under (made_room i) f q ≡ p)
+  remove_to : (p q : List ℕ) (o : Option (List ℕ)) → path_below f p ≡ o → OutOf p q → (path_below q f ≡ None) × (under (made_room i) f q ≡ p)
   unfolding OutOf
   remove_to p q None is (gone, goes, free) =
       let same : p ≡ q = sym (under_none (closed_up i) f p is) ∙ goes in (
-        ap (λ x. behind x f) (sym same) ∙ above f i p (sym (ap (behind p) whole) ∙ free),
+        ap (λ x. path_below x f) (sym same) ∙ above f i p (sym (ap (path_below p) whole) ∙ free),
         ap (under (made_room i) f) (sym same) ∙ under_none (made_room i) f p is,
       )
     where
-      above : (g : List ℕ) (k : ℕ) (x : List ℕ) → behind x (g ++ k ∷ []) ≡ None → behind x g ≡ None
-      above g k x h = none_if (behind x g) (λ s. longer_there g k x (behind x g) refl s h)
+      above : (g : List ℕ) (k : ℕ) (x : List ℕ) → path_below x (g ++ k ∷ []) ≡ None → path_below x g ≡ None
+      above g k x h = none_if (path_below x g) (λ s. longer_there g k x (path_below x g) refl s h)
         where
-          longer_there : (g : List ℕ) (k : ℕ) (x : List ℕ) (o : Option (List ℕ)) → behind x g ≡ o → IsSome o → behind x (g ++ k ∷ []) ≡ None → ⊥
+          longer_there : (g : List ℕ) (k : ℕ) (x : List ℕ) (o : Option (List ℕ)) → path_below x g ≡ o → IsSome o → path_below x (g ++ k ∷ []) ≡ None → ⊥
           longer_there g k x None e s h = cc
           longer_there g k x (Some r) e s h =
-              let there : behind x (g ++ k ∷ []) ≡ Some (r ++ k ∷ []) = ap (λ y. behind x (y ++ k ∷ [])) (behind-whole x g r e) ∙ ap (behind x) (append_assoc x r (k ∷ [])) ∙ behind-append x (r ++ k ∷ []) in
+              let there : path_below x (g ++ k ∷ []) ≡ Some (r ++ k ∷ []) = ap (λ y. path_below x (y ++ k ∷ [])) (path_below-whole x g r e) ∙ ap (path_below x) (append_assoc x r (k ∷ [])) ∙ path_below-append x (r ++ k ∷ []) in
               let z : None ≡ Some (r ++ k ∷ []) = sym h ∙ there in cc
   remove_to p q (Some []) is (gone, goes, free) =
-      let at_parent = behind-whole f p [] is ∙ append-nil f in
-      absurd (let z : None ≡ Some (i ∷ []) = sym free ∙ ap (λ x. behind x w) at_parent ∙ ap (behind f) whole ∙ behind-append f (i ∷ []) in cc)
+      let at_parent = path_below-whole f p [] is ∙ append-nil f in
+      absurd (let z : None ≡ Some (i ∷ []) = sym free ∙ ap (λ x. path_below x w) at_parent ∙ ap (path_below f) whole ∙ path_below-append f (i ∷ []) in cc)
   remove_to p q (Some (n ∷ r)) is (gone, goes, free) =
-      let at_child = behind-whole f p (n ∷ r) is in
-      let other : i ≡ n → ⊥ = λ e. no_some (behind w p) gone (is_there (behind w p) r (ap (λ x. behind x p) whole ∙ ap (behind (f ++ i ∷ [])) at_child ∙ behind-common f (i ∷ []) (n ∷ r) ∙ ap (λ k. behind (k ∷ []) (n ∷ r)) e ∙ behind-same n [] r)) in
+      let at_child = path_below-whole f p (n ∷ r) is in
+      let other : i ≡ n → ⊥ = λ e. no_some (path_below w p) gone (is_there (path_below w p) r (ap (λ x. path_below x p) whole ∙ ap (path_below (f ++ i ∷ [])) at_child ∙ path_below-common f (i ∷ []) (n ∷ r) ∙ ap (λ k. path_below (k ∷ []) (n ∷ r)) e ∙ path_below-same n [] r)) in
       let to : q ≡ f ++ closed_up i (n ∷ r) = sym goes ∙ ap (under (closed_up i) f) at_child ∙ under_some (closed_up i) f (n ∷ r) in (
-        ap (λ x. behind x f) to ∙ behind-longer f (cond (nat_le (suc i) n) (n - 1) n) r,
+        ap (λ x. path_below x f) to ∙ path_below-longer f (cond (nat_le (suc i) n) (n - 1) n) r,
         ap (under (made_room i) f) to ∙ under_some (made_room i) f (closed_up i (n ∷ r)) ∙ ap (λ s. f ++ s) (hole_filled i n r other) ∙ sym at_child,
       )
 
-  remove_from : (p q : List ℕ) (o : Option (List ℕ)) → behind f q ≡ o → behind q f ≡ None → under (made_room i) f q ≡ p → OutOf p q
+  remove_from : (p q : List ℕ) (o : Option (List ℕ)) → path_below f q ≡ o → path_below q f ≡ None → under (made_room i) f q ≡ p → OutOf p q
   unfolding OutOf
   remove_from p q None is free goes =
       let same : q ≡ p = sym (under_none (made_room i) f q is) ∙ goes in (
-        ap (λ x. behind x p) whole ∙ ap (behind (f ++ i ∷ [])) (sym same) ∙ parent-none f i q is,
+        ap (λ x. path_below x p) whole ∙ ap (path_below (f ++ i ∷ [])) (sym same) ∙ parent-none f i q is,
         ap (under (closed_up i) f) (sym same) ∙ under_none (closed_up i) f q is,
-        ap (behind p) whole ∙ ap (λ x. behind x (f ++ i ∷ [])) (sym same) ∙ above-none f i q free is,
+        ap (path_below p) whole ∙ ap (λ x. path_below x (f ++ i ∷ [])) (sym same) ∙ above-none f i q free is,
       )
   remove_from p q (Some []) is free goes =
-      let at_parent = behind-whole f q [] is ∙ append-nil f in
-      absurd (let z : None ≡ Some [] = sym free ∙ ap (λ x. behind x f) at_parent ∙ ap (behind f) (sym (append-nil f)) ∙ behind-append f [] in cc)
+      let at_parent = path_below-whole f q [] is ∙ append-nil f in
+      absurd (let z : None ≡ Some [] = sym free ∙ ap (λ x. path_below x f) at_parent ∙ ap (path_below f) (sym (append-nil f)) ∙ path_below-append f [] in cc)
   remove_from p q (Some (n ∷ r)) is free goes =
-      let at_child = behind-whole f q (n ∷ r) is in
+      let at_child = path_below-whole f q (n ∷ r) is in
       let m = cond (nat_le i n) (suc n) n in
       let from : p ≡ f ++ made_room i (n ∷ r) = sym goes ∙ ap (under (made_room i) f) at_child ∙ under_some (made_room i) f (n ∷ r) in (
-        ap (λ x. behind x p) whole ∙ ap (behind (f ++ i ∷ [])) from ∙ behind-common f (i ∷ []) (m ∷ r) ∙ behind-other i m [] r (λ e. room_number i n (sym e)),
+        ap (λ x. path_below x p) whole ∙ ap (path_below (f ++ i ∷ [])) from ∙ path_below-common f (i ∷ []) (m ∷ r) ∙ path_below-other i m [] r (λ e. room_number i n (sym e)),
         ap (under (closed_up i) f) from ∙ under_some (closed_up i) f (made_room i (n ∷ r)) ∙ ap (λ s. f ++ s) (filled_hole i n r) ∙ sym at_child,
-        ap (behind p) whole ∙ ap (λ x. behind x (f ++ i ∷ [])) from ∙ behind-common f (m ∷ r) (i ∷ []) ∙ behind-other m i r [] (room_number i n),
+        ap (path_below p) whole ∙ ap (λ x. path_below x (f ++ i ∷ [])) from ∙ path_below-common f (m ∷ r) (i ∷ []) ∙ path_below-other m i r [] (room_number i n),
       )
 
 whole_path : (n : ℕ) (w : List ℕ) → n ∷ w ≡ parent_path (n ∷ w) ++ own_number (n ∷ w) ∷ []
@@ -255,15 +255,15 @@ both false b h g = cc
 
 untouched_to : (q w : List ℕ) (name : Name) → (TouchesByAttr q w name → ⊥) → is_touched q w name ≡ false
 untouched_to q w name free =
-    both_false (is_some (behind q w)) (is_some (behind w q) && bytes_eq name.prefix []) (not_there (behind q w) (none_if (behind q w) (λ h. free (inl h))))
-    (and_false (is_some (behind w q)) (bytes_eq name.prefix []) (λ h e. free (inr (h, (bytes_eq-Decides name.prefix []).0 e))))
+    both_false (is_some (path_below q w)) (is_some (path_below w q) && bytes_eq name.prefix []) (not_there (path_below q w) (none_if (path_below q w) (λ h. free (inl h))))
+    (and_false (is_some (path_below w q)) (bytes_eq name.prefix []) (λ h e. free (inr (h, (bytes_eq-Decides name.prefix []).0 e))))
 
 untouched_from : (q w : List ℕ) (name : Name) → is_touched q w name ≡ false → TouchesByAttr q w name → ⊥
 untouched_from q w name h touches =
-    let n = neither (is_some (behind q w)) (is_some (behind w q) && bytes_eq name.prefix []) h in
+    let n = neither (is_some (path_below q w)) (is_some (path_below w q) && bytes_eq name.prefix []) h in
     ⊎_elim
-    (λ t. no_some (behind q w) (none_there (behind q w) n.0) t)
-    (λ t. let z : true ≡ false = sym (both (is_some (behind w q)) (bytes_eq name.prefix []) t.0 ((bytes_eq-Decides name.prefix []).1 t.1)) ∙ n.1 in cc)
+    (λ t. no_some (path_below q w) (none_there (path_below q w) n.0) t)
+    (λ t. let z : true ≡ false = sym (both (is_some (path_below w q)) (bytes_eq name.prefix []) t.0 ((bytes_eq-Decides name.prefix []).1 t.1)) ∙ n.1 in cc)
     touches
 
 -- ---- every change
@@ -272,17 +272,17 @@ passes_to : (change : Change) (p q : List ℕ) → Passes p change q → came_fr
 unfolding CameTo OutOf
 passes_to (CreateDocument root) p q h = let e = h.goes_on in cc
 passes_to (Insert parent gap element) p q h =
-    insert_to parent gap p q (behind parent p) refl (same_Some (under (made_room gap) parent p) q h.goes_on, none_if (behind p parent) h.untouched)
+    insert_to parent gap p q (path_below parent p) refl (same_Some (under (made_room gap) parent p) q h.goes_on, none_if (path_below p parent) h.untouched)
 passes_to (Replace w element) p q h =
-    let k = unless_some (behind w p) p q h.goes_on in
-    when_false (is_some (behind q w) || is_some (behind w q)) (Some q) p
-    (both_false (is_some (behind q w)) (is_some (behind w q)) (not_there (behind q w) (ap (λ x. behind x w) (sym k.1) ∙ none_if (behind p w) (λ s. h.untouched (inl s)))) (not_there (behind w q) (ap (behind w) (sym k.1) ∙ k.0)))
+    let k = unless_some (path_below w p) p q h.goes_on in
+    when_false (is_some (path_below q w) || is_some (path_below w q)) (Some q) p
+    (both_false (is_some (path_below q w)) (is_some (path_below w q)) (not_there (path_below q w) (ap (λ x. path_below x w) (sym k.1) ∙ none_if (path_below p w) (λ s. h.untouched (inl s)))) (not_there (path_below w q) (ap (path_below w) (sym k.1) ∙ k.0)))
     (ap Some (sym k.1))
 passes_to (Remove []) p q h = let e = h.goes_on in cc
 passes_to (Remove (n ∷ w)) p q h =
-    let k = unless_some (behind (n ∷ w) p) (under (closed_up (own_number (n ∷ w))) (parent_path (n ∷ w)) p) q h.goes_on in
-    let r = remove_to (n ∷ w) (parent_path (n ∷ w)) (own_number (n ∷ w)) (whole_path n w) p q (behind (parent_path (n ∷ w)) p) refl (k.0, k.1, none_if (behind p (n ∷ w)) (λ s. h.untouched (inl s))) in
-    when_true (not (is_some (behind q (parent_path (n ∷ w))))) (Some (under (made_room (own_number (n ∷ w))) (parent_path (n ∷ w)) q)) p (true_not (is_some (behind q (parent_path (n ∷ w)))) (not_there (behind q (parent_path (n ∷ w))) r.0)) (ap Some r.1)
+    let k = unless_some (path_below (n ∷ w) p) (under (closed_up (own_number (n ∷ w))) (parent_path (n ∷ w)) p) q h.goes_on in
+    let r = remove_to (n ∷ w) (parent_path (n ∷ w)) (own_number (n ∷ w)) (whole_path n w) p q (path_below (parent_path (n ∷ w)) p) refl (k.0, k.1, none_if (path_below p (n ∷ w)) (λ s. h.untouched (inl s))) in
+    when_true (not (is_some (path_below q (parent_path (n ∷ w))))) (Some (under (made_room (own_number (n ∷ w))) (parent_path (n ∷ w)) q)) p (true_not (is_some (path_below q (parent_path (n ∷ w)))) (not_there (path_below q (parent_path (n ∷ w))) r.0)) (ap Some r.1)
 passes_to (SetAttr w name value) p q h =
     let same = same_Some p q h.goes_on in
     when_false (is_touched q w name) (Some q) p (ap (λ x. is_touched x w name) (sym same) ∙ untouched_to p w name h.untouched) (ap Some (sym same))
@@ -295,23 +295,23 @@ passes_from : (change : Change) (p q : List ℕ) → came_from q change ≡ Some
 unfolding CameTo OutOf
 passes_from (CreateDocument root) p q h = cc
 passes_from (Insert parent gap element) p q h =
-    let r = insert_from parent gap p q (behind parent q) refl h in record { goes_on = ap Some r.0; untouched = no_some (behind p parent) r.1 }
+    let r = insert_from parent gap p q (path_below parent q) refl h in record { goes_on = ap Some r.0; untouched = no_some (path_below p parent) r.1 }
 passes_from (Replace w element) p q h =
-    let a = if_none (is_some (behind q w) || is_some (behind w q)) (Some q) p h in
-    let n = neither (is_some (behind q w)) (is_some (behind w q)) a.0 in
+    let a = if_none (is_some (path_below q w) || is_some (path_below w q)) (Some q) p h in
+    let n = neither (is_some (path_below q w)) (is_some (path_below w q)) a.0 in
     let same = same_Some q p a.1 in
-    let above = ap (behind w) (sym same) ∙ none_there (behind w q) n.1 in
-    let below = ap (λ x. behind x w) (sym same) ∙ none_there (behind q w) n.0 in record {
-      goes_on = some_unless (behind w p) p q above (sym same);
-      untouched = λ t. ⊎_elim (no_some (behind p w) below) (no_some (behind w p) above) t;
+    let above = ap (path_below w) (sym same) ∙ none_there (path_below w q) n.1 in
+    let below = ap (λ x. path_below x w) (sym same) ∙ none_there (path_below q w) n.0 in record {
+      goes_on = some_unless (path_below w p) p q above (sym same);
+      untouched = λ t. ⊎_elim (no_some (path_below p w) below) (no_some (path_below w p) above) t;
     }
 passes_from (Remove []) p q h = cc
 passes_from (Remove (n ∷ w)) p q h =
-    let a = if_some (not (is_some (behind q (parent_path (n ∷ w))))) (Some (under (made_room (own_number (n ∷ w))) (parent_path (n ∷ w)) q)) p h in
-    let r = remove_from (n ∷ w) (parent_path (n ∷ w)) (own_number (n ∷ w)) (whole_path n w) p q (behind (parent_path (n ∷ w)) q) refl (none_there (behind q (parent_path (n ∷ w))) (not_true (is_some (behind q (parent_path (n ∷ w)))) a.0)) (same_Some (under (made_room (own_number (n ∷ w))) (parent_path (n ∷ w)) q) p a.1) in
+    let a = if_some (not (is_some (path_below q (parent_path (n ∷ w))))) (Some (under (made_room (own_number (n ∷ w))) (parent_path (n ∷ w)) q)) p h in
+    let r = remove_from (n ∷ w) (parent_path (n ∷ w)) (own_number (n ∷ w)) (whole_path n w) p q (path_below (parent_path (n ∷ w)) q) refl (none_there (path_below q (parent_path (n ∷ w))) (not_true (is_some (path_below q (parent_path (n ∷ w)))) a.0)) (same_Some (under (made_room (own_number (n ∷ w))) (parent_path (n ∷ w)) q) p a.1) in
     record {
-      goes_on = some_unless (behind (n ∷ w) p) (under (closed_up (own_number (n ∷ w))) (parent_path (n ∷ w)) p) q r.0 r.1;
-      untouched = λ t. ⊎_elim (no_some (behind p (n ∷ w)) r.2) (no_some (behind (n ∷ w) p) r.0) t;
+      goes_on = some_unless (path_below (n ∷ w) p) (under (closed_up (own_number (n ∷ w))) (parent_path (n ∷ w)) p) q r.0 r.1;
+      untouched = λ t. ⊎_elim (no_some (path_below p (n ∷ w)) r.2) (no_some (path_below (n ∷ w) p) r.0) t;
     }
 passes_from (SetAttr w name value) p q h =
     let a = if_none (is_touched q w name) (Some q) p h in

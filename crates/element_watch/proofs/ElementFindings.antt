@@ -64,7 +64,7 @@ got_is None t tag is = cc
 got_is (Some h) t tag is = (h, (refl, ap (λ (x : Tree × ℕ). x.0) (sym (same_Some (t, tag) (h.tree, h.tag) is))))
 
 all_texts : {E : Type 0} (root : List ℕ) (c : StoreContents) (id : DocId) (selector : Selector) (raw : List ℕ) (ns : List Note) (u : Usage) (h : StoredDocument) (state : ElementState) (r : Result (List ℕ) E) → document_in stored_name c.documents id ≡ Some h → usage_of id.auid ≡ Some u
-    → state ≡ state_in (Some u) h.tree selector ns → IfOk r (λ bytes. bytes ≡ encode_utf8_all (document_print (element_notice root (id_text id) raw state))) → IfOk r (IsNoticeText (record { root = root; doc = id; selector = selector; raw = raw }) c ns)
+    → state ≡ state_in (Some u) h.tree selector ns → IfOk r (λ bytes. bytes ≡ encode_utf8_all (document_print (element_notice root (id_text id) raw state))) → IfOk r (IsNoticeText root (record { doc = id; selector = selector; raw = raw }) c ns)
 all_texts root c id selector raw ns u h state (Err e) there known is writes = tt
 all_texts root c id selector raw ns u h state (Ok bytes) there known is writes = (
   element_notice root (id_text id) raw state,
@@ -72,7 +72,7 @@ all_texts root c id selector raw ns u h state (Ok bytes) there known is writes =
 )
 
 pub notice_text : {E : Type 0} (root : List ℕ) (c : StoreContents) (id : DocId) (selector : Selector) (raw : List ℕ) (ns : List Note) (u : Usage) (t : Tree) (tag : ℕ) (state : ElementState) (r : Result (List ℕ) E) → Some (t, tag) ≡ PairOf (document_in stored_name c.documents id)
-    → usage_of id.auid ≡ Some u → state ≡ state_in (Some u) t selector ns → IfOk r (λ bytes. bytes ≡ encode_utf8_all (document_print (element_notice root (id_text id) raw state))) → IfOk r (IsNoticeText (record { root = root; doc = id; selector = selector; raw = raw }) c ns)
+    → usage_of id.auid ≡ Some u → state ≡ state_in (Some u) t selector ns → IfOk r (λ bytes. bytes ≡ encode_utf8_all (document_print (element_notice root (id_text id) raw state))) → IfOk r (IsNoticeText root (record { doc = id; selector = selector; raw = raw }) c ns)
 notice_text root c id selector raw ns u t tag state r got known is writes =
     let h = got_is (document_in stored_name c.documents id) t tag got in
     all_texts root c id selector raw ns u h.0 state r h.1.0 known (is ∙ ap (λ (x : Tree). state_in (Some u) x selector ns) (sym h.1.1)) writes

@@ -28,7 +28,7 @@ use Rattle.store_core.specs.State.{Document, State, Version, is_small, notes, re
 use Rattle.store_core.proofs.AcceptedChanges.{find-map}
 use Rattle.store_core.proofs.ChangePremises.{found-name}
 use Rattle.store_core.proofs.Chains.{notes_of}
-use Rattle.element_watch.specs.SelectionHistory.{FindFrom, FindSince, Finds, notes_behind}
+use Rattle.element_watch.specs.SelectionHistory.{FindFrom, FindSince, Finds, notes_after}
 use Rattle.element_watch.specs.TouchedElements.{PassesThrough}
 use Rattle.element_watch.specs.WatchedElements.{IsElementNotice, IsQuiet, IsStateOf, silent_notice}
 use Rattle.element_watch.proofs.Chain.{begins_with, found_in_each}
@@ -127,10 +127,10 @@ module _ (u : Usage) (selector : Selector) (p : List ℕ) (d : Document) (next t
 
   finds_in : SelectsPath selector.steps d.now.tree p → IsKeyAddressOf u d.now.tree selector p → (q : List ℕ) → PassesThrough q ns p → FindFrom (length (reverse ns)) selector.steps d p
   finds_in selects address q passes =
-      some_and (at p d.now.tree) (λ e. (k : ℕ) (v : Version) → k ≤ length (reverse ns) → slice_get (versions d) k ≡ Some v → Finds selector.steps e v.tree (notes_behind k (versions d)) p)
+      some_and (at p d.now.tree) (λ e. (k : ℕ) (v : Version) → k ≤ length (reverse ns) → slice_get (versions d) k ≡ Some v → Finds selector.steps e v.tree (notes_after k (versions d)) p)
       (path_there selector.steps d.now.tree p selects)
       (λ e there k v le is.
-      subst (λ (l : List Note). Finds selector.steps e v.tree l p) (append-nil (notes_behind k (versions d)))
+      subst (λ (l : List Note). Finds selector.steps e v.tree l p) (append-nil (notes_after k (versions d)))
       (found_in_each u selector e p d.now d.earlier (reverse ns) (reverse told.front) [] p q (sound_all (usage_of d.id.auid) u (versions d) known kept.sound) kept.follows turned selects address there refl
       (subst (λ (l : List Note). PassesThrough q l p) (sym (reverse-reverse ns)) passes) k v le is))
 
@@ -180,7 +180,7 @@ quiet_so : (u : Usage) (t : Tree) (selector : Selector) (ns : List Note) (usage 
 quiet_so u t selector ns usage state known unchanged is = subst (λ (x : Option Usage). IsQuiet x t selector ns) known (subst (IsStateOf usage t selector ns) unchanged is)
 
 pub find_unreported : (root : List ℕ) (c : StoreContents) (m : State) (id : DocId) (tag : ℕ) (ns : List Note) (held : StoredDocument) (u : Usage) (selector : Selector) (raw p : List ℕ) → IsValidState m → Represents c m → since c id tag ≡ ReportedChanges ns → document_in stored_name c.documents id ≡ Some held
-    → usage_of id.auid ≡ Some u → IsElementNotice (record { root = root; doc = id; selector = selector; raw = raw }) c ns (silent_notice root) → SelectsPath selector.steps held.tree p → IsKeyAddressOf u held.tree selector p → FindSince m id tag selector.steps p
+    → usage_of id.auid ≡ Some u → IsElementNotice root (record { doc = id; selector = selector; raw = raw }) c ns (silent_notice root) → SelectsPath selector.steps held.tree p → IsKeyAddressOf u held.tree selector p → FindSince m id tag selector.steps p
 find_unreported root c m id tag ns held u selector raw p kept stands told there known notice selects address =
     let same : notice.held ≡ held = same_Some notice.held held (sym notice.there ∙ there) in
     let quiet = quiet_so u notice.held.tree selector ns (usage_of id.auid) notice.state known (silent_so root (id_text id) raw notice.state notice.told) notice.is_state in

@@ -127,7 +127,7 @@ module _ (u : Option Usage) (t : Tree) (selector : Selector) (ns : List Note) wh
 
 -- ---- the diff document
 
-pub one_notice : (root : List ℕ) (c : StoreContents) (id : DocId) (selector : Selector) (raw : List ℕ) (ns : List Note) (a b : Tree) → IsElementNotice (record { root = root; doc = id; selector = selector; raw = raw }) c ns a → IsElementNotice (record { root = root; doc = id; selector = selector; raw = raw }) c ns b → a ≡ b
+pub one_notice : (root : List ℕ) (c : StoreContents) (id : DocId) (selector : Selector) (raw : List ℕ) (ns : List Note) (a b : Tree) → IsElementNotice root (record { doc = id; selector = selector; raw = raw }) c ns a → IsElementNotice root (record { doc = id; selector = selector; raw = raw }) c ns b → a ≡ b
 one_notice root c id selector raw ns a b h g =
     let same : h.held ≡ g.held = same_Some h.held g.held (sym h.there ∙ g.there) in
     let here : IsStateOf (usage_of id.auid) g.held.tree selector ns h.state = subst (λ (x : StoredDocument). IsStateOf (usage_of id.auid) x.tree selector ns h.state) same h.is_state in
@@ -135,12 +135,12 @@ one_notice root c id selector raw ns a b h g =
     h.told ∙ ap (element_notice root (id_text id) raw) state ∙ sym g.told
 
 made_notice : (root : List ℕ) (c : StoreContents) (tag : ℕ) (id : DocId) (selector : Selector) (raw : List ℕ) (ns : List Note) (o : Option StoredDocument) → document_in stored_name c.documents id ≡ o → held_since tag o ≡ ReportedChanges ns
-    → (notice : Tree) × IsElementNotice (record { root = root; doc = id; selector = selector; raw = raw }) c ns notice
+    → (notice : Tree) × IsElementNotice root (record { doc = id; selector = selector; raw = raw }) c ns notice
 made_notice root c tag id selector raw ns None is told = cc
 made_notice root c tag id selector raw ns (Some h) is told =
     let state = state_in (usage_of id.auid) h.tree selector ns in
     (element_notice root (id_text id) raw state, record { held = h; there = is; state = state; is_state = state_is (usage_of id.auid) h.tree selector ns; told = refl })
 
 -- where records are returned, there is one
-pub some_notice : (root : List ℕ) (c : StoreContents) (tag : ℕ) (id : DocId) (selector : Selector) (raw : List ℕ) (ns : List Note) → since c id tag ≡ ReportedChanges ns → (notice : Tree) × IsElementNotice (record { root = root; doc = id; selector = selector; raw = raw }) c ns notice
+pub some_notice : (root : List ℕ) (c : StoreContents) (tag : ℕ) (id : DocId) (selector : Selector) (raw : List ℕ) (ns : List Note) → since c id tag ≡ ReportedChanges ns → (notice : Tree) × IsElementNotice root (record { doc = id; selector = selector; raw = raw }) c ns notice
 some_notice root c tag id selector raw ns told = made_notice root c tag id selector raw ns (document_in stored_name c.documents id) refl told

@@ -12,8 +12,8 @@ use Rattle.element_watch.specs.TouchedElements.{moved_through}
 
 -- the records of the changes after the version of this number, counted from 0 for the present one;
 -- oldest first
-abbrev pub notes_behind : ℕ → List Version → List Note
-notes_behind number vs = reverse (filter_map (λ v. v.note) (take number vs))
+abbrev pub notes_after : ℕ → List Version → List Note
+notes_after number vs = reverse (filter_map (λ v. v.note) (take number vs))
 
 -- in the tree the steps select the element e, at a path that the change records move to p
 pub record Finds (steps : List Step) (e t : Tree) (ns : List Note) (p : List ℕ) : Type 0 where
@@ -28,7 +28,7 @@ abbrev pub FindFrom : ℕ → List Step → Document → List ℕ → Type 0
 FindFrom number steps d p =
     IsSomeAnd (at p d.now.tree) (λ e.
     (k : ℕ) (v : Version) → k ≤ number → slice_get (versions d) k ≡ Some v
-    → Finds steps e v.tree (notes_behind k (versions d)) p)
+    → Finds steps e v.tree (notes_after k (versions d)) p)
 
 -- the document has a version with this etag, and since then the steps select in each version the
 -- element that is at p in the present one

@@ -58,38 +58,37 @@ IsStateOf u t selector ns Missing = (IsQuiet u t selector ns → ⊥) × (Select
 
 -- ---- the diff document
 
--- a watched element: the XCAP root, its document, its selector, and that selector as it was written
+-- a watched element: its document, its selector, and that selector as it was written
 pub record WatchedElement : Type 0 where
-  pub root : List ℕ
   pub doc : DocId
   pub selector : Selector
   pub raw : List ℕ
 
--- the xcap-diff document about an element of a stored document, with the change records since the
--- known version
-pub record IsElementNotice (watched : WatchedElement) (c : StoreContents) (ns : List Note)
-    (notice : Tree) : Type 0 where
+-- the xcap-diff document, under this XCAP root, about an element of a stored document, with the
+-- change records since the known version
+pub record IsElementNotice (root : List ℕ) (watched : WatchedElement) (c : StoreContents)
+    (ns : List Note) (notice : Tree) : Type 0 where
   pub held : StoredDocument
   pub there : document_in stored_name c.documents watched.doc ≡ Some held
   pub state : ElementState
   pub is_state : IsStateOf (usage_of watched.doc.auid) held.tree watched.selector ns state
-  pub told : notice ≡ element_notice watched.root (id_text watched.doc) watched.raw state
+  pub told : notice ≡ element_notice root (id_text watched.doc) watched.raw state
 
 -- the diff document that reports nothing
 abbrev pub silent_notice : List ℕ → Tree
 silent_notice root = diff (candidate 0) root []
 
 -- the text of a diff document
-abbrev pub IsNoticeText : WatchedElement → StoreContents → List Note → List ℕ → Type 0
-IsNoticeText watched c ns text =
+abbrev pub IsNoticeText : List ℕ → WatchedElement → StoreContents → List Note → List ℕ → Type 0
+IsNoticeText root watched c ns text =
     (notice : Tree)
-    × (IsElementNotice watched c ns notice × (text ≡ encode_utf8_all (document_print notice)))
+    × (IsElementNotice root watched c ns notice × (text ≡ encode_utf8_all (document_print notice)))
 
 -- by what became of the document since the known version: it is gone, or the version isn't known
 -- any more; or the text of the diff document, unless out of memory
-abbrev pub IsNoticeAnswer : WatchedElement → StoreContents → ChangesSince
+abbrev pub IsNoticeAnswer : List ℕ → WatchedElement → StoreContents → ChangesSince
     → Result (List ℕ) ElementFault → Type 0
-IsNoticeAnswer watched c Gone r = r ≡ Err faults.Gone
-IsNoticeAnswer watched c Unknown r = r ≡ Err faults.Unknown
-IsNoticeAnswer watched c (ReportedChanges ns) r =
-    MatchResult r (IsNoticeText watched c ns) (λ e. e ≡ faults.NoMemory)
+IsNoticeAnswer root watched c Gone r = r ≡ Err faults.Gone
+IsNoticeAnswer root watched c Unknown r = r ≡ Err faults.Unknown
+IsNoticeAnswer root watched c (ReportedChanges ns) r =
+    MatchResult r (IsNoticeText root watched c ns) (λ e. e ≡ faults.NoMemory)

@@ -1,10 +1,10 @@
 //! The xcap-diff document about an element (RFC 5874, section 3).
 ghost use Rattle.std.specs.Prelude.{◌≡◌, ◌≤◌, ◌+◌, All, Some, IfOk, length, if◌then◌else◌};
-ghost use Rattle.xml_names.specs.Limits.{max_levels};
+ghost use Rattle.xml_names.specs.declared.limits.TheConstants.{MAX_LEVELS};
 ghost use Rattle.xml_tree.specs.Tree.{height};
 ghost use Rattle.node_select.specs.Selection.{SelectsPath};
 ghost use Rattle.edit_ops.specs.RecordParts.{all_notes};
-ghost use Rattle.store_core.specs.Limits.{max_notes};
+ghost use Rattle.store_core.specs.declared.limits.TheConstants.{MAX_NOTES};
 ghost use Rattle.store_core.specs.ValidStates.{IsSoundFor};
 ghost use Rattle.store_core.specs.Since.{ReportedChanges, since};
 ghost use Rattle.patch_rules.specs.inner.Lists.{is_none};
@@ -54,7 +54,7 @@ fn is_untouched(
 ) -> bool
     requires selects { SelectsPath selector.now.steps root.now path.now }
     requires numbers_bounded { All (λ n. n ≤ 4294967295) path.now }
-    requires within_max { length notes.older.now + length notes.newer.now ≤ max_notes }
+    requires within_max { length notes.older.now + length notes.newer.now ≤ MAX_NOTES }
     ensures exact { result
         ≡ is_untouched_at usage root.now selector.now
         (all_notes notes.entry.older.now notes.entry.newer.now) path.now }
@@ -72,7 +72,7 @@ fn state_at(
 ) -> ElementState
     requires selects { SelectsPath selector.now.steps root.now path.now }
     requires numbers_bounded { All (λ n. n ≤ 4294967295) path.now }
-    requires within_max { length notes.older.now + length notes.newer.now ≤ max_notes }
+    requires within_max { length notes.older.now + length notes.newer.now ≤ MAX_NOTES }
     ensures exact { result
         ≡ state_at (Some usage) root.now selector.now
         (all_notes notes.entry.older.now notes.entry.newer.now) (Some path.now) }
@@ -104,8 +104,8 @@ fn state_of(
     notes: Notes<'_>,
 ) -> ElementState
     requires is_sound { IsSoundFor (Some usage) root.now }
-    requires height_bounded { height root.now ≤ max_levels }
-    requires within_max { length notes.older.now + length notes.newer.now ≤ max_notes }
+    requires height_bounded { height root.now ≤ MAX_LEVELS }
+    requires within_max { length notes.older.now + length notes.newer.now ≤ MAX_NOTES }
     ensures exact { result
         ≡ state_in (Some usage) root.now selector.now
         (all_notes notes.entry.older.now notes.entry.newer.now) }
@@ -127,11 +127,10 @@ fn notice_since(
 ) -> Result<Bytes, AllocError>
     requires is_reported { since store.now.content watch.doc.now watch.tag
         ≡ ReportedChanges (all_notes notes.older.now notes.newer.now) }
-    requires within_max { length notes.older.now + length notes.newer.now ≤ max_notes }
+    requires within_max { length notes.older.now + length notes.newer.now ≤ MAX_NOTES }
     ensures diff_text { IfOk result
-        (IsNoticeText
+        (IsNoticeText root.now
         (record {
-          root = root.now;
           doc = watch.entry.doc.now;
           selector = watch.entry.selector.now;
           raw = watch.entry.raw.now;
@@ -161,9 +160,8 @@ pub fn element_notice(
     root: &Root,
     watch: Watch<'_>,
 ) -> Result<Bytes, ElementFault>
-    ensures answers_by_changes { IsNoticeAnswer
+    ensures answers_by_changes { IsNoticeAnswer root.now
         (record {
-          root = root.now;
           doc = watch.entry.doc.now;
           selector = watch.entry.selector.now;
           raw = watch.entry.raw.now;

@@ -31,11 +31,12 @@ pub fn each_element_has_one_notice()
         → (state : ElementState) × IsStateOf u t selector ns state }
     ensures states_are_one { (u : Option Usage) (t : Tree) (selector : Selector) (ns : List Note)
         (a b : ElementState) → IsStateOf u t selector ns a → IsStateOf u t selector ns b → a ≡ b }
-    ensures notice_exists { (watched : WatchedElement) (c : StoreContents) (tag : ℕ)
-        (ns : List Note) → since c watched.doc tag ≡ ReportedChanges ns
-        → (notice : Tree) × IsElementNotice watched c ns notice }
-    ensures notices_are_one { (watched : WatchedElement) (c : StoreContents) (ns : List Note)
-        (a b : Tree) → IsElementNotice watched c ns a → IsElementNotice watched c ns b → a ≡ b }
+    ensures notice_exists { (root : List ℕ) (watched : WatchedElement) (c : StoreContents)
+        (tag : ℕ) (ns : List Note) → since c watched.doc tag ≡ ReportedChanges ns
+        → (notice : Tree) × IsElementNotice root watched c ns notice }
+    ensures notices_are_one { (root : List ℕ) (watched : WatchedElement) (c : StoreContents)
+        (ns : List Note) (a b : Tree) → IsElementNotice root watched c ns a
+        → IsElementNotice root watched c ns b → a ≡ b }
 {}
 
 /// A law: where a store represents a valid state and the xcap-diff document reports nothing of an
@@ -43,12 +44,12 @@ pub fn each_element_has_one_notice()
 /// content, in the known version and in each later one, at a path that the changes since move to
 /// the present one.
 pub fn unreported_elements_are_the_same()
-    ensures finds_same { (watched : WatchedElement) (c : StoreContents) (m : State) (tag : ℕ)
-        (ns : List Note) (held : StoredDocument) (u : Usage) (p : List ℕ)
+    ensures finds_same { (root : List ℕ) (watched : WatchedElement) (c : StoreContents)
+        (m : State) (tag : ℕ) (ns : List Note) (held : StoredDocument) (u : Usage) (p : List ℕ)
         → IsValidState m → Represents c m → since c watched.doc tag ≡ ReportedChanges ns
         → document_in stored_name c.documents watched.doc ≡ Some held
         → usage_of watched.doc.auid ≡ Some u
-        → IsElementNotice watched c ns (silent_notice watched.root)
+        → IsElementNotice root watched c ns (silent_notice root)
         → SelectsPath watched.selector.steps held.tree p
         → IsKeyAddressOf u held.tree watched.selector p
         → FindSince m watched.doc tag watched.selector.steps p }

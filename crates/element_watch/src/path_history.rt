@@ -1,15 +1,15 @@
 //! Where an element was before changes.
 ghost use Rattle.std.specs.Prelude.{◌≡◌, ◌↔◌, ◌≤◌, ◌+◌, ◌-◌, ◌||◌, ℕ, List, All, Some, None};
 ghost use Rattle.std.specs.Prelude.{is_some, length, not, option_and_then, if◌then◌else◌};
-ghost use Rattle.store_core.specs.Limits.{max_notes};
-ghost use Rattle.edit_ops.specs.MovedPaths.{behind, made_room, under};
+ghost use Rattle.store_core.specs.declared.limits.TheConstants.{MAX_NOTES};
+ghost use Rattle.edit_ops.specs.MovedPaths.{path_below, made_room, under};
 ghost use Rattle.edit_ops.specs.declared.change.Change.TheVariants.{Remove};
 ghost use Rattle.edit_ops.specs.RecordParts.{all_notes};
 ghost use Rattle.element_watch.specs.TouchedElements.{PassesThrough};
 ghost use Rattle.element_watch.specs.inner.PathHistory.{back, came_from, is_touched, re_routed_if};
 ghost use Rattle.element_watch.specs.inner.PathHistory.{without_gap};
 
-use crate::paths::{lies_in, way};
+use crate::paths::{lies_in, path_below};
 use edit_ops::{Change, EditNote, Notes, through};
 use xml_names::Name;
 use xml_tree::Path;
@@ -20,9 +20,9 @@ use xml_tree::Path;
 // leads to or through the inserted element.
 fn before_insertion(path: &Path, parent: &Path, gap: usize) -> Option<Path>
     ensures exact { result
-        ≡ re_routed_if (without_gap gap) parent.now path.now (behind parent.now path.now) }
+        ≡ re_routed_if (without_gap gap) parent.now path.now (path_below parent.now path.now) }
 {
-    let rest = match way(parent, path) {
+    let rest = match path_below(parent, path) {
         None => return Some(path.copy()),
         Some(rest) => rest,
     };
@@ -45,7 +45,7 @@ fn before_removal(path: &Path, parent: &Path, gone: usize) -> Path
     requires { All (λ n. n ≤ 4294967359) path.now }
     ensures exact { result ≡ under (made_room gone) parent.now path.now }
 {
-    let rest = match way(parent, path) {
+    let rest = match path_below(parent, path) {
         None => return path.copy(),
         Some(rest) => rest,
     };
@@ -64,8 +64,8 @@ fn before_removal(path: &Path, parent: &Path, gone: usize) -> Path
 // new one was inserted in it.
 fn before_insert(path: &Path, parent: &Path, gap: usize) -> Option<Path>
     ensures exact { result
-        ≡ (if is_some (behind path.now parent.now) then None
-        else re_routed_if (without_gap gap) parent.now path.now (behind parent.now path.now)) }
+        ≡ (if is_some (path_below path.now parent.now) then None
+        else re_routed_if (without_gap gap) parent.now path.now (path_below parent.now path.now)) }
 {
     if lies_in(path, parent) {
         return None;
@@ -76,7 +76,8 @@ fn before_insert(path: &Path, parent: &Path, gap: usize) -> Option<Path>
 // The path before the element at a place was replaced: None where either is in the other.
 fn before_replace(path: &Path, place: &Path) -> Option<Path>
     ensures exact { result
-        ≡ (if is_some (behind path.now place.now) || is_some (behind place.now path.now) then None
+        ≡ (if is_some (path_below path.now place.now)
+        || is_some (path_below place.now path.now) then None
         else Some path.now) }
 {
     if lies_in(path, place) {
@@ -93,7 +94,7 @@ fn before_replace(path: &Path, place: &Path) -> Option<Path>
 fn before_cut(path: &Path, parent: &Path, gone: usize) -> Option<Path>
     requires { All (λ n. n ≤ 4294967359) path.now }
     ensures exact { result
-        ≡ (if not (is_some (behind path.now parent.now))
+        ≡ (if not (is_some (path_below path.now parent.now))
         then Some (under (made_room gone) parent.now path.now) else None) }
 {
     if lies_in(path, parent) {
@@ -165,7 +166,7 @@ fn before_note(path: &Path, note: &EditNote) -> Option<Path>
 // inserted or touched it.
 #[tactic(auto, using(crate::proofs::Bounds::stays_small))]
 fn back(path: &Path, notes: &[EditNote]) -> Option<Path>
-    requires within_max { length notes.now ≤ max_notes }
+    requires within_max { length notes.now ≤ MAX_NOTES }
     requires numbers_bounded { All (λ n. n ≤ 4294967359 - length notes.now) path.now }
     ensures place_before { result ≡ back path.now notes.now }
 {
@@ -180,7 +181,7 @@ fn back(path: &Path, notes: &[EditNote]) -> Option<Path>
 #[tactic(auto, using(crate::proofs::Bounds::middle_small))]
 fn back_through(path: &Path, older: &[EditNote], newer: &[EditNote]) -> Option<Path>
     requires numbers_bounded { All (λ n. n ≤ 4294967295) path.now }
-    requires within_max { length older.now + length newer.now ≤ max_notes }
+    requires within_max { length older.now + length newer.now ≤ MAX_NOTES }
     ensures exact { result ≡ option_and_then (λ m. back m older.now) (back path.now newer.now) }
 {
     let middle = back(path, newer)?;
@@ -194,7 +195,7 @@ fn back_through(path: &Path, older: &[EditNote], newer: &[EditNote]) -> Option<P
 #[tactic(auto, using(crate::proofs::Bounds::trace_is))]
 pub fn trace(path: &Path, notes: Notes<'_>) -> Option<Path>
     requires numbers_bounded { All (λ n. n ≤ 4294967295) path.now }
-    requires within_max { length notes.older.now + length notes.newer.now ≤ max_notes }
+    requires within_max { length notes.older.now + length notes.newer.now ≤ MAX_NOTES }
     ensures place_before { (p : List ℕ)
         → (result ≡ Some p) ↔ PassesThrough p
         (all_notes notes.entry.older.now notes.entry.newer.now) path.now }

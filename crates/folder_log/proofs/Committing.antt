@@ -6,7 +6,7 @@ use Rattle.log_disk.specs.Folders.{FolderState, History as FolderMoments, with_s
 use Rattle.log_entries.specs.Entries.{Entry, Fits, entry_bytes}
 use Rattle.log_entries.proofs.ReadBack.{entry_length}
 use Rattle.change_log.specs.Contents.{Contents, next_number, with_change}
-use Rattle.change_log.specs.Limits.{max_content_bytes}
+use Rattle.change_log.specs.declared.limits.TheConstants.{MAX_CONTENT_BYTES}
 use Rattle.change_log.specs.Moments.{Moment, History, MayFind, FindsOldOr, Passes, holding, with_step, with_open, with_appended}
 use Rattle.change_log.proofs.Passing.{and_then, weaker}
 use Rattle.folder_log.specs.FileForm.{change_entry, max_entry_bytes, contents_in}
@@ -54,7 +54,7 @@ appended_passes old mid new change first second = record {
 }
 
 module _ (p : LogParts) (s : IsSound p) (begun : p.is_begun ≡ true) (running : p.is_stopped ≡ false) (whole : p.is_torn ≡ false) (left : p.next < 2 ^ 64 - 1)
-    (change : List ℕ) (short : length change ≤ max_content_bytes) (bytes : List ℕ) (bytes_are : bytes ≡ entry_bytes p.mark (change_entry p.next change)) where
+    (change : List ℕ) (short : length change ≤ MAX_CONTENT_BYTES) (bytes : List ℕ) (bytes_are : bytes ≡ entry_bytes p.mark (change_entry p.next change)) where
   abbrev f : FolderState
   f = p.folder.now
 

@@ -6,7 +6,7 @@ use Rattle.std.proofs.lemmas.List.{map-append}
 use Rattle.log_disk.specs.Folders.{FolderState, History as FolderMoments, goes_to as folder_goes, with_step as folder_step, with_draft as with_folder_draft, with_more_draft, with_no_draft, with_ready_draft}
 use Rattle.log_entries.specs.Entries.{Entry, Fits, entry_bytes, text}
 use Rattle.change_log.specs.Contents.{Contents}
-use Rattle.change_log.specs.Limits.{max_content_bytes}
+use Rattle.change_log.specs.declared.limits.TheConstants.{MAX_CONTENT_BYTES}
 use Rattle.change_log.specs.Moments.{Moment, History, MayFind, Passes, with_step, with_draft}
 use Rattle.folder_log.specs.FileForm.{part_entry}
 use Rattle.folder_log.specs.Restarts.{LeavesOne}
@@ -91,10 +91,10 @@ begun_sound p mark folder history s marked f_is h_is =
     of_both (λ f h. IsSound (record p { folder = f; history = h; draft_mark = mark; has_draft = true })) (folder_step p.folder with_folder_draft) folder (with_draft [] p.history) history f_is h_is
     (with_parts p s (with_folder_draft p.folder.now) mark [] refl refl refl refl refl refl s.leaves.0 (λ running. record { marked = marked; draft = refl; fit = tt }))
 
-part_fits : (part : List ℕ) → length part ≤ max_content_bytes → Fits (part_entry part)
+part_fits : (part : List ℕ) → length part ≤ MAX_CONTENT_BYTES → Fits (part_entry part)
 part_fits part short = record { number = omega arith; content = omega (arith, short) }
 
-more_holds : (f : FolderState) (mark : List ℕ) (parts : List (List ℕ)) (part bytes : List ℕ) → HoldsDraft f mark parts → length part ≤ max_content_bytes → bytes ≡ entry_bytes mark (part_entry part)
+more_holds : (f : FolderState) (mark : List ℕ) (parts : List (List ℕ)) (part bytes : List ℕ) → HoldsDraft f mark parts → length part ≤ MAX_CONTENT_BYTES → bytes ≡ entry_bytes mark (part_entry part)
     → HoldsDraft (with_more_draft bytes f) mark (parts ++ part ∷ [])
 more_holds f mark parts part bytes d short is =
     let pushed : map part_entry (parts ++ part ∷ []) ≡ map part_entry parts ++ part_entry part ∷ [] = map-append part_entry parts (part ∷ []) in
@@ -108,7 +108,7 @@ more_holds f mark parts part bytes d short is =
       fit = subst (AllByRecursion Fits) (sym pushed) (fit_push (map part_entry parts) (part_entry part) d.fit (part_fits part short));
     }
 
-pub added_sound : (p : LogParts) (part bytes : List ℕ) (folder : FolderMoments) (history : History) → IsSound p → p.has_draft ≡ true → length part ≤ max_content_bytes → bytes ≡ entry_bytes p.draft_mark (part_entry part)
+pub added_sound : (p : LogParts) (part bytes : List ℕ) (folder : FolderMoments) (history : History) → IsSound p → p.has_draft ≡ true → length part ≤ MAX_CONTENT_BYTES → bytes ≡ entry_bytes p.draft_mark (part_entry part)
     → folder ≡ folder_step p.folder (with_more_draft bytes) → history ≡ with_draft (p.history.draft ++ part ∷ []) p.history → IsSound (record p { folder = folder; history = history })
 added_sound p part bytes folder history s has short is f_is h_is =
     subst (λ (b : Bool). IsSound (record p { folder = folder; history = history; has_draft = b })) (sym has)

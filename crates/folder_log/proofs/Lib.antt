@@ -1,11 +1,11 @@
-pub mod Scanning
-pub mod Finding
-pub mod Holding
-pub mod Healing
-pub mod Committing
 pub mod Appending
+pub mod Committing
 pub mod Drafting
-pub mod Replacing
 pub mod FileScans
+pub mod Finding
+pub mod Healing
+pub mod Holding
 pub mod NewLogs
 pub mod Reading
+pub mod Replacing
+pub mod Scanning

@@ -3,7 +3,7 @@ use Rattle.std.specs.Prelude.{ℕ, ◌+◌, List, [], ◌∷◌, ◌==◌, if◌
 use Rattle.log_entries.specs.Entries.{Entry}
 use Rattle.change_log.specs.Contents.{Contents}
 use Rattle.change_log.specs.Items.{Item, part, first, change, other, contents_of}
-use Rattle.change_log.specs.Limits.{max_content_bytes}
+use Rattle.change_log.specs.declared.limits.TheConstants.{MAX_CONTENT_BYTES}
 
 -- a part of the snapshot: the kind 1, and its bytes
 abbrev pub part_entry : List ℕ → Entry
@@ -30,4 +30,4 @@ contents_in es = contents_of (map item_of es)
 
 -- the greatest length of an entry
 abbrev pub max_entry_bytes : ℕ
-max_entry_bytes = 29 + max_content_bytes
+max_entry_bytes = 29 + MAX_CONTENT_BYTES

@@ -1,7 +1,7 @@
 // The entries of a log's file, as bytes.
 ghost use Rattle.std.specs.Prelude.{◌≡◌, ◌≤◌, ◌∷◌, [], length, IfOk};
 ghost use Rattle.log_entries.specs.Entries.{entry_bytes};
-ghost use Rattle.change_log.specs.Limits.{max_content_bytes};
+ghost use Rattle.change_log.specs.declared.limits.TheConstants.{MAX_CONTENT_BYTES};
 
 use log_entries::put_entry;
 use std::alloc::{AllocError, Global};
@@ -20,7 +20,7 @@ pub(crate) fn entry_of_kind(
     kind: u8,
     bytes: &[u8],
 ) -> Result<Vec<u8>, AllocError>
-    requires short { length bytes.now ≤ max_content_bytes }
+    requires short { length bytes.now ≤ MAX_CONTENT_BYTES }
     ensures exact { IfOk result (λ entry. entry.items
         ≡ entry_bytes mark.now (record { number = number; content = kind ∷ bytes.now })) }
 {

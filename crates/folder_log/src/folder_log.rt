@@ -2,7 +2,7 @@
 ghost use Rattle.std.specs.Prelude.{◌≡◌, ◌≤◌, ◌<◌, ◌+◌, ◌-◌, ◌^◌, length, true, false, Some};
 ghost use Rattle.std.specs.Prelude.{OnOk, OnErr, MatchResult};
 ghost use Rattle.log_entries.specs.Entries.{entry_bytes};
-ghost use Rattle.change_log.specs.Limits.{max_content_bytes};
+ghost use Rattle.change_log.specs.declared.limits.TheConstants.{MAX_CONTENT_BYTES};
 ghost use Rattle.change_log.specs.Contents.{snapshot_of, with_change};
 ghost use Rattle.change_log.specs.Moments.{holding, with_none_open, with_open, FindsOldOr, MayFind};
 ghost use Rattle.change_log.specs.Moments.{Passes};
@@ -89,7 +89,7 @@ impl<C: FolderCalls + Drop> FolderLog<C> {
         requires begun { self.old.is_begun ≡ true }
         requires not_torn { self.old.is_torn ≡ false }
         requires not_stopped { self.old.is_stopped ≡ false }
-        requires short { length change.now ≤ max_content_bytes }
+        requires short { length change.now ≤ MAX_CONTENT_BYTES }
         requires numbers_left { self.old.next < 2 ^ 64 - 1 }
         requires is_entry { entry.now
             ≡ entry_bytes self.old.mark (change_entry self.old.next change.now) }

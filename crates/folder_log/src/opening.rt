@@ -16,7 +16,7 @@ ghost use Rattle.folder_log.specs.declared.opening.OpenFault.{OpenFault};
 use crate::entry_kinds::{CHANGE, FIRST, PART};
 use crate::file_cursor::file_mark;
 use crate::{FileCursor, FolderLog};
-use change_log::{LogHistory, MAX_CONTENT};
+use change_log::{LogHistory, MAX_CONTENT_BYTES};
 use log_disk::{Disk, FolderCalls};
 use log_entries::{entry_at, has_entry};
 
@@ -192,7 +192,7 @@ fn scan(bytes: &[u8]) -> Result<Scanner, OpenFault>
         Err(rest) => return Err(OpenFault::Unknown(bytes.len().saturating_sub(rest.len()))),
     };
     let place = bytes.len().saturating_sub(rest.len());
-    if has_entry(mark, rest) || rest.len() > 29 + MAX_CONTENT {
+    if has_entry(mark, rest) || rest.len() > 29 + MAX_CONTENT_BYTES {
         return Err(OpenFault::Damaged(place));
     }
     if !scanner.is_ended {

@@ -3,7 +3,7 @@ use Rattle.std.proofs.Common.{◌≡◌, ℕ, ◌+◌, ◌<◌, Bool, true, fals
 use Rattle.std.proofs.lemmas.List.{length_push}
 use Rattle.std.specs.Io.KnownBytes.{Consumes, IsAtEnd}
 use Rattle.xcap_io.specs.Causes.{Begun, InputState, StreamState, PortState, CountRises, RoseBy}
-use Rattle.xcap_io.specs.Connections.{Comes, Next, NextFailed, OnlyNext, carried, traffic}
+use Rattle.xcap_io.specs.Connections.{Comes, Next, NextFailed, OnlyNext, port_traffic, traffic}
 use Rattle.xcap_io.specs.Histories.{Traffic, carried_by}
 use Rattle.xcap_io.specs.StreamTraffic.{Gave, IsTruthful, Took}
 use Rattle.http_wire.specs.declared.request.Request.{Request}
@@ -120,16 +120,16 @@ begins_truthful : (mid begun : StreamState) → Next mid begun → IsTruthful be
 begins_truthful mid begun n = λ ended. absurd (true≢false (sym ended ∙ ap (λ (t : Traffic). t.ended) n.nothing_passed))
 
 -- what passed is one connection more
-carried_more : (old mid begun new : StreamState) (connections : List Traffic) (passed : Traffic) → carried mid ≡ carried old ++ connections → Next mid begun → new.port ≡ begun.port
-    → Gave begun.inward new.inward passed.given → passed.ended ≡ new.inward.ended → Took begun.taken new.taken passed.taken → carried new ≡ carried old ++ (connections ++ passed ∷ [])
+carried_more : (old mid begun new : StreamState) (connections : List Traffic) (passed : Traffic) → port_traffic mid ≡ port_traffic old ++ connections → Next mid begun → new.port ≡ begun.port
+    → Gave begun.inward new.inward passed.given → passed.ended ≡ new.inward.ended → Took begun.taken new.taken passed.taken → port_traffic new ≡ port_traffic old ++ (connections ++ passed ∷ [])
 carried_more old mid begun new connections passed before n same gave found took =
     let given : new.inward.given ≡ passed.given = gave.behind ∙ ap (λ (t : Traffic). t.given ++ passed.given) n.nothing_passed in
     let taken : new.taken ≡ passed.taken = took ∙ ap (λ (t : Traffic). t.taken ++ passed.taken) n.nothing_passed in
     let now : traffic new ≡ passed = λ i. record { given = given i; ended = sym found i; taken = taken i } in
     ap (λ (b : Begun). carried_by b.earlier b.is_present (traffic new)) (ap (λ (p : PortState). p.begun) same ∙ n.begins)
-    ∙ ap (λ (t : Traffic). carried mid ++ t ∷ []) now
+    ∙ ap (λ (t : Traffic). port_traffic mid ++ t ∷ []) now
     ∙ ap (λ (l : List Traffic). l ++ passed ∷ []) before
-    ∙ append_assoc (carried old) connections (passed ∷ [])
+    ∙ append_assoc (port_traffic old) connections (passed ∷ [])
 
 came_none : (to_come : Option (List (List ℕ))) → Came to_come to_come []
 came_none None = tt
@@ -155,7 +155,7 @@ module _ {M W E : Type 0} (Step : M → Request → List ℕ → M → Option E 
     pub endings : List CloseReason
     pub many : length connections ≡ count
     pub came : Came old.port.to_come mid.port.to_come connections
-    pub all_carried : carried mid ≡ carried old ++ connections
+    pub all_carried : port_traffic mid ≡ port_traffic old ++ connections
     pub each : ServesEach Step fixed_reply machine connections endings now edits
     pub read_bound : RoseBy (read_failures endings) old.read_faults mid.read_faults
     pub write_bound : RoseBy (write_failures endings) old.write_faults mid.write_faults
@@ -174,7 +174,7 @@ module _ {M W E : Type 0} (Step : M → Request → List ℕ → M → Option E 
     endings = [];
     many = refl;
     came = came_none port.port.to_come;
-    all_carried = sym (append-nil (carried port));
+    all_carried = sym (append-nil (port_traffic port));
     each = (refl, refl, refl);
     read_bound = omega arith;
     write_bound = omega arith;

@@ -11,12 +11,12 @@ use Rattle.http_wire.specs.declared.request.Asked.{Asked}
 use Rattle.http_wire.specs.declared.request.Asked.TheVariants.{Request as Requested, Bad, TooLong, Coded, End, NoMemory}
 use Rattle.http_wire.specs.NextRequests.{RequestReaderState, IsNext, IsAsked, Asks, IsReaderStateAfter}
 use Rattle.http_wire.specs.Items.{Item, asks, bad, too_long, coded, IsFirst}
-use Rattle.http_wire.specs.ServedConnections.{Closes, no_more, last_item, no_memory, GoesOn}
+use Rattle.http_wire.specs.ServedConnections.{PendingInput, ItemAnswer, Closes, no_more, last_item, no_memory, GoesOn}
 use Rattle.http_wire.proofs.Buffers.{buffered}
 use Rattle.http_wire.proofs.WholeItems.{asks-append}
 use Rattle.http_wire.specs.declared.close_reason.CloseReason.TheVariants.{Closed, ReadFailed, WriteFailed}
 use Rattle.http_serve.specs.FixedReplies.{fixed_reply}
-use Rattle.http_serve.specs.inner.Turns.{AnswersAsked, AsksRead, Did, GivesOn, IsFixed, ConnectionTurn}
+use Rattle.http_serve.specs.inner.Turns.{AnswersAsked, AsksRead, Did, KeepsOpen, IsFixed, ConnectionTurn}
 
 -- the next item is the first one
 first_item : (before : ℕ) (given : List ℕ) (now : InputState) (item : Item) (held : List ℕ) → IsNext before given now item held → IsFirst before given now.ended item
@@ -46,30 +46,36 @@ module _ {M E : Type 0} where
 
 module _ {M E : Type 0} (Step : M → Request → List ℕ → M → Option E → Type 0) where
   module _ (before : ℕ) (given : List ℕ) (now : InputState) (machine next : M) (reply : SentReply) (edit : Option E) (held : List ℕ) where
+    abbrev input : PendingInput
+    input = record { before = before; given = given; ended = now.ended }
+
+    abbrev answer : ItemAnswer M E
+    answer = record { written = bytes_of reply; next = next; edit = edit }
+
     -- a reply that closes ends the connection
-    ends_so : (asked : Asked) → IsAsked before given now asked held → AnswersAsked Step machine asked reply edit next → reply.closes ≡ true → Closes Step fixed_reply before machine given now.ended (bytes_of reply) next edit
+    ends_so : (asked : Asked) → IsAsked before given now asked held → AnswersAsked Step machine asked reply edit next → reply.closes ≡ true → Closes Step fixed_reply input machine answer
     ends_so (Requested request) is (inl (step, same)) closes = last_item (asks request) (inl (λ more. (held ++ more, asks-append before given more request held is))) (sym same ∙ closes) step
     ends_so (Requested request) is (inr fix) closes = no_memory request held is (ap bytes_of fix.0) fix.2 fix.1
     ends_so Bad is fix closes = last_item bad (first_item before given now bad held is) refl (fixed_answer 400 machine next reply edit fix)
     ends_so TooLong is fix closes = last_item too_long (first_item before given now too_long held is) refl (fixed_answer 413 machine next reply edit fix)
     ends_so Coded is fix closes = last_item coded (first_item before given now coded held is) refl (fixed_answer 501 machine next reply edit fix)
-    ends_so End is answer closes = absurd answer
+    ends_so End is none closes = absurd none
     ends_so NoMemory (request, rest, is) fix closes = no_memory request rest is (ap bytes_of fix.0) fix.2 fix.1
 
     -- after a reply that doesn't close it goes on
-    goes_so : (asked : Asked) → IsAsked before given now asked held → AnswersAsked Step machine asked reply edit next → reply.closes ≡ false → GoesOn Step fixed_reply before machine given (bytes_of reply) next edit held
+    goes_so : (asked : Asked) → IsAsked before given now asked held → AnswersAsked Step machine asked reply edit next → reply.closes ≡ false → GoesOn Step fixed_reply input machine answer held
     goes_so (Requested request) is (inl (step, same)) goes_on = record { request = request; asked = is; stays = sym same ∙ goes_on; step = step }
     goes_so (Requested request) is (inr fix) goes_on = fixed_closes 503 machine next reply edit fix goes_on
     goes_so Bad is fix goes_on = fixed_closes 400 machine next reply edit fix goes_on
     goes_so TooLong is fix goes_on = fixed_closes 413 machine next reply edit fix goes_on
     goes_so Coded is fix goes_on = fixed_closes 501 machine next reply edit fix goes_on
-    goes_so End is answer goes_on = absurd answer
+    goes_so End is none goes_on = absurd none
     goes_so NoMemory is fix goes_on = fixed_closes 503 machine next reply edit fix goes_on
 
     either_so : (asked : Asked) (closes : Bool) → reply.closes ≡ closes → IsAsked before given now asked held → AnswersAsked Step machine asked reply edit next
-        → Closes Step fixed_reply before machine given now.ended (bytes_of reply) next edit ⊎ ((rest : List ℕ) × GoesOn Step fixed_reply before machine given (bytes_of reply) next edit rest)
-    either_so asked true closes is answer = inl (ends_so asked is answer closes)
-    either_so asked false closes is answer = inr (held, goes_so asked is answer closes)
+        → Closes Step fixed_reply input machine answer ⊎ ((rest : List ℕ) × GoesOn Step fixed_reply input machine answer rest)
+    either_so asked true closes is did = inl (ends_so asked is did closes)
+    either_so asked false closes is did = inr (held, goes_so asked is did closes)
 
 module _ {M W E : Type 0} (Step : M → Request → List ℕ → M → Option E → Type 0) (Keeps : List E → W → W → Type 0) (request_reader request_reader' : RequestReaderState) (machine : M) (old new : StreamState) (watchers : W) where
   -- a read failed
@@ -116,7 +122,7 @@ module _ {M W E : Type 0} (Step : M → Request → List ℕ → M → Option E 
       edit = edit;
       gave = gave;
       took = subst (λ (t : List ℕ). Took t new.taken (take cut.0 (bytes_of reply))) same_taken cut.2;
-      did = subst (λ (now : InputState). Did Step (Some WriteFailed) machine (record { before = request_reader.requests; given = bytes; ended = now.ended; written = take cut.0 (bytes_of reply); edit = edit; held = request_reader'.held }) next) (sym same_inward)
+      did = subst (λ (now : InputState). Did Step (Some WriteFailed) (record { before = request_reader.requests; given = bytes; ended = now.ended }) machine (record { written = take cut.0 (bytes_of reply); next = next; edit = edit }) request_reader'.held) (sym same_inward)
           (bytes_of reply, cut.0, cut.1, refl, either_so Step request_reader.requests bytes mid.inward machine next reply edit request_reader'.held asked reply.closes refl a.answer answer);
       kept = kept;
     }
@@ -129,7 +135,7 @@ module _ {M W E : Type 0} (Step : M → Request → List ℕ → M → Option E 
       edit = edit;
       gave = gave;
       took = subst (λ (t : List ℕ). Took t new.taken (bytes_of reply)) same_taken whole;
-      did = subst (λ (now : InputState). Did Step (Some Closed) machine (record { before = request_reader.requests; given = bytes; ended = now.ended; written = bytes_of reply; edit = edit; held = request_reader'.held }) next) (sym same_inward)
+      did = subst (λ (now : InputState). Did Step (Some Closed) (record { before = request_reader.requests; given = bytes; ended = now.ended }) machine (record { written = bytes_of reply; next = next; edit = edit }) request_reader'.held) (sym same_inward)
           (ends_so Step request_reader.requests bytes mid.inward machine next reply edit request_reader'.held asked a.answer answer closes);
       kept = kept;
     }
@@ -142,13 +148,14 @@ module _ {M W E : Type 0} (Step : M → Request → List ℕ → M → Option E 
       edit = edit;
       gave = gave;
       took = subst (λ (t : List ℕ). Took t new.taken (bytes_of reply)) same_taken whole;
-      did = goes_so Step request_reader.requests bytes mid.inward machine next reply edit request_reader'.held asked a.answer answer goes_on;
+      did = subst (λ (now : InputState). Did Step None (record { before = request_reader.requests; given = bytes; ended = now.ended }) machine (record { written = bytes_of reply; next = next; edit = edit }) request_reader'.held) (sym same_inward)
+          (goes_so Step request_reader.requests bytes mid.inward machine next reply edit request_reader'.held asked a.answer answer goes_on);
       kept = kept;
     }
 
 -- a reader whose request is answered without closing goes on
 pub gives_on : {M E : Type 0} (F : Type 0) (Step : M → Request → List ℕ → M → Option E → Type 0) (old new : RequestReaderState) (asked : Asked) (machine next : M) (reply : SentReply) (edit : Option E)
-    → IsReaderStateAfter {E = F} old (Ok asked) new → AnswersAsked Step machine asked reply edit next → reply.closes ≡ false → GivesOn old new
+    → IsReaderStateAfter {E = F} old (Ok asked) new → AnswersAsked Step machine asked reply edit next → reply.closes ≡ false → KeepsOpen old new
 gives_on F Step old new (Requested request) machine next reply edit stands (inl (step, same)) goes_on = record { requests = stands.0; open_still = stands.1 ∙ sym same ∙ goes_on }
 gives_on F Step old new (Requested request) machine next reply edit stands (inr fix) goes_on = fixed_closes 503 machine next reply edit fix goes_on
 gives_on F Step old new Bad machine next reply edit stands fix goes_on = fixed_closes 400 machine next reply edit fix goes_on

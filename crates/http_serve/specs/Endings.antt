@@ -5,8 +5,8 @@ use Rattle.http_wire.specs.declared.close_reason.CloseReason.{CloseReason}
 use Rattle.http_wire.specs.declared.close_reason.CloseReason.TheVariants.{Closed, ReadFailed}
 use Rattle.http_wire.specs.declared.close_reason.CloseReason.TheVariants.{WriteFailed}
 
--- The counter of the reads or writes that failed rose where the connection ended so, else both are
--- unchanged.
+-- The counter of the reads or writes that failed rose where that was the close reason, else both
+-- are unchanged.
 abbrev pub FaultsBy : CloseReason → ℕ → ℕ → ℕ → ℕ → Type 0
 FaultsBy Closed reads reads' writes writes' = (reads' ≡ reads) × (writes' ≡ writes)
 FaultsBy ReadFailed reads reads' writes writes' = CountRises reads reads' × (writes' ≡ writes)

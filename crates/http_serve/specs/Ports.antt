@@ -1,11 +1,11 @@
 -- The connections of a port, served one after the other. RFC 9112, section 9.
 use Rattle.std.specs.Prelude.{◌≡◌, ℕ, ◌<◌, List, [], ◌∷◌, ◌++◌, length, Option, Some, IfSome}
 use Rattle.http_wire.specs.declared.request.Request.{Request}
-use Rattle.http_wire.specs.ServedConnections.{HaveBytes, ServesAll}
+use Rattle.http_wire.specs.ServedConnections.{HaveBytes, ServesAll, on_stream}
 use Rattle.http_wire.specs.declared.close_reason.CloseReason.{CloseReason}
 use Rattle.http_wire.specs.declared.close_reason.CloseReason.TheVariants.{Closed}
 use Rattle.xcap_io.specs.Causes.{StreamState, CountRises}
-use Rattle.xcap_io.specs.Connections.{carried}
+use Rattle.xcap_io.specs.Connections.{port_traffic}
 use Rattle.xcap_io.specs.Histories.{Traffic}
 use Rattle.http_serve.specs.declared.accept_loop.ServeSummary.{ServeSummary}
 use Rattle.http_serve.specs.declared.accept_loop.StopReason.{StopReason}
@@ -50,10 +50,9 @@ pub record ServesPort {M W E : Type 0} (Step : M → Request → List ℕ → M 
   pub edits : List E
   pub count : length connections ≡ outcome.served.connections
   pub came : Came old.stream.port.to_come new.stream.port.to_come connections
-  pub all_carried : carried new.stream ≡ carried old.stream ++ connections
-  pub serves : ServesAll Step fixed_reply old.machine connections new.machine edits
-      old.stream.read_faults new.stream.read_faults
-      old.stream.write_faults new.stream.write_faults
+  pub all_carried : port_traffic new.stream ≡ port_traffic old.stream ++ connections
+  pub serves : ServesAll Step fixed_reply (on_stream old.machine old.stream)
+      (on_stream new.machine new.stream) connections edits
   pub last : outcome.served.last ≡ last_of serves.endings
   pub stop : Stops outcome.served.stop outcome.most outcome.served.connections old.stream new.stream
   pub kept : Keeps edits old.watchers new.watchers

@@ -6,9 +6,9 @@ ghost use Rattle.reply_text.specs.Statuses.{is_status};
 ghost use Rattle.http_wire.specs.NextRequests.{fresh_request_reader};
 ghost use Rattle.http_serve.specs.Connections.{ServesStream};
 ghost use Rattle.http_serve.specs.Endings.{KeepsTheRest};
-ghost use Rattle.http_serve.specs.inner.Endings.{FaultsSoFar};
+ghost use Rattle.http_serve.specs.inner.Endings.{FaultsByEnding};
 ghost use Rattle.http_serve.specs.ReadRequests.{IsRead};
-ghost use Rattle.http_serve.specs.inner.Turns.{AnswersAsked, AsksRead, GivesOn, ConnectionTurn};
+ghost use Rattle.http_serve.specs.inner.Turns.{AnswersAsked, AsksRead, KeepsOpen, ConnectionTurn};
 ghost use Rattle.http_serve.specs.ReplyBytes.{InBytes};
 
 use crate::connection_buffers::ConnectionBuffers;
@@ -100,8 +100,8 @@ fn serve_next<M: Machine, L: Source + Sink, W: Watchers<M::Edit>>(
           watchers = watchers.new;
         }) }
     ensures goes_on { result ≡ None
-        → GivesOn buffers.old.request_reader buffers.new.request_reader }
-    ensures counts_faults { FaultsSoFar result (L.state line.old) (L.state line.new) }
+        → KeepsOpen buffers.old.request_reader buffers.new.request_reader }
+    ensures counts_faults { FaultsByEnding result (L.state line.old) (L.state line.new) }
     ensures this_stream_alone { KeepsTheRest (L.state line.old) (L.state line.new) }
     ensures takes_one_fewer { (n : ℕ) → M.takes machine.old (suc n) → M.takes machine.new n }
 {

@@ -4,21 +4,21 @@ use Rattle.std.proofs.lemmas.List.{append-nil}
 use Rattle.std.specs.Prelude.{option_to_list as told}
 use Rattle.http_wire.specs.declared.request.Request.{Request}
 use Rattle.http_wire.specs.Items.{AsksFor}
-use Rattle.http_wire.specs.ServedConnections.{Run}
+use Rattle.http_wire.specs.ServedConnections.{Run, RunAnswer}
 use Rattle.http_wire.proofs.WholeItems.{asks-append}
 
 -- Requests, one after the other.
 
 module _ {M E : Type 0} (Step : M → Request → List ℕ → M → Option E → Type 0) (fixed : ℕ → List ℕ) where
   -- no requests yet
-  pub run_none : (before : ℕ) (machine : M) (bytes : List ℕ) → Run Step fixed before machine bytes [] [] [] machine bytes
+  pub run_none : (before : ℕ) (machine : M) (bytes : List ℕ) → Run Step fixed before machine bytes [] (record { written = []; edits = []; next = machine; rest = bytes })
   run_none before machine bytes = (refl, refl, refl, refl)
 
   -- one more request
-  pub run_more : (before : ℕ) (machine mid next : M) (bytes behind rest written reply : List ℕ) (requests : List Request) (edits : List E) (request : Request) (edit : Option E)
-      → Run Step fixed before machine bytes requests written edits mid behind → AsksFor (before + length requests) behind request rest → request.closes ≡ false → Step mid request reply next edit
-      → Run Step fixed before machine bytes (requests ++ request ∷ []) (written ++ reply) (edits ++ told edit) next rest
-  run_more before machine mid next bytes behind rest written reply [] edits request edit run asked stays step =
+  pub run_more : (before : ℕ) (machine next : M) (bytes rest reply : List ℕ) (requests : List Request) (answer : RunAnswer M E) (request : Request) (edit : Option E)
+      → Run Step fixed before machine bytes requests answer → AsksFor (before + length requests) answer.rest request rest → request.closes ≡ false → Step answer.next request reply next edit
+      → Run Step fixed before machine bytes (requests ++ request ∷ []) (record { written = answer.written ++ reply; edits = answer.edits ++ told edit; next = next; rest = rest })
+  run_more before machine next bytes rest reply [] answer request edit run asked stays step =
       let here : before + 0 ≡ before = omega arith in (
         rest,
         reply,
@@ -26,14 +26,14 @@ module _ {M E : Type 0} (Step : M → Request → List ℕ → M → Option E �
         edit,
         [],
         [],
-        subst (λ (b : List ℕ). AsksFor before b request rest) (sym run.3) (subst (λ (n : ℕ). AsksFor n behind request rest) here asked),
+        subst (λ (b : List ℕ). AsksFor before b request rest) (sym run.3) (subst (λ (n : ℕ). AsksFor n answer.rest request rest) here asked),
         stays,
         subst (λ (m : M). Step m request reply next edit) run.2 step,
         ap (λ (l : List ℕ). l ++ reply) run.0 ∙ sym (append-nil reply),
         ap (λ (l : List E). l ++ told edit) run.1 ∙ sym (append-nil (told edit)),
         (refl, refl, refl, refl),
       )
-  run_more before machine mid next bytes behind rest written reply (r ∷ requests) edits request edit (b, w, m, e, more, later, first, kept, stepped, wrote, told_first, run) asked stays step =
+  run_more before machine next bytes rest reply (r ∷ requests) answer request edit (b, w, m, e, more, later, first, kept, stepped, wrote, told_first, run) asked stays step =
       let here : before + length (r ∷ requests) ≡ before + 1 + length requests = omega arith in (
         b,
         w,
@@ -46,13 +46,14 @@ module _ {M E : Type 0} (Step : M → Request → List ℕ → M → Option E �
         stepped,
         ap (λ (l : List ℕ). l ++ reply) wrote ∙ append_assoc w more reply,
         ap (λ (l : List E). l ++ told edit) told_first ∙ append_assoc (told e) later (told edit),
-        run_more (before + 1) m mid next b behind rest more reply requests later request edit run (subst (λ (n : ℕ). AsksFor n behind request rest) here asked) stays step,
+        run_more (before + 1) m next b rest reply requests (record answer { written = more; edits = later }) request edit run (subst (λ (n : ℕ). AsksFor n answer.rest request rest) here asked) stays step,
       )
 
   -- the requests are the first ones however the bytes go on
-  pub run-append : (before : ℕ) (machine next : M) (bytes more rest written : List ℕ) (requests : List Request) (edits : List E) → Run Step fixed before machine bytes requests written edits next rest → Run Step fixed before machine (bytes ++ more) requests written edits next (rest ++ more)
-  run-append before machine next bytes more rest written [] edits run = (run.0, run.1, run.2, ap (λ (l : List ℕ). l ++ more) run.3)
-  run-append before machine next bytes more rest written (r ∷ requests) edits (b, w, m, e, others, later, first, kept, stepped, wrote, told_first, run) = (
+  pub run-append : (before : ℕ) (machine : M) (bytes more : List ℕ) (requests : List Request) (answer : RunAnswer M E)
+      → Run Step fixed before machine bytes requests answer → Run Step fixed before machine (bytes ++ more) requests (record answer { rest = answer.rest ++ more })
+  run-append before machine bytes more [] answer run = (run.0, run.1, run.2, ap (λ (l : List ℕ). l ++ more) run.3)
+  run-append before machine bytes more (r ∷ requests) answer (b, w, m, e, others, later, first, kept, stepped, wrote, told_first, run) = (
     b ++ more,
     w,
     m,
@@ -64,5 +65,5 @@ module _ {M E : Type 0} (Step : M → Request → List ℕ → M → Option E �
     stepped,
     wrote,
     told_first,
-    run-append (before + 1) m next b more rest others requests later run,
+    run-append (before + 1) m b more requests (record answer { written = others; edits = later }) run,
   )

@@ -36,7 +36,7 @@ lies_in_front front behind text rest same short =
 split_at : (n : ℕ) (bytes more : List ℕ) → take n bytes ++ (drop n bytes ++ more) ≡ bytes ++ more
 split_at n bytes more = sym (append_assoc (take n bytes) (drop n bytes) more) ∙ ap (λ (l : List ℕ). l ++ more) (take-append-drop n bytes)
 
--- with no head in the first `MAX_HEAD` bytes there is none, whatever follows
+-- with no head in the first `MAX_HEAD_BYTES` bytes there is none, whatever follows
 pub never_behind_full : (bytes : List ℕ) → 16_384 ≤ length bytes → HasNoRequest (take 16_384 bytes) → NeverHasHead bytes
 never_behind_full bytes long none more head rest begins =
     let front : List ℕ = take 16_384 bytes in
@@ -93,7 +93,7 @@ head_at-append front more headers spans head at =
       };
     }
 
--- what the parser finds in the first n bytes, with capacity for `MAX_FIELDS` field lines
+-- what the parser finds in the first n bytes, with capacity for `MAX_FIELD_LINES` field lines
 pub head_in_front : (bytes : List ℕ) (n : ℕ) (headers : List HeaderSpan) (spans : RequestSpans) → length headers ≡ 64 → length (take n bytes) ≤ 16_384 → IsRequestWithin (take n bytes) headers spans → IsRequestOf (take n bytes) headers spans → (head : RequestHead) × IsHeadAt bytes headers spans head
 head_in_front bytes n headers spans slots short inside (head, parts) =
     let front : List ℕ = take n bytes in

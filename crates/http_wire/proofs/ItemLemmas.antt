@@ -19,7 +19,7 @@ use Rattle.http_wire.specs.declared.request.Asked.TheVariants.{Request as Reques
 use Rattle.http_wire.specs.Fields.{asks_to_close}
 use Rattle.http_wire.specs.Framing.{framing}
 use Rattle.http_wire.specs.ChunkedBodies.{print_line, print_chunks, HasNoBody, MayBecomeBody, PassesLimit}
-use Rattle.http_wire.specs.Items.{bad, too_long, coded, field_of, request_of, Opens, BehindHead, IsFramed, AsksFor, with_length, in_chunks, IsBad, bad_fields, body_cut, no_body, IsTooLong, long_body, long_chunks, IsUnfinished, lacks_body, lacks_chunks}
+use Rattle.http_wire.specs.Items.{bad, too_long, coded, field_of, request_of, BeginsWithFramedHead, AfterHead, IsFramed, AsksFor, with_length, in_chunks, IsBad, bad_fields, body_cut, no_body, IsTooLong, long_body, long_chunks, IsUnfinished, lacks_body, lacks_chunks}
 use Rattle.http_wire.specs.NextRequests.{IsNext, IsAsked, Asks}
 use Rattle.http_wire.specs.inner.ReadBuffer.{Gains, IsHeadAt, IsOpenAt, HasBody, HasNoBodyYet, Decodes}
 use Rattle.http_wire.proofs.Buffers.{buffered}
@@ -83,7 +83,7 @@ asks_failed before held mid left left' e gains is = record {
 
 -- A head at the front, and what its fields say.
 
-pub opens-append : (bytes more : List ℕ) (head : RequestHead) (what : Framing) (rest : List ℕ) → Opens bytes head what rest → Opens (bytes ++ more) head what (rest ++ more)
+pub opens-append : (bytes more : List ℕ) (head : RequestHead) (what : Framing) (rest : List ℕ) → BeginsWithFramedHead bytes head what rest → BeginsWithFramedHead (bytes ++ more) head what (rest ++ more)
 opens-append bytes more head what rest opens = record { begins = begins-append bytes more head rest opens.begins; framed = opens.framed }
 
 -- a head found at the front is there after more reads
@@ -93,7 +93,7 @@ open_at-append held more headers spans what o = record { head = o.head; at = hea
 pub open_gains : (held held' : List ℕ) (left left' : InputState) (headers : List HeaderSpan) (spans : RequestSpans) (what : Framing) → IsOpenAt held headers spans what → Gains held held' left left' → IsOpenAt held' headers spans what
 open_gains held held' left left' headers spans what o gains = subst (λ (l : List ℕ). IsOpenAt l headers spans what) (sym gains.added) (open_at-append held gains.read headers spans what o)
 
-pub opens_at : (held : List ℕ) (headers : List HeaderSpan) (spans : RequestSpans) (what : Framing) (o : IsOpenAt held headers spans what) → Opens held o.head what (drop spans.len held)
+pub opens_at : (held : List ℕ) (headers : List HeaderSpan) (spans : RequestSpans) (what : Framing) (o : IsOpenAt held headers spans what) → BeginsWithFramedHead held o.head what (drop spans.len held)
 opens_at held headers spans what o = record { begins = o.at.begins; framed = o.framed }
 
 -- the spans and the fields of the head say the same
@@ -105,7 +105,7 @@ pub framed_on : (held more : List ℕ) (headers : List HeaderSpan) (spans : Requ
 framed_on held more headers spans what o = (o.head, drop spans.len held ++ more, opens-append held more o.head what (drop spans.len held) (opens_at held headers spans what o))
 
 -- such bytes come after the head
-pub follows_at : (held more : List ℕ) (headers : List HeaderSpan) (spans : RequestSpans) (what : Framing) (P : List ℕ → Type 0) → IsOpenAt held headers spans what → P (drop spans.len held ++ more) → BehindHead what (held ++ more) P
+pub follows_at : (held more : List ℕ) (headers : List HeaderSpan) (spans : RequestSpans) (what : Framing) (P : List ℕ → Type 0) → IsOpenAt held headers spans what → P (drop spans.len held ++ more) → AfterHead what (held ++ more) P
 follows_at held more headers spans what P o behind = record {
   head = o.head;
   rest = drop spans.len held ++ more;
@@ -141,14 +141,14 @@ request_at before held headers spans head request body at method target closes f
 
 -- a body of the length that the head says
 pub body_at : (held : List ℕ) (headers : List HeaderSpan) (spans : RequestSpans) (len : ℕ) (o : IsOpenAt held headers spans (Length len)) → spans.len + len ≤ length held
-    → Opens held o.head (Length (length (slice_range held spans.len (spans.len + len)))) (slice_range held spans.len (spans.len + len) ++ drop (spans.len + len) held)
+    → BeginsWithFramedHead held o.head (Length (length (slice_range held spans.len (spans.len + len)))) (slice_range held spans.len (spans.len + len) ++ drop (spans.len + len) held)
 body_at held headers spans len o enough =
     let behind : List ℕ = drop spans.len held in
     let body : List ℕ = slice_range held spans.len (spans.len + len) in
     let front : body ≡ take len behind = ap (λ (n : ℕ). take n behind) (omega arith) in
     let size : length body ≡ len = ap length front ∙ length-take-le len behind (omega (arith, length-drop spans.len held, enough)) in
     let split : behind ≡ body ++ drop (spans.len + len) held = sym (take-append-drop len behind) ∙ ap (λ (l : List ℕ). l ++ drop len behind) (sym front) ∙ ap (λ (l : List ℕ). body ++ l) (drop-drop len spans.len held) in
-    subst (λ (n : ℕ). Opens held o.head (Length n) (body ++ drop (spans.len + len) held)) (sym size) (subst (Opens held o.head (Length len)) split (opens_at held headers spans (Length len) o))
+    subst (λ (n : ℕ). BeginsWithFramedHead held o.head (Length n) (body ++ drop (spans.len + len) held)) (sym size) (subst (BeginsWithFramedHead held o.head (Length len)) split (opens_at held headers spans (Length len) o))
 
 pub asks_plain : (before : ℕ) (held : List ℕ) (headers : List HeaderSpan) (spans : RequestSpans) (len : ℕ) (request : Request) (o : IsOpenAt held headers spans (Length len)) → spans.len + len ≤ length held
     → request ≡ request_of before o.head (slice_range held spans.len (spans.len + len)) → AsksFor before held request (drop (spans.len + len) held)
@@ -165,7 +165,7 @@ asks_in_chunks before held read headers spans request body rest o has is =
     (is ∙ ap (request_of before o.head) (sym has.gives))
 
 -- with fewer bytes than the body has, the request isn't complete
-pub lacks : (held : List ℕ) (headers : List HeaderSpan) (spans : RequestSpans) (len : ℕ) → IsOpenAt held headers spans (Length len) → length held < spans.len + len → BehindHead (Length len) held (λ rest. length rest < len)
+pub lacks : (held : List ℕ) (headers : List HeaderSpan) (spans : RequestSpans) (len : ℕ) → IsOpenAt held headers spans (Length len) → length held < spans.len + len → AfterHead (Length len) held (λ rest. length rest < len)
 lacks held headers spans len o fewer = record {
   head = o.head;
   rest = drop spans.len held;

@@ -5,7 +5,7 @@ use Rattle.std.proofs.lemmas.List.{append-nil}
 use Rattle.xcap_io.specs.Histories.{Traffic}
 use Rattle.http_wire.specs.declared.request.Request.{Request}
 use Rattle.http_wire.specs.Items.{Item, FirstItem, IsFirst}
-use Rattle.http_wire.specs.ServedConnections.{Closes, no_more, last_item, no_memory, GoesOn, HasBytes, HaveBytes, Run, Serves, ServesEach, counted, counted_each}
+use Rattle.http_wire.specs.ServedConnections.{PendingInput, ItemAnswer, Closes, no_more, last_item, no_memory, GoesOn, HasBytes, HaveBytes, Run, Serves, ServesEach, counted, counted_each}
 use Rattle.http_wire.specs.declared.close_reason.CloseReason.{CloseReason}
 use Rattle.http_wire.specs.declared.close_reason.CloseReason.TheVariants.{Closed, ReadFailed, WriteFailed}
 use Rattle.http_wire.proofs.Connections.{run-append}
@@ -34,28 +34,29 @@ pub first_of_all : (before : ℕ) (bytes : List ℕ) (passed : Traffic) (item : 
 first_of_all before bytes passed item (left, is, none) first =
     first_by_all before bytes item (subst (λ (l : List ℕ). IsFirst before l true item) (sym is) (first_on before passed.given left passed.ended item none first))
 
-module _ {M E : Type 0} (Step : M → Request → List ℕ → M → Option E → Type 0) (fixed : ℕ → List ℕ) where
-  closes_on : (before : ℕ) (machine next : M) (given left reply : List ℕ) (ended : Bool) (edit : Option E) → (ended ≡ true → left ≡ [])
-      → Closes Step fixed before machine given ended reply next edit → Closes Step fixed before machine (given ++ left) true reply next edit
-  closes_on before machine next given left reply ended edit none (no_more nothing found silent same untold) =
-      no_more (ap (λ (l : List ℕ). l ++ left) nothing ∙ none found) refl silent same untold
-  closes_on before machine next given left reply ended edit none (last_item item first ends answers) = last_item item (first_on before given left ended item none first) ends answers
-  closes_on before machine next given left reply ended edit none (no_memory request rest asked fixed_one same untold) =
-      no_memory request (rest ++ left) (asks-append before given left request rest asked) fixed_one same untold
+-- the input with the bytes that were left, and its end
+abbrev pub all_given : PendingInput → List ℕ → PendingInput
+all_given input left = record input { given = input.given ++ left; ended = true }
 
-  goes_on : (before : ℕ) (machine next : M) (given left reply rest : List ℕ) (edit : Option E) → GoesOn Step fixed before machine given reply next edit rest → GoesOn Step fixed before machine (given ++ left) reply next edit (rest ++ left)
-  goes_on before machine next given left reply rest edit g = record {
+module _ {M E : Type 0} (Step : M → Request → List ℕ → M → Option E → Type 0) (fixed : ℕ → List ℕ) where
+  closes_on : (input : PendingInput) (left : List ℕ) (machine : M) (answer : ItemAnswer M E) → (input.ended ≡ true → left ≡ []) → Closes Step fixed input machine answer → Closes Step fixed (all_given input left) machine answer
+  closes_on input left machine answer none (no_more nothing found silent same untold) = no_more (ap (λ (l : List ℕ). l ++ left) nothing ∙ none found) refl silent same untold
+  closes_on input left machine answer none (last_item item first ends answers) = last_item item (first_on input.before input.given left input.ended item none first) ends answers
+  closes_on input left machine answer none (no_memory request rest asked fixed_one same untold) =
+      no_memory request (rest ++ left) (asks-append input.before input.given left request rest asked) fixed_one same untold
+
+  goes_on : (input : PendingInput) (left : List ℕ) (machine : M) (answer : ItemAnswer M E) (rest : List ℕ) → GoesOn Step fixed input machine answer rest → GoesOn Step fixed (all_given input left) machine answer (rest ++ left)
+  goes_on input left machine answer rest g = record {
     request = g.request;
-    asked = asks-append before given left g.request rest g.asked;
+    asked = asks-append input.before input.given left g.request rest g.asked;
     stays = g.stays;
     step = g.step;
   }
 
-  either_on : (before : ℕ) (machine next : M) (given left reply : List ℕ) (ended : Bool) (edit : Option E) → (ended ≡ true → left ≡ [])
-      → Closes Step fixed before machine given ended reply next edit ⊎ ((rest : List ℕ) × GoesOn Step fixed before machine given reply next edit rest)
-      → Closes Step fixed before machine (given ++ left) true reply next edit ⊎ ((rest : List ℕ) × GoesOn Step fixed before machine (given ++ left) reply next edit rest)
-  either_on before machine next given left reply ended edit none (inl closes) = inl (closes_on before machine next given left reply ended edit none closes)
-  either_on before machine next given left reply ended edit none (inr (rest, goes)) = inr (rest ++ left, goes_on before machine next given left reply rest edit goes)
+  either_on : (input : PendingInput) (left : List ℕ) (machine : M) (answer : ItemAnswer M E) → (input.ended ≡ true → left ≡ []) → Closes Step fixed input machine answer ⊎ ((rest : List ℕ) × GoesOn Step fixed input machine answer rest)
+      → Closes Step fixed (all_given input left) machine answer ⊎ ((rest : List ℕ) × GoesOn Step fixed (all_given input left) machine answer rest)
+  either_on input left machine answer none (inl closes) = inl (closes_on input left machine answer none closes)
+  either_on input left machine answer none (inr (rest, goes)) = inr (rest ++ left, goes_on input left machine answer rest goes)
 
   -- one connection
   pub counts : (ending : CloseReason) (machine next : M) (edits : List E) (bytes : List ℕ) (passed : Traffic) → HasBytes bytes passed
@@ -68,9 +69,9 @@ module _ {M E : Type 0} (Step : M → Request → List ℕ → M → Option E �
     behind = s.behind ++ left;
     last = s.last;
     edit = s.edit;
-    run = subst (λ (l : List ℕ). Run Step fixed 0 machine l s.requests s.replies s.early s.mid (s.behind ++ left)) (sym is)
-        (run-append Step fixed 0 machine s.mid passed.given left s.behind s.replies s.requests s.early s.run);
-    ends = closes_on (length s.requests) s.mid next s.behind left s.last passed.ended s.edit none s.ends;
+    run = subst (λ (l : List ℕ). Run Step fixed 0 machine l s.requests (record { written = s.replies; edits = s.early; next = s.mid; rest = s.behind ++ left })) (sym is)
+        (run-append Step fixed 0 machine passed.given left s.requests (record { written = s.replies; edits = s.early; next = s.mid; rest = s.behind }) s.run);
+    ends = closes_on (record { before = length s.requests; given = s.behind; ended = passed.ended }) left s.mid (record { written = s.last; next = next; edit = s.edit }) none s.ends;
     wrote = s.wrote;
     all_told = s.all_told;
   }
@@ -83,9 +84,9 @@ module _ {M E : Type 0} (Step : M → Request → List ℕ → M → Option E �
     behind = s.behind ++ left;
     last = s.last;
     edit = s.edit;
-    run = subst (λ (l : List ℕ). Run Step fixed 0 machine l s.requests s.replies s.early s.mid (s.behind ++ left)) (sym is)
-        (run-append Step fixed 0 machine s.mid passed.given left s.behind s.replies s.requests s.early s.run);
-    ends = (s.ends.0, s.ends.1, s.ends.2, s.ends.3, either_on (length s.requests) s.mid next s.behind left s.ends.0 passed.ended s.edit none s.ends.4);
+    run = subst (λ (l : List ℕ). Run Step fixed 0 machine l s.requests (record { written = s.replies; edits = s.early; next = s.mid; rest = s.behind ++ left })) (sym is)
+        (run-append Step fixed 0 machine passed.given left s.requests (record { written = s.replies; edits = s.early; next = s.mid; rest = s.behind }) s.run);
+    ends = (s.ends.0, s.ends.1, s.ends.2, s.ends.3, either_on (record { before = length s.requests; given = s.behind; ended = passed.ended }) left s.mid (record { written = s.ends.0; next = next; edit = s.edit }) none s.ends.4);
     wrote = s.wrote;
     all_told = s.all_told;
   }

@@ -15,20 +15,20 @@ use Rattle.http_wire.specs.Heads.{HasNoHead}
 use Rattle.http_wire.specs.ChunkedBodies.{ChunkedBody, print_body, ReadsBody, HasNoBody, PassesLimit, chunk_data as joined}
 use Rattle.http_wire.specs.inner.ChunkDecoder.{Decoding, decoding, start}
 use Rattle.http_wire.specs.declared.chunk_decoder.ChunkState.TheVariants.{Done, TooLong}
-use Rattle.http_wire.specs.Items.{Item, asks, bad, too_long, coded, request_of, Opens, BehindHead, IsFramed, AsksFor, with_length, in_chunks, IsBad, no_head, bad_fields, body_cut, no_body, IsTooLong, long_body, long_chunks, FirstItem, SameRest, ends_connection, Talk}
+use Rattle.http_wire.specs.Items.{Item, asks, bad, too_long, coded, request_of, BeginsWithFramedHead, AfterHead, IsFramed, AsksFor, with_length, in_chunks, IsBad, no_head, bad_fields, body_cut, no_body, IsTooLong, long_body, long_chunks, FirstItem, EqualRests, ends_connection, IsItemSequence}
 use Rattle.http_wire.specs.inner.ReadBuffer.{HasNoBodyYet}
 use Rattle.http_wire.proofs.Fronts.{head_feeds}
 use Rattle.http_wire.proofs.BodyRuns.{settles_once, reads_body}
 use Rattle.http_wire.proofs.BodyFacts.{short_settles, limit_settles}
 
 -- a head has at least one byte
-some_bytes : (bytes : List ℕ) (h : RequestHead) (f : Framing) (r : List ℕ) → Opens bytes h f r → 0 < length bytes
+some_bytes : (bytes : List ℕ) (h : RequestHead) (f : Framing) (r : List ℕ) → BeginsWithFramedHead bytes h f r → 0 < length bytes
 some_bytes bytes h f r opens =
     let feeds = head_feeds h in
     omega (arith, ap length opens.begins.reads.1, length-append (print_request h) r, ap length feeds.1, length-append feeds.0 (line_feed ∷ []))
 
 -- two openings of the same bytes are equal
-pub same_head : (bytes : List ℕ) (h k : RequestHead) (f g : Framing) (r q : List ℕ) → Opens bytes h f r → Opens bytes k g q → (h ≡ k) × (f ≡ g) × (r ≡ q)
+pub same_head : (bytes : List ℕ) (h k : RequestHead) (f g : Framing) (r q : List ℕ) → BeginsWithFramedHead bytes h f r → BeginsWithFramedHead bytes k g q → (h ≡ k) × (f ≡ g) × (r ≡ q)
 same_head bytes h k f g r q x y =
     let one = request_unique bytes h k r q x.begins.reads y.begins.reads in
     let heads : h ≡ k = one.0 in
@@ -48,7 +48,7 @@ KindIs (Length len) behind k = ((len ≤ length behind) × (k ≡ 0)) ⊎ ((leng
 KindIs Chunked behind k = (HasShort behind × (k ≡ 0)) ⊎ ((PassesLimit behind × (k ≡ 2)) ⊎ (HasNoBodyYet behind × (k ≡ 1)))
 
 abbrev Begun : List ℕ → ℕ → Type 0
-Begun bytes k = (head : RequestHead) × (what : Framing) × (behind : List ℕ) × Opens bytes head what behind × KindIs what behind k
+Begun bytes k = (head : RequestHead) × (what : Framing) × (behind : List ℕ) × BeginsWithFramedHead bytes head what behind × KindIs what behind k
 
 abbrev HasKind : List ℕ → ℕ → Type 0
 HasKind bytes k = ((0 < length bytes) × HasNoHead bytes × (k ≡ 1)) ⊎ Begun bytes k
@@ -59,7 +59,7 @@ kind bad = 1
 kind too_long = 2
 kind coded = 3
 
-follows_kind : (bytes : List ℕ) (what : Framing) (P : List ℕ → Type 0) (k : ℕ) → BehindHead what bytes P → ((rest : List ℕ) → P rest → KindIs what rest k) → HasKind bytes k
+follows_kind : (bytes : List ℕ) (what : Framing) (P : List ℕ → Type 0) (k : ℕ) → AfterHead what bytes P → ((rest : List ℕ) → P rest → KindIs what rest k) → HasKind bytes k
 follows_kind bytes what P k f each = inr (f.head, what, f.rest, f.opens, each f.rest f.behind)
 
 framed_kind : (bytes : List ℕ) (what : Framing) (k : ℕ) → IsFramed what bytes → ((rest : List ℕ) → KindIs what rest k) → HasKind bytes k
@@ -163,10 +163,10 @@ one_request before bytes rest other a b (in_chunks p behind body opens reads sho
       one.2,
     )
 
-pub one_first_item : (before : ℕ) (bytes rest other : List ℕ) (x y : Item) → FirstItem before bytes x rest → FirstItem before bytes y other → (x ≡ y) × SameRest x rest other
+pub one_first_item : (before : ℕ) (bytes rest other : List ℕ) (x y : Item) → FirstItem before bytes x rest → FirstItem before bytes y other → (x ≡ y) × EqualRests x rest other
 one_first_item before bytes rest other x y p q = by_kind x y p q (one_kind bytes (kind x) (kind y) (has_kind before bytes rest x p) (has_kind before bytes other y q))
   where
-    by_kind : (x y : Item) → FirstItem before bytes x rest → FirstItem before bytes y other → kind x ≡ kind y → (x ≡ y) × SameRest x rest other
+    by_kind : (x y : Item) → FirstItem before bytes x rest → FirstItem before bytes y other → kind x ≡ kind y → (x ≡ y) × EqualRests x rest other
     by_kind (asks a) (asks b) p q same = let one = one_request before bytes rest other a b p q in (ap asks one.0, one.1)
     by_kind bad bad p q same = (refl, tt)
     by_kind too_long too_long p q same = (refl, tt)
@@ -192,22 +192,22 @@ some_item_bytes before bytes rest item first = by_kind (has_kind before bytes re
     by_kind (inl x) = x.0
     by_kind (inr x) = some_bytes bytes x.0 x.1 x.2 x.3
 
-pub one_talk : (before : ℕ) (bytes : List ℕ) (xs ys : List Item) → Talk before bytes xs → Talk before bytes ys → xs ≡ ys
+pub one_talk : (before : ℕ) (bytes : List ℕ) (xs ys : List Item) → IsItemSequence before bytes xs → IsItemSequence before bytes ys → xs ≡ ys
 one_talk before bytes [] [] p q = refl
 one_talk before bytes [] (y ∷ ys) p q = absurd (omega (arith, ap length p, some_item_bytes before bytes q.0 y q.1))
 one_talk before bytes (x ∷ xs) [] p q = absurd (omega (arith, ap length q, some_item_bytes before bytes p.0 x p.1))
 one_talk before bytes (x ∷ xs) (y ∷ ys) p q =
     let one = one_first_item before bytes p.0 q.0 x y p.1 q.1 in
     let items : x ≡ y = one.0 in
-    let next = λ (l : List ℕ) (u : Talk (before + 1) l xs) (v : Talk (before + 1) l ys). one_talk (before + 1) l xs ys u v in
-    let tails : xs ≡ ys = by_end next x (ends_connection x) refl one.1 p.2 (subst (λ (i : Item). MatchBool (ends_connection i) (ys ≡ []) (Talk (before + 1) q.0 ys)) (sym items) q.2) in
+    let next = λ (l : List ℕ) (u : IsItemSequence (before + 1) l xs) (v : IsItemSequence (before + 1) l ys). one_talk (before + 1) l xs ys u v in
+    let tails : xs ≡ ys = by_end next x (ends_connection x) refl one.1 p.2 (subst (λ (i : Item). MatchBool (ends_connection i) (ys ≡ []) (IsItemSequence (before + 1) q.0 ys)) (sym items) q.2) in
     cc
   where
-    by_end : ((l : List ℕ) → Talk (before + 1) l xs → Talk (before + 1) l ys → xs ≡ ys) → (x : Item) (b : Bool) → ends_connection x ≡ b → SameRest x p.0 q.0 → MatchBool (ends_connection x) (xs ≡ []) (Talk (before + 1) p.0 xs) → MatchBool (ends_connection x) (ys ≡ []) (Talk (before + 1) q.0 ys) → xs ≡ ys
-    by_end next (asks r) true ends same u v = MatchBool-at_true (xs ≡ []) (Talk (before + 1) p.0 xs) ends u ∙ sym (MatchBool-at_true (ys ≡ []) (Talk (before + 1) q.0 ys) ends v)
+    by_end : ((l : List ℕ) → IsItemSequence (before + 1) l xs → IsItemSequence (before + 1) l ys → xs ≡ ys) → (x : Item) (b : Bool) → ends_connection x ≡ b → EqualRests x p.0 q.0 → MatchBool (ends_connection x) (xs ≡ []) (IsItemSequence (before + 1) p.0 xs) → MatchBool (ends_connection x) (ys ≡ []) (IsItemSequence (before + 1) q.0 ys) → xs ≡ ys
+    by_end next (asks r) true ends same u v = MatchBool-at_true (xs ≡ []) (IsItemSequence (before + 1) p.0 xs) ends u ∙ sym (MatchBool-at_true (ys ≡ []) (IsItemSequence (before + 1) q.0 ys) ends v)
     by_end next (asks r) false ends same u v =
-        next p.0 (MatchBool-at_false (xs ≡ []) (Talk (before + 1) p.0 xs) ends u)
-        (subst (λ (l : List ℕ). Talk (before + 1) l ys) (sym same) (MatchBool-at_false (ys ≡ []) (Talk (before + 1) q.0 ys) ends v))
+        next p.0 (MatchBool-at_false (xs ≡ []) (IsItemSequence (before + 1) p.0 xs) ends u)
+        (subst (λ (l : List ℕ). IsItemSequence (before + 1) l ys) (sym same) (MatchBool-at_false (ys ≡ []) (IsItemSequence (before + 1) q.0 ys) ends v))
     by_end next bad b ends same u v = u ∙ sym v
     by_end next too_long b ends same u v = u ∙ sym v
     by_end next coded b ends same u v = u ∙ sym v

@@ -7,7 +7,7 @@ use Rattle.http_wire.specs.declared.framing.Framing.{Framing}
 use Rattle.http_wire.specs.declared.framing.Framing.TheVariants.{Bad as BadFields, Coded as OtherCoding, TooLong as LongBody, Length, Chunked}
 use Rattle.http_wire.specs.declared.request.Request.{Request}
 use Rattle.http_wire.specs.ChunkedBodies.{print_line, print_chunks, print_body, ReadsBody, HasNoBody, MayBecomeBody, PassesLimit}
-use Rattle.http_wire.specs.Items.{Item, asks, bad, too_long, coded, Opens, BehindHead, IsFramed, AsksFor, with_length, in_chunks, bad_fields, no_body, long_body, long_chunks, FirstItem, LiesWhole, IsUnfinished, lacks_head, lacks_body, lacks_chunks}
+use Rattle.http_wire.specs.Items.{Item, asks, bad, too_long, coded, BeginsWithFramedHead, AfterHead, IsFramed, AsksFor, with_length, in_chunks, bad_fields, no_body, long_body, long_chunks, FirstItem, IsComplete, IsUnfinished, lacks_head, lacks_body, lacks_chunks}
 use Rattle.http_wire.specs.inner.ReadBuffer.{HasNoBodyYet}
 use Rattle.http_wire.proofs.Fronts.{lies_in_front}
 use Rattle.http_wire.proofs.BodyReached.{becomes_body, becomes_line}
@@ -17,7 +17,7 @@ use Rattle.http_wire.proofs.OneTalk.{same_head, length_of}
 framed-append : (what : Framing) (bytes more : List ℕ) → IsFramed what bytes → IsFramed what (bytes ++ more)
 framed-append what bytes more f = (f.0, f.1 ++ more, opens-append bytes more f.0 what f.1 f.2)
 
-follows-append : (what : Framing) (bytes more : List ℕ) (P Q : List ℕ → Type 0) → ((rest : List ℕ) → P rest → Q (rest ++ more)) → BehindHead what bytes P → BehindHead what (bytes ++ more) Q
+follows-append : (what : Framing) (bytes more : List ℕ) (P Q : List ℕ → Type 0) → ((rest : List ℕ) → P rest → Q (rest ++ more)) → AfterHead what bytes P → AfterHead what (bytes ++ more) Q
 follows-append what bytes more P Q each f = record {
   head = f.head;
   rest = f.rest ++ more;
@@ -61,13 +61,13 @@ never_body bytes more never none not_long = (
 
 pub asks-append : (before : ℕ) (bytes more : List ℕ) (request : Request) (rest : List ℕ) → AsksFor before bytes request rest → AsksFor before (bytes ++ more) request (rest ++ more)
 asks-append before bytes more request rest (with_length head body opens is) =
-    with_length head body (subst (Opens (bytes ++ more) head (Length (length body))) (append_assoc body rest more) (opens-append bytes more head (Length (length body)) (body ++ rest) opens)) is
+    with_length head body (subst (BeginsWithFramedHead (bytes ++ more) head (Length (length body))) (append_assoc body rest more) (opens-append bytes more head (Length (length body)) (body ++ rest) opens)) is
 asks-append before bytes more request rest (in_chunks head behind body opens reads short is) =
     in_chunks head (behind ++ more) body (opens-append bytes more head Chunked behind opens)
     (reads.0, ap (λ (l : List ℕ). l ++ more) reads.1 ∙ append_assoc (print_body body) rest more)
     short is
 
-pub whole_stays : (before : ℕ) (bytes more : List ℕ) (item : Item) → LiesWhole before bytes item → (rest : List ℕ) × FirstItem before (bytes ++ more) item rest
+pub whole_stays : (before : ℕ) (bytes more : List ℕ) (item : Item) → IsComplete before bytes item → (rest : List ℕ) × FirstItem before (bytes ++ more) item rest
 whole_stays before bytes more (asks request) whole = (whole.0 ++ more, asks-append before bytes more request whole.0 whole.1)
 whole_stays before bytes more bad (inl f) = ([], bad_fields (framed-append BadFields bytes more f))
 whole_stays before bytes more bad (inr f) = ([], no_body (follows-append Chunked bytes more (λ rest. ¬ (MayBecomeBody rest) × HasNoBody rest × ¬ (PassesLimit rest)) HasNoBodyYet (λ rest none. never_body rest more none.0 none.1 none.2) f))
@@ -78,7 +78,7 @@ whole_stays before bytes more coded f = ([], framed-append OtherCoding bytes mor
 -- Unfinished bytes.
 
 -- a head of another framing is in front
-other_framing : (bytes : List ℕ) (h k : RequestHead) (f g : Framing) (r q : List ℕ) → Opens bytes h f r → Opens bytes k g q → (f ≡ g → ⊥) → ⊥
+other_framing : (bytes : List ℕ) (h k : RequestHead) (f g : Framing) (r q : List ℕ) → BeginsWithFramedHead bytes h f r → BeginsWithFramedHead bytes k g q → (f ≡ g → ⊥) → ⊥
 other_framing bytes h k f g r q x y apart = apart (same_head bytes h k f g r q x y).1
 
 length_and_chunks : (n : ℕ) → Length n ≡ Chunked → ⊥
@@ -102,7 +102,7 @@ chunks_and_coded e = cc
 chunks_and_long : Chunked ≡ LongBody → ⊥
 chunks_and_long e = cc
 
-body_lacks : (before len : ℕ) (bytes : List ℕ) (item : Item) → BehindHead (Length len) bytes (λ rest. length rest < len) → LiesWhole before bytes item → ⊥
+body_lacks : (before len : ℕ) (bytes : List ℕ) (item : Item) → AfterHead (Length len) bytes (λ rest. length rest < len) → IsComplete before bytes item → ⊥
 body_lacks before len bytes (asks request) f (rest, with_length head body opens is) =
     let same = same_head bytes f.head head (Length len) (Length (length body)) f.rest (body ++ rest) f.opens opens in
     absurd (omega (arith, ap length_of same.1, ap length same.2, length-append body rest, f.behind))
@@ -113,7 +113,7 @@ body_lacks before len bytes too_long f (long_body w) = other_framing bytes f.hea
 body_lacks before len bytes too_long f (long_chunks w) = other_framing bytes f.head w.head (Length len) Chunked f.rest w.rest f.opens w.opens (length_and_chunks len)
 body_lacks before len bytes coded f w = other_framing bytes f.head w.0 (Length len) OtherCoding f.rest w.1 f.opens w.2 (length_and_coded len)
 
-chunks_lack : (before : ℕ) (bytes : List ℕ) (item : Item) → BehindHead Chunked bytes (λ rest. MayBecomeBody rest × HasNoBody rest × ¬ (PassesLimit rest)) → LiesWhole before bytes item → ⊥
+chunks_lack : (before : ℕ) (bytes : List ℕ) (item : Item) → AfterHead Chunked bytes (λ rest. MayBecomeBody rest × HasNoBody rest × ¬ (PassesLimit rest)) → IsComplete before bytes item → ⊥
 chunks_lack before bytes (asks request) f (rest, with_length head body opens is) = other_framing bytes head f.head (Length (length body)) Chunked (body ++ rest) f.rest opens f.opens (length_and_chunks (length body))
 chunks_lack before bytes (asks request) f (rest, in_chunks head behind body opens reads short is) =
     let same = same_head bytes f.head head Chunked Chunked f.rest behind f.opens opens in
@@ -129,7 +129,7 @@ chunks_lack before bytes too_long f (long_chunks w) =
 chunks_lack before bytes coded f w = other_framing bytes f.head w.0 Chunked OtherCoding f.rest w.1 f.opens w.2 chunks_and_coded
 
 -- every complete item has a head
-head_lacks : (before : ℕ) (bytes : List ℕ) (item : Item) → ((head : RequestHead) (what : Framing) (rest : List ℕ) → Opens bytes head what rest → ⊥) → LiesWhole before bytes item → ⊥
+head_lacks : (before : ℕ) (bytes : List ℕ) (item : Item) → ((head : RequestHead) (what : Framing) (rest : List ℕ) → BeginsWithFramedHead bytes head what rest → ⊥) → IsComplete before bytes item → ⊥
 head_lacks before bytes (asks request) none (rest, with_length head body opens is) = none head (Length (length body)) (body ++ rest) opens
 head_lacks before bytes (asks request) none (rest, in_chunks head behind body opens reads short is) = none head Chunked behind opens
 head_lacks before bytes bad none (inl w) = none w.0 BadFields w.1 w.2
@@ -138,7 +138,7 @@ head_lacks before bytes too_long none (long_body w) = none w.0 LongBody w.1 w.2
 head_lacks before bytes too_long none (long_chunks w) = none w.head Chunked w.rest w.opens
 head_lacks before bytes coded none w = none w.0 OtherCoding w.1 w.2
 
-pub none_whole : (before : ℕ) (bytes : List ℕ) (item : Item) → IsUnfinished bytes → ¬ (LiesWhole before bytes item)
+pub none_whole : (before : ℕ) (bytes : List ℕ) (item : Item) → IsUnfinished bytes → ¬ (IsComplete before bytes item)
 none_whole before bytes item (lacks_head none) whole = head_lacks before bytes item (λ head what rest opens. none head rest opens.begins) whole
 none_whole before bytes item (lacks_body len f) whole = body_lacks before len bytes item f whole
 none_whole before bytes item (lacks_chunks f) whole = chunks_lack before bytes item f whole

@@ -6,7 +6,8 @@ use Rattle.std.specs.List.{list_all, AllByRecursion}
 use Rattle.std.specs.Char.{is_digit}
 use Rattle.httparse.specs.Ascii.{line_feed, carriage_return, crlf_bytes}
 use Rattle.httparse.specs.Grammar.{ChunkLine, print_extension, chunk_size, is_ows, is_value_byte}
-use Rattle.http_wire.specs.Limits.{max_body_bytes, max_digits, max_line_bytes, max_trailer_bytes}
+use Rattle.http_wire.specs.declared.limits.TheConstants.{MAX_BODY_BYTES, MAX_DIGITS, MAX_LINE_BYTES}
+use Rattle.http_wire.specs.declared.limits.TheConstants.{MAX_TRAILER_BYTES}
 
 -- the bytes of a chunk line without its line end: digits, blanks, and an extension after `;`
 abbrev pub line_text : ChunkLine → List ℕ
@@ -20,11 +21,11 @@ print_line l = line_text l ++ crlf_bytes
 -- ASCII; the whole line is within its limit
 pub record IsLine (l : ChunkLine) : Type 0 where
   pub some : 0 < length l.digits
-  pub few : length l.digits ≤ max_digits
+  pub few : length l.digits ≤ MAX_DIGITS
   pub digits : IsTrue (list_all (λ b. is_digit b 16) l.digits)
   pub pad : IsTrue (list_all is_ows l.pad)
   pub extension : IsTrue (list_all is_value_byte (unwrap_or l.extension []))
-  pub short : length (print_line l) ≤ max_line_bytes
+  pub short : length (print_line l) ≤ MAX_LINE_BYTES
 
 -- chunk = chunk-line bytes CR LF
 pub record Chunk : Type 0 where
@@ -74,7 +75,7 @@ pub record IsBody (c : ChunkedBody) : Type 0 where
   pub last : IsLine c.last
   pub ends : chunk_size c.last ≡ 0
   pub trailers : AllByRecursion IsTrailer c.trailers
-  pub short : length (print_trailers c.trailers) ≤ max_trailer_bytes
+  pub short : length (print_trailers c.trailers) ≤ MAX_TRAILER_BYTES
 
 -- the data of the chunks, joined
 abbrev pub chunk_data : List Chunk → List ℕ
@@ -101,4 +102,4 @@ pub record PassesLimit (bytes : List ℕ) : Type 0 where
   pub are_chunks : AllByRecursion IsChunk chunks
   pub is_line : IsLine line
   pub reads : bytes ≡ print_chunks chunks ++ (print_line line ++ rest)
-  pub over : max_body_bytes < length (chunk_data chunks) + chunk_size line
+  pub over : MAX_BODY_BYTES < length (chunk_data chunks) + chunk_size line

@@ -5,7 +5,7 @@ use Rattle.std.specs.Str.Parse.{digits_value}
 use Rattle.http_wire.specs.declared.framing.Framing.{Framing}
 use Rattle.http_wire.specs.declared.framing.Framing.TheVariants.{Bad, Coded, TooLong, Length}
 use Rattle.http_wire.specs.declared.framing.Framing.TheVariants.{Chunked}
-use Rattle.http_wire.specs.Limits.{max_body_bytes}
+use Rattle.http_wire.specs.declared.limits.TheConstants.{MAX_BODY_BYTES}
 use Rattle.http_wire.specs.Fields.{same_ignoring_case, values_of, is_number}
 
 -- HTTP/1.1 requires exactly one `Host`
@@ -17,12 +17,12 @@ unfoldable pub length_by : List (List ℕ) → Framing
 length_by [] = Length 0
 length_by (value ∷ []) =
     if not (is_number value) then Bad
-    else if nat_le (digits_value 10 value) max_body_bytes then Length (digits_value 10 value)
+    else if nat_le (digits_value 10 value) MAX_BODY_BYTES then Length (digits_value 10 value)
     else TooLong
 length_by (value ∷ other ∷ more) = Bad
 
 -- by the values of `Transfer-Encoding` and then of `Content-Length`: the one coding is `chunked`,
--- which HTTP/1.0 doesn't have, and there is no length besides it
+-- which HTTP/1.0 doesn't have, and there is no Content-Length with it
 unfoldable pub coding_by : ℕ → List (List ℕ) → List (List ℕ) → Framing
 coding_by minor [] lengths = length_by lengths
 coding_by minor (coding ∷ []) lengths =

@@ -11,7 +11,7 @@ use Rattle.http_wire.specs.declared.framing.Framing.TheVariants.{Bad, Coded, Too
 use Rattle.http_wire.specs.declared.framing.Framing.TheVariants.{Chunked}
 use Rattle.http_wire.specs.declared.request.Field.{Field}
 use Rattle.http_wire.specs.declared.request.Request.{Request}
-use Rattle.http_wire.specs.Limits.{max_body_bytes, max_requests}
+use Rattle.http_wire.specs.declared.limits.TheConstants.{MAX_BODY_BYTES, MAX_REQUESTS}
 use Rattle.http_wire.specs.Heads.{BeginsWithHead, HasNoHead}
 use Rattle.http_wire.specs.Fields.{asks_to_close}
 use Rattle.http_wire.specs.Framing.{framing}
@@ -36,38 +36,39 @@ request_of before head body = record {
   method = head.method;
   target = head.target;
   closes =
-      (before == max_requests - 1)
+      (before == MAX_REQUESTS - 1)
       || ((head.minor == 0) || asks_to_close (map name_and_value head.fields));
   fields = map field_of (map name_and_value head.fields);
   body = body;
 }
 
 -- the bytes begin with this head, whose fields give this framing, and then rest
-pub record Opens (bytes : List ℕ) (head : RequestHead) (what : Framing)
+pub record BeginsWithFramedHead (bytes : List ℕ) (head : RequestHead) (what : Framing)
     (rest : List ℕ) : Type 0 where
   pub begins : BeginsWithHead bytes head rest
   pub framed : framing head.minor (map name_and_value head.fields) ≡ what
 
 -- after a head of this framing come bytes with the property
-pub record BehindHead (what : Framing) (bytes : List ℕ) (Behind : List ℕ → Type 0) : Type 0 where
+pub record AfterHead (what : Framing) (bytes : List ℕ) (Behind : List ℕ → Type 0) : Type 0 where
   pub head : RequestHead
   pub rest : List ℕ
-  pub opens : Opens bytes head what rest
+  pub opens : BeginsWithFramedHead bytes head what rest
   pub behind : Behind rest
 
 -- the head alone decides
 abbrev pub IsFramed : Framing → List ℕ → Type 0
-IsFramed what bytes = (head : RequestHead) × (rest : List ℕ) × Opens bytes head what rest
+IsFramed what bytes =
+    (head : RequestHead) × (rest : List ℕ) × BeginsWithFramedHead bytes head what rest
 
 -- The bytes begin with a complete request, whose body has the length that its head states, or is
 -- chunked and within the limit; and then rest.
 pub data AsksFor (before : ℕ) (bytes : List ℕ) (request : Request) (rest : List ℕ) : Type 0 where
   with_length : (head : RequestHead) (body : List ℕ)
-      → Opens bytes head (Length (length body)) (body ++ rest)
+      → BeginsWithFramedHead bytes head (Length (length body)) (body ++ rest)
       → request ≡ request_of before head body → AsksFor before bytes request rest
   in_chunks : (head : RequestHead) (behind : List ℕ) (body : ChunkedBody)
-      → Opens bytes head Chunked behind → ReadsBody behind body rest
-      → length (chunk_data body.chunks) ≤ max_body_bytes
+      → BeginsWithFramedHead bytes head Chunked behind → ReadsBody behind body rest
+      → length (chunk_data body.chunks) ≤ MAX_BODY_BYTES
       → request ≡ request_of before head (chunk_data body.chunks)
       → AsksFor before bytes request rest
 
@@ -76,13 +77,13 @@ pub data AsksFor (before : ℕ) (bytes : List ℕ) (request : Request) (rest : L
 pub data IsBad (bytes : List ℕ) : Type 0 where
   no_head : 0 < length bytes → HasNoHead bytes → IsBad bytes
   bad_fields : IsFramed Bad bytes → IsBad bytes
-  body_cut : (len : ℕ) → BehindHead (Length len) bytes (λ rest. length rest < len) → IsBad bytes
-  no_body : BehindHead Chunked bytes (λ rest. HasNoBody rest × ¬ (PassesLimit rest)) → IsBad bytes
+  body_cut : (len : ℕ) → AfterHead (Length len) bytes (λ rest. length rest < len) → IsBad bytes
+  no_body : AfterHead Chunked bytes (λ rest. HasNoBody rest × ¬ (PassesLimit rest)) → IsBad bytes
 
 -- The body is beyond the limit, by its length or by the sizes of its chunks.
 pub data IsTooLong (bytes : List ℕ) : Type 0 where
   long_body : IsFramed TooLong bytes → IsTooLong bytes
-  long_chunks : BehindHead Chunked bytes PassesLimit → IsTooLong bytes
+  long_chunks : AfterHead Chunked bytes PassesLimit → IsTooLong bytes
 
 -- The first item of all the bytes of a connection, after `before` requests, and the bytes after
 -- it; after an item that is no request none are looked at.
@@ -100,9 +101,9 @@ IsFirst before given ended item =
     ⊎ ((ended ≡ true) × ((rest : List ℕ) × FirstItem before given item rest))
 
 -- after two equal first items the rests are equal, where they are looked at
-abbrev pub SameRest : Item → List ℕ → List ℕ → Type 0
-SameRest (asks request) rest other = rest ≡ other
-SameRest _ rest other = Unit {0}
+abbrev pub EqualRests : Item → List ℕ → List ℕ → Type 0
+EqualRests (asks request) rest other = rest ≡ other
+EqualRests _ rest other = Unit {0}
 
 -- the reply to the item ends the connection
 abbrev pub ends_connection : Item → Bool
@@ -111,28 +112,28 @@ ends_connection _ = true
 
 -- The sequence of items of a connection's bytes, after `before` requests: one after the other, up
 -- to one that ends the connection, or to the end of the bytes.
-abbrev pub Talk : ℕ → List ℕ → List Item → Type 0
-Talk before bytes [] = bytes ≡ []
-Talk before bytes (item ∷ items) =
+abbrev pub IsItemSequence : ℕ → List ℕ → List Item → Type 0
+IsItemSequence before bytes [] = bytes ≡ []
+IsItemSequence before bytes (item ∷ items) =
     (rest : List ℕ) × FirstItem before bytes item rest
-    × MatchBool (ends_connection item) (items ≡ []) (Talk (before + 1) rest items)
+    × MatchBool (ends_connection item) (items ≡ []) (IsItemSequence (before + 1) rest items)
 
 -- The item is complete at the front of these bytes, whatever follows them: a head and a body, or
 -- enough to show that there is no request.
-abbrev pub LiesWhole : ℕ → List ℕ → Item → Type 0
-LiesWhole before bytes (asks request) = (rest : List ℕ) × AsksFor before bytes request rest
-LiesWhole before bytes bad =
+abbrev pub IsComplete : ℕ → List ℕ → Item → Type 0
+IsComplete before bytes (asks request) = (rest : List ℕ) × AsksFor before bytes request rest
+IsComplete before bytes bad =
     IsFramed Bad bytes
-    ⊎ BehindHead Chunked bytes (λ rest.
+    ⊎ AfterHead Chunked bytes (λ rest.
     ¬ (MayBecomeBody rest) × HasNoBody rest × ¬ (PassesLimit rest))
-LiesWhole before bytes too_long = IsTooLong bytes
-LiesWhole before bytes coded = IsFramed Coded bytes
+IsComplete before bytes too_long = IsTooLong bytes
+IsComplete before bytes coded = IsFramed Coded bytes
 
 -- No item is complete in these bytes: there is no head, or its body isn't complete yet.
 pub data IsUnfinished (bytes : List ℕ) : Type 0 where
   lacks_head : HasNoHead bytes → IsUnfinished bytes
-  lacks_body : (len : ℕ) → BehindHead (Length len) bytes (λ rest. length rest < len)
+  lacks_body : (len : ℕ) → AfterHead (Length len) bytes (λ rest. length rest < len)
       → IsUnfinished bytes
-  lacks_chunks : BehindHead Chunked bytes (λ rest.
+  lacks_chunks : AfterHead Chunked bytes (λ rest.
       MayBecomeBody rest × HasNoBody rest × ¬ (PassesLimit rest))
       → IsUnfinished bytes

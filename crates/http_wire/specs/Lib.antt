@@ -3,7 +3,6 @@ pub mod Fields
 pub mod Framing
 pub mod Heads
 pub mod Items
-pub mod Limits
 pub mod NextRequests
 pub mod ServedConnections
 pub mod inner

@@ -5,7 +5,7 @@
 -- their end; so this applies to real sockets, too.
 use Rattle.std.specs.Prelude.{◌≡◌, ℕ, ◌+◌, ◌<◌, ◌⊎◌, Bool, true, false, List, [], ◌∷◌, ◌++◌, length}
 use Rattle.std.specs.Prelude.{take, Option, None, option_to_list}
-use Rattle.xcap_io.specs.Causes.{RoseBy}
+use Rattle.xcap_io.specs.Causes.{RoseBy, StreamState}
 use Rattle.xcap_io.specs.Histories.{Traffic}
 use Rattle.http_wire.specs.declared.close_reason.CloseReason.{CloseReason}
 use Rattle.http_wire.specs.declared.close_reason.CloseReason.TheVariants.{Closed, ReadFailed}
@@ -13,6 +13,57 @@ use Rattle.http_wire.specs.declared.close_reason.CloseReason.TheVariants.{WriteF
 use Rattle.http_wire.specs.declared.request.Request.{Request}
 use Rattle.http_wire.specs.Items.{Item, asks, bad, too_long, coded, IsFirst, AsksFor}
 use Rattle.http_wire.specs.Items.{ends_connection, IsUnfinished}
+
+-- What a connection has to answer: how many requests came before, the bytes given after them, and
+-- whether a read found the end.
+pub record PendingInput : Type 0 where
+  pub before : ℕ
+  pub given : List ℕ
+  pub ended : Bool
+
+-- what was done on an item: the bytes written, the machine's next state, and the edit, if there was
+-- one
+pub record ItemAnswer (M E : Type 0) : Type 0 where
+  pub written : List ℕ
+  pub next : M
+  pub edit : Option E
+
+-- what was done on requests, one after the other: the bytes written, the edits, the machine's next
+-- state, and the bytes that follow the requests
+pub record RunAnswer (M E : Type 0) : Type 0 where
+  pub written : List ℕ
+  pub edits : List E
+  pub next : M
+  pub rest : List ℕ
+
+-- how many connections ended with a failed read
+abbrev pub read_failures : List CloseReason → ℕ
+read_failures [] = 0
+read_failures (ReadFailed ∷ endings) = read_failures endings + 1
+read_failures (_ ∷ endings) = read_failures endings
+
+abbrev pub write_failures : List CloseReason → ℕ
+write_failures [] = 0
+write_failures (WriteFailed ∷ endings) = write_failures endings + 1
+write_failures (_ ∷ endings) = write_failures endings
+
+-- a machine, and how many reads and how many writes have failed
+pub record MachineAndFaults (M : Type 0) : Type 0 where
+  pub machine : M
+  pub read_faults : ℕ
+  pub write_faults : ℕ
+
+abbrev pub without_faults : {M : Type 0} → M → MachineAndFaults M
+without_faults machine = record { machine = machine; read_faults = 0; write_faults = 0 }
+
+-- a machine that is served on this stream
+abbrev pub on_stream : {M : Type 0} → M → StreamState → MachineAndFaults M
+on_stream machine stream =
+    record {
+      machine = machine;
+      read_faults = stream.read_faults;
+      write_faults = stream.write_faults;
+    }
 
 module _ {M E : Type 0} (Step : M → Request → List ℕ → M → Option E → Type 0)
     (fixed : ℕ → List ℕ) where
@@ -25,55 +76,54 @@ module _ {M E : Type 0} (Step : M → Request → List ℕ → M → Option E �
   AnswersItem machine coded reply next edit = (reply ≡ fixed 501) × (next ≡ machine) × (edit ≡ None)
 
   -- The bytes, after `before` requests, begin with these requests, none of which ends the
-  -- connection, and then rest. The machine answers them one after the other; the replies are
-  -- joined, and the edits are in order.
-  abbrev pub Run : ℕ → M → List ℕ → List Request → List ℕ → List E → M → List ℕ → Type 0
-  Run before machine bytes [] written edits next rest =
-      (written ≡ []) × (edits ≡ []) × (next ≡ machine) × (bytes ≡ rest)
-  Run before machine bytes (request ∷ requests) written edits next rest =
+  -- connection. The machine answers them one after the other; the replies are joined, and the
+  -- edits are in order.
+  abbrev pub Run : ℕ → M → List ℕ → List Request → RunAnswer M E → Type 0
+  Run before machine bytes [] answer =
+      (answer.written ≡ []) × (answer.edits ≡ []) × (answer.next ≡ machine) × (bytes ≡ answer.rest)
+  Run before machine bytes (request ∷ requests) answer =
       (behind : List ℕ) × (reply : List ℕ) × (mid : M) × (edit : Option E) × (more : List ℕ)
       × (later : List E)
       × AsksFor before bytes request behind × (request.closes ≡ false)
       × Step machine request reply mid edit
-      × (written ≡ reply ++ more) × (edits ≡ option_to_list edit ++ later)
-      × Run (before + 1) mid behind requests more later next rest
+      × (answer.written ≡ reply ++ more) × (answer.edits ≡ option_to_list edit ++ later)
+      × Run (before + 1) mid behind requests (record answer { written = more; edits = later })
 
-  -- How a connection that was closed ends, after `before` requests, by the bytes given after them
-  -- and whether a read found the end: with no further reply, where no byte was given and the end
-  -- was found; with the reply to an item that ends it; or with the fixed 503 in place of a
+  -- How a connection that was closed ends: with no further reply, where no byte was given and the
+  -- end was found; with the reply to an item that ends it; or with the fixed 503 in place of a
   -- request, which means out of memory and changes nothing.
-  pub data Closes (before : ℕ) (machine : M) (given : List ℕ) (ended : Bool) (reply : List ℕ)
-      (next : M) (edit : Option E) : Type 0 where
-    no_more : given ≡ [] → ended ≡ true → reply ≡ [] → next ≡ machine → edit ≡ None
-        → Closes before machine given ended reply next edit
-    last_item : (item : Item) → IsFirst before given ended item → ends_connection item ≡ true
-        → AnswersItem machine item reply next edit
-        → Closes before machine given ended reply next edit
-    no_memory : (request : Request) (rest : List ℕ) → AsksFor before given request rest
-        → reply ≡ fixed 503
-        → next ≡ machine → edit ≡ None → Closes before machine given ended reply next edit
+  pub data Closes (input : PendingInput) (machine : M) (answer : ItemAnswer M E) : Type 0 where
+    no_more : input.given ≡ [] → input.ended ≡ true → answer.written ≡ []
+        → answer.next ≡ machine → answer.edit ≡ None → Closes input machine answer
+    last_item : (item : Item) → IsFirst input.before input.given input.ended item
+        → ends_connection item ≡ true
+        → AnswersItem machine item answer.written answer.next answer.edit
+        → Closes input machine answer
+    no_memory : (request : Request) (rest : List ℕ)
+        → AsksFor input.before input.given request rest → answer.written ≡ fixed 503
+        → answer.next ≡ machine → answer.edit ≡ None → Closes input machine answer
 
   -- A request that keeps the connection open is answered.
-  pub record GoesOn (before : ℕ) (machine : M) (bytes reply : List ℕ) (next : M) (edit : Option E)
-      (rest : List ℕ) : Type 0 where
+  pub record GoesOn (input : PendingInput) (machine : M) (answer : ItemAnswer M E) (rest : List ℕ)
+      : Type 0 where
     pub request : Request
-    pub asked : AsksFor before bytes request rest
+    pub asked : AsksFor input.before input.given request rest
     pub stays : request.closes ≡ false
-    pub step : Step machine request reply next edit
+    pub step : Step machine request answer.written answer.next answer.edit
 
-  -- How a connection ends after `before` requests, by the bytes given after them, and what is
-  -- written then. Where a read failed, no item is complete in these bytes. A failed write leaves a
-  -- proper prefix of a reply, and the item has had its effect.
-  abbrev pub EndsBy : CloseReason → ℕ → M → List ℕ → Bool → List ℕ → M → Option E → Type 0
-  EndsBy Closed before machine given ended written next edit =
-      Closes before machine given ended written next edit
-  EndsBy ReadFailed before machine given ended written next edit =
-      IsUnfinished given × (written ≡ []) × (next ≡ machine) × (edit ≡ None)
-  EndsBy WriteFailed before machine given ended written next edit =
+  -- How a connection ends, and what is written then. Where a read failed, no item is complete in
+  -- the bytes given. A failed write leaves a proper prefix of a reply, and the item has had its
+  -- effect.
+  abbrev pub EndsBy : CloseReason → PendingInput → M → ItemAnswer M E → Type 0
+  EndsBy Closed input machine answer = Closes input machine answer
+  EndsBy ReadFailed input machine answer =
+      IsUnfinished input.given × (answer.written ≡ []) × (answer.next ≡ machine)
+      × (answer.edit ≡ None)
+  EndsBy WriteFailed input machine answer =
       (reply : List ℕ) × (n : ℕ)
-      × (n < length reply) × (written ≡ take n reply)
-      × (Closes before machine given ended reply next edit
-      ⊎ ((rest : List ℕ) × GoesOn before machine given reply next edit rest))
+      × (n < length reply) × (answer.written ≡ take n reply)
+      × (Closes input machine (record answer { written = reply })
+      ⊎ ((rest : List ℕ) × GoesOn input machine (record answer { written = reply }) rest))
 
   -- One connection with this traffic: requests at the front of the bytes given, after which it
   -- went on, and then what ended it. The replies to these items, one after the other, are the
@@ -87,8 +137,11 @@ module _ {M E : Type 0} (Step : M → Request → List ℕ → M → Option E �
     pub behind : List ℕ
     pub last : List ℕ
     pub edit : Option E
-    pub run : Run 0 machine passed.given requests replies early mid behind
-    pub ends : EndsBy ending (length requests) mid behind passed.ended last next edit
+    pub run : Run 0 machine passed.given requests
+        (record { written = replies; edits = early; next = mid; rest = behind })
+    pub ends : EndsBy ending
+        (record { before = length requests; given = behind; ended = passed.ended })
+        mid (record { written = last; next = next; edit = edit })
     pub wrote : passed.taken ≡ replies ++ last
     pub all_told : edits ≡ early ++ option_to_list edit
 
@@ -102,6 +155,14 @@ module _ {M E : Type 0} (Step : M → Request → List ℕ → M → Option E �
       × (endings ≡ ending ∷ others) × (edits ≡ first ++ later)
       × Serves ending machine passed mid first
       × ServesEach mid connections others next later
+
+  -- All connections, where each failure is one of the reads or writes that failed.
+  pub record ServesAll (old new : MachineAndFaults M) (connections : List Traffic)
+      (edits : List E) : Type 0 where
+    pub endings : List CloseReason
+    pub each : ServesEach old.machine connections endings new.machine edits
+    pub read_bound : RoseBy (read_failures endings) old.read_faults new.read_faults
+    pub write_bound : RoseBy (write_failures endings) old.write_faults new.write_faults
 
 -- These are all bytes of a connection with this traffic: those given, and those left, of which
 -- there are none where a read found the end.
@@ -128,23 +189,3 @@ counted_each (passed ∷ connections) [] endings = passed ∷ connections
 counted_each (passed ∷ connections) (bytes ∷ all) [] = passed ∷ connections
 counted_each (passed ∷ connections) (bytes ∷ all) (ending ∷ endings) =
     counted ending bytes passed ∷ counted_each connections all endings
-
--- how many connections ended with a failed read
-abbrev pub read_failures : List CloseReason → ℕ
-read_failures [] = 0
-read_failures (ReadFailed ∷ endings) = read_failures endings + 1
-read_failures (_ ∷ endings) = read_failures endings
-
-abbrev pub write_failures : List CloseReason → ℕ
-write_failures [] = 0
-write_failures (WriteFailed ∷ endings) = write_failures endings + 1
-write_failures (_ ∷ endings) = write_failures endings
-
--- All connections, where each failure is one of the reads or writes that failed.
-pub record ServesAll {M E : Type 0} (Step : M → Request → List ℕ → M → Option E → Type 0)
-    (fixed : ℕ → List ℕ) (machine : M) (connections : List Traffic) (next : M) (edits : List E)
-    (reads reads' writes writes' : ℕ) : Type 0 where
-  pub endings : List CloseReason
-  pub each : ServesEach Step fixed machine connections endings next edits
-  pub read_bound : RoseBy (read_failures endings) reads reads'
-  pub write_bound : RoseBy (write_failures endings) writes writes'

@@ -4,7 +4,7 @@ ghost use Rattle.xcap_io.specs.Causes.{OnlyReads};
 ghost use Rattle.http_wire.specs.inner.ReadBuffer.{Decodes};
 
 use crate::chunk_decoder::{ChunkState, Decoder};
-use crate::limits::MAX_HEAD;
+use crate::limits::MAX_HEAD_BYTES;
 use crate::request_reader::{ReadBuffer, ReadFault};
 use xcap_io::{Line, Source};
 
@@ -28,7 +28,7 @@ pub fn decode<S: Source>(
     head: usize,
 ) -> Result<DecodeResult, ReadFault>
     requires inside { head ≤ length read_buffer.old }
-    requires length_bounded { head ≤ MAX_HEAD }
+    requires length_bounded { head ≤ MAX_HEAD_BYTES }
     ensures decodes_body { Decodes head
         (record { held = read_buffer.old; source = (S.state source.old).inward }) result
         decoder.new.body

@@ -7,7 +7,7 @@ ghost use Rattle.http_wire.specs.inner.ChunkDecoder.{in_trailers, if_feed, next_
 ghost use Rattle.http_wire.specs.inner.ChunkDecoder.{next_decoding};
 ghost use Rattle.http_wire.specs.inner.ChunkDecoder.{ReadsOn, Fits};
 
-use crate::limits::{MAX_BODY, MAX_DIGITS, MAX_LINE, MAX_TRAILERS};
+use crate::limits::{MAX_BODY_BYTES, MAX_DIGITS, MAX_LINE, MAX_TRAILER_BYTES};
 use httparse::{is_header_value_token, is_space_or_tab, parse_hex_digit};
 use std::alloc::Global;
 use std::marker::Model;
@@ -68,14 +68,14 @@ fn after_digits(value: usize, len: usize, byte: u8) -> ChunkState
 
 fn in_digits(digits: usize, value: usize, byte: u8) -> ChunkState
     requires within_max { digits ≤ MAX_DIGITS }
-    requires capped { value ≤ MAX_BODY + 1 }
+    requires capped { value ≤ MAX_BODY_BYTES + 1 }
     ensures exact { result ≡ in_digits digits value byte }
 {
     match parse_hex_digit(byte) {
         Some(_) if digits >= MAX_DIGITS => ChunkState::Bad,
         Some(digit) => ChunkState::Size {
             digits: digits + 1,
-            value: (value * 16 + digit as usize).min(MAX_BODY + 1),
+            value: (value * 16 + digit as usize).min(MAX_BODY_BYTES + 1),
         },
         None if digits == 0 => ChunkState::Bad,
         None => after_digits(value, digits, byte),
@@ -99,15 +99,15 @@ fn in_extension(value: usize, len: usize, byte: u8) -> ChunkState
 }
 
 fn after_line(value: usize, decoded: usize, byte: u8) -> ChunkState
-    requires capped { value ≤ MAX_BODY + 1 }
-    requires room_left { decoded ≤ MAX_BODY }
+    requires capped { value ≤ MAX_BODY_BYTES + 1 }
+    requires room_left { decoded ≤ MAX_BODY_BYTES }
     ensures exact { result ≡ after_line value decoded byte }
 {
     if byte != b'\n' {
         ChunkState::Bad
     } else if value == 0 {
         ChunkState::Trailers { used: 0 }
-    } else if decoded + value <= MAX_BODY {
+    } else if decoded + value <= MAX_BODY_BYTES {
         ChunkState::Data { left: value }
     } else {
         ChunkState::TooLong
@@ -115,12 +115,12 @@ fn after_line(value: usize, decoded: usize, byte: u8) -> ChunkState
 }
 
 fn in_trailers(used: usize, byte: u8, end: ChunkState) -> ChunkState
-    requires { used ≤ MAX_TRAILERS }
+    requires { used ≤ MAX_TRAILER_BYTES }
     ensures exact { result ≡ in_trailers used byte end }
 {
     if byte == b'\r' {
         end
-    } else if byte != b'\n' && used + 3 <= MAX_TRAILERS {
+    } else if byte != b'\n' && used + 3 <= MAX_TRAILER_BYTES {
         ChunkState::Trailer { used: used + 1 }
     } else {
         ChunkState::Bad
@@ -176,14 +176,15 @@ pub struct Decoder {
 impl Model for Decoder {
     ghost use Rattle.std.specs.Prelude.{◌≡◌, ◌≤◌, length, take};
     ghost use Rattle.http_wire.specs.inner.ChunkDecoder.{Decoding, Fits};
-    ghost use Rattle.http_wire.specs.declared.limits.TheConstants.{MAX_BODY};
+    ghost use Rattle.http_wire.specs.declared.limits.TheConstants.{MAX_BODY_BYTES};
 
     ghost Value = { Decoding };
 
     ghost view = { λ d. record { stage = d.stage; body = take d.decoded d.buffer.items } };
 
     ghost invariant = { λ d.
-        (length d.buffer.items ≡ MAX_BODY) × (d.decoded ≤ MAX_BODY) × Fits d.stage d.decoded };
+        (length d.buffer.items ≡ MAX_BODY_BYTES) × (d.decoded ≤ MAX_BODY_BYTES)
+        × Fits d.stage d.decoded };
 }
 
 impl Decoder {
@@ -195,7 +196,7 @@ impl Decoder {
                 digits: 0,
                 value: 0,
             },
-            buffer: vec![in alloc; 0; MAX_BODY]?,
+            buffer: vec![in alloc; 0; MAX_BODY_BYTES]?,
             decoded: 0,
         })
     }

@@ -10,7 +10,7 @@ ghost use Rattle.http_wire.specs.Fields.{asks_to_close, Found};
 ghost use Rattle.http_wire.specs.Framing.{lacks_host, length_by, coding_by, framing};
 ghost use Rattle.http_wire.specs.inner.ReadBuffer.{IsWithinLimit};
 
-use crate::limits::MAX_BODY;
+use crate::limits::MAX_BODY_BYTES;
 use httparse::is_space_or_tab;
 use httparse::spans::HeaderSpan;
 
@@ -103,7 +103,7 @@ fn capped_number(digits: &[u8]) -> Option<usize>
         if !digit.is_ascii_digit() {
             return None;
         }
-        value = (value * 10 + (*digit - b'0') as usize).min(MAX_BODY + 1);
+        value = (value * 10 + (*digit - b'0') as usize).min(MAX_BODY_BYTES + 1);
     }
     Some(value)
 }
@@ -115,7 +115,7 @@ fn length_of(value: &[u8]) -> Framing
 {
     match capped_number(value) {
         None => Framing::Bad,
-        Some(len) if len > MAX_BODY => Framing::TooLong,
+        Some(len) if len > MAX_BODY_BYTES => Framing::TooLong,
         Some(len) => Framing::Length(len),
     }
 }

@@ -4,7 +4,7 @@ ghost use Rattle.xcap_io.specs.Causes.{OnlyReads};
 ghost use Rattle.http_wire.specs.Heads.{HasNoHead};
 ghost use Rattle.http_wire.specs.inner.ReadBuffer.{IsFront, Gains, HeadOrNone};
 
-use crate::limits::{MAX_FIELDS, MAX_HEAD};
+use crate::limits::{MAX_FIELD_LINES, MAX_HEAD_BYTES};
 use crate::request_reader::{ReadBuffer, ReadFault};
 use httparse::Status;
 use httparse::spans::{HeaderSpan, RequestSpans, parse_request};
@@ -21,13 +21,13 @@ pub enum HeadScan {
 }
 
 fn scan_head(bytes: &[u8], headers: &mut [HeaderSpan]) -> HeadScan
-    requires { length headers.old ≡ MAX_FIELDS }
+    requires { length headers.old ≡ MAX_FIELD_LINES }
     ensures head_of_bytes { IsFront bytes.now headers.new result }
 {
-    let start = &bytes[..bytes.len().min(MAX_HEAD)];
+    let start = &bytes[..bytes.len().min(MAX_HEAD_BYTES)];
     match parse_request(start, headers) {
         Ok(Status::Complete(spans)) => HeadScan::Head(spans),
-        Ok(Status::Partial) if bytes.len() < MAX_HEAD => HeadScan::Open,
+        Ok(Status::Partial) if bytes.len() < MAX_HEAD_BYTES => HeadScan::Open,
         Err(_) if bytes.is_empty() => HeadScan::Open,
         _ => HeadScan::Hopeless,
     }
@@ -36,12 +36,12 @@ fn scan_head(bytes: &[u8], headers: &mut [HeaderSpan]) -> HeadScan
 // Scans again after more bytes. A head ends with a line feed: if the first `seen` bytes are no
 // head and no line feed follows them, there is still none.
 fn look_on(bytes: &[u8], seen: usize, headers: &mut [HeaderSpan]) -> HeadScan
-    requires slots { length headers.old ≡ MAX_FIELDS }
+    requires slots { length headers.old ≡ MAX_FIELD_LINES }
     requires inside { seen ≤ length bytes.now }
     requires no_head_yet { HasNoHead (take seen bytes.now) }
     ensures head_of_all { IsFront bytes.now headers.new result }
 {
-    if seen > 0 && bytes.len() < MAX_HEAD && !bytes[seen..].contains(&b'\n') {
+    if seen > 0 && bytes.len() < MAX_HEAD_BYTES && !bytes[seen..].contains(&b'\n') {
         return HeadScan::Open;
     }
     scan_head(bytes, headers)
@@ -53,7 +53,7 @@ pub fn read_head<S: Source>(
     read_buffer: &mut ReadBuffer,
     headers: &mut [HeaderSpan],
 ) -> Result<Option<RequestSpans>, ReadFault>
-    requires { length headers.old ≡ MAX_FIELDS }
+    requires { length headers.old ≡ MAX_FIELD_LINES }
     ensures gains_source_bytes { Gains read_buffer.old read_buffer.new (S.state source.old).inward
         (S.state source.new).inward }
     ensures head_or_none { IfOk result

@@ -1,7 +1,8 @@
 // Laws of the definitions that the contracts cite.
 ghost use Rattle.std.specs.Prelude.{◌≡◌, ◌↔◌, ◌++◌, true, List, ℕ};
 ghost use Rattle.xcap_io.specs.Histories.{Traffic};
-ghost use Rattle.http_wire.specs.Items.{Item, FirstItem, IsFirst, SameRest, Talk, LiesWhole};
+ghost use Rattle.http_wire.specs.Items.{Item, FirstItem, IsFirst, EqualRests, IsItemSequence};
+ghost use Rattle.http_wire.specs.Items.{IsComplete};
 ghost use Rattle.http_wire.specs.Items.{IsUnfinished};
 ghost use Rattle.http_wire.specs.ServedConnections.{HasBytes};
 
@@ -10,19 +11,19 @@ ghost use Rattle.http_wire.specs.ServedConnections.{HasBytes};
 pub fn bytes_have_one_item_sequence()
     ensures first_item_unique { (before : ℕ) (bytes rest other : List ℕ) (x y : Item)
         → FirstItem before bytes x rest
-        → FirstItem before bytes y other → (x ≡ y) × SameRest x rest other }
+        → FirstItem before bytes y other → (x ≡ y) × EqualRests x rest other }
     ensures sequences_agree { (before : ℕ) (bytes : List ℕ) (xs ys : List Item)
-        → Talk before bytes xs → Talk before bytes ys → xs ≡ ys }
+        → IsItemSequence before bytes xs → IsItemSequence before bytes ys → xs ≡ ys }
 {}
 
 /// A law: an item that is complete in some bytes is the first item whatever follows them, and
 /// unfinished bytes have no complete item.
 pub fn whole_items_stay()
     ensures whole_item_first { (before : ℕ) (bytes more : List ℕ) (item : Item)
-        → LiesWhole before bytes item
+        → IsComplete before bytes item
         → (rest : List ℕ) × FirstItem before (bytes ++ more) item rest }
     ensures unfinished_not_whole { (before : ℕ) (bytes : List ℕ) (item : Item) → IsUnfinished bytes
-        → ¬ (LiesWhole before bytes item) }
+        → ¬ (IsComplete before bytes item) }
 {}
 
 /// A law: where all bytes of a connection are known, those given and those left, of which there

@@ -6,7 +6,7 @@ ghost use Rattle.http_wire.specs.NextRequests.{RequestReaderState, fresh_request
 ghost use Rattle.http_wire.specs.inner.ReadBuffer.{Gains, GainedOrEnded, HoldsOrEnded};
 
 use crate::chunk_decoder::Decoder;
-use crate::limits::MAX_HELD;
+use crate::limits::MAX_HELD_BYTES;
 use std::alloc::Global;
 use std::marker::Model;
 use xcap_io::{Failed, Line, NoMemory, Source};
@@ -25,14 +25,14 @@ pub struct ReadBuffer {
 
 impl Model for ReadBuffer {
     ghost use Rattle.std.specs.Prelude.{◌≡◌, ◌≤◌, ℕ, List, length, slice_range};
-    ghost use Rattle.http_wire.specs.declared.limits.TheConstants.{MAX_HELD};
+    ghost use Rattle.http_wire.specs.declared.limits.TheConstants.{MAX_HELD_BYTES};
 
     ghost Value = { List ℕ };
 
     ghost view = { λ i. slice_range i.buffer.items i.start i.end };
 
     ghost invariant = { λ i.
-        (i.start ≤ i.end) × (i.end ≤ MAX_HELD) × (length i.buffer.items ≡ MAX_HELD) };
+        (i.start ≤ i.end) × (i.end ≤ MAX_HELD_BYTES) × (length i.buffer.items ≡ MAX_HELD_BYTES) };
 }
 
 // Moves a range of the buffer to its front.
@@ -52,7 +52,7 @@ impl ReadBuffer {
         ensures holds_no_bytes { IfOk result (λ read_buffer. read_buffer ≡ []) }
     {
         Ok(ReadBuffer {
-            buffer: vec![in alloc; 0; MAX_HELD]?,
+            buffer: vec![in alloc; 0; MAX_HELD_BYTES]?,
             start: 0,
             end: 0,
         })
@@ -60,14 +60,14 @@ impl ReadBuffer {
 
     pub fn bytes(&self) -> &[u8]
         ensures exact { result.now ≡ self.now }
-        ensures at_most_limit { length self.now ≤ MAX_HELD }
+        ensures at_most_limit { length self.now ≤ MAX_HELD_BYTES }
     {
         &self.buffer[self.start..self.end]
     }
 
     pub fn len(&self) -> usize
         ensures exact { result ≡ length self.now }
-        ensures at_most_limit { length self.now ≤ MAX_HELD }
+        ensures at_most_limit { length self.now ≤ MAX_HELD_BYTES }
     {
         self.end - self.start
     }
@@ -98,7 +98,7 @@ impl ReadBuffer {
     // only if no item is complete in the buffered bytes, and the first read for an item moves them
     // to the front: so no byte is moved twice.
     pub fn fill<S: Source>(&mut self, source: &mut S) -> Result<bool, ReadFault>
-        requires { length self.old < MAX_HELD }
+        requires { length self.old < MAX_HELD_BYTES }
         ensures gains_source_bytes { Gains self.old self.new (S.state source.old).inward
             (S.state source.new).inward }
         ensures gained_or_ended { IfOk result
@@ -121,7 +121,7 @@ impl ReadBuffer {
 
     // Reads until `count` bytes are buffered. False if the source ends before.
     pub fn fill_to<S: Source>(&mut self, source: &mut S, count: usize) -> Result<bool, ReadFault>
-        requires { count ≤ MAX_HELD }
+        requires { count ≤ MAX_HELD_BYTES }
         ensures gains_source_bytes { Gains self.old self.new (S.state source.old).inward
             (S.state source.new).inward }
         ensures enough_or_ended { IfOk result
@@ -189,7 +189,7 @@ impl RequestReader {
     /// The number of bytes read and not used yet: 278,528 at most. Does not allocate.
     pub fn held(&self) -> usize
         ensures exact { result ≡ length self.now.held }
-        ensures at_most_limit { result ≤ MAX_HELD }
+        ensures at_most_limit { result ≤ MAX_HELD_BYTES }
     {
         self.read_buffer.len()
     }

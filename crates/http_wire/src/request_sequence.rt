@@ -9,7 +9,7 @@ use crate::body_decoder::{DecodeResult, decode};
 use crate::chunk_decoder::Decoder;
 use crate::framing::{Framing, read_framing};
 use crate::head_scan::read_head;
-use crate::limits::{MAX_BODY, MAX_FIELDS};
+use crate::limits::{MAX_BODY_BYTES, MAX_FIELD_LINES};
 use crate::request::{Asked, make_request};
 use crate::request_reader::{ReadBuffer, ReadFault, RequestReader};
 use httparse::spans::{EMPTY_HEADER_SPAN, HeaderSpan, RequestSpans};
@@ -27,7 +27,7 @@ fn read_plain<S: Source>(
     before: usize,
 ) -> Result<Asked, ReadFault>
     requires open_at { IsOpenAt read_buffer.old headers.now spans.now (Framing.Length len) }
-    requires within_body_limit { len ≤ MAX_BODY }
+    requires within_body_limit { len ≤ MAX_BODY_BYTES }
     ensures first_item { Asks before
         (record { held = read_buffer.old; source = (S.state source.old).inward }) result
         (record { held = read_buffer.new; source = (S.state source.new).inward }) }
@@ -86,7 +86,7 @@ fn read_chunked<S: Source>(
 }
 
 // Reads the item whose head was found at the front, by its framing.
-fn read_behind<S: Source>(
+fn read_after_head<S: Source>(
     alloc: Global,
     source: &mut S,
     read_buffer: &mut ReadBuffer,
@@ -135,9 +135,9 @@ fn read_item<S: Source>(
         (record { held = read_buffer.new; source = (S.state source.new).inward }) }
     ensures only_reads { OnlyReads (S.state source.old) (S.state source.new) result }
 {
-    let mut headers = [EMPTY_HEADER_SPAN; MAX_FIELDS];
+    let mut headers = [EMPTY_HEADER_SPAN; MAX_FIELD_LINES];
     match read_head(source, read_buffer, &mut headers)? {
-        Some(spans) => read_behind(
+        Some(spans) => read_after_head(
             alloc,
             source,
             read_buffer,

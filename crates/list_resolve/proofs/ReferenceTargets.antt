@@ -24,9 +24,9 @@ use Rattle.list_resolve.specs.declared.reference.ReferenceTarget.{ReferenceTarge
 use Rattle.list_resolve.specs.declared.reference.Reference.{Reference}
 use Rattle.list_resolve.specs.References.{is_wanted}
 use Rattle.list_resolve.specs.ScopedElements.{ScopedElement, list_element}
-use Rattle.list_resolve.specs.Resolution.{ResolutionContext, ResolvedReference, AreLeads, is_own, lead_at, lead_of, tree_held}
+use Rattle.list_resolve.specs.Resolution.{ResolutionContext, ResolvedReference, ResolvesReferences, is_own, resolve_at, resolve_target, tree_held}
 use Rattle.list_resolve.specs.declared.resolution.ResolvedReference.{ResolvedReference as CodeLead}
-use Rattle.list_resolve.specs.inner.Views.{lead_in, scoped_element_in}
+use Rattle.list_resolve.specs.inner.Views.{resolved_in, scoped_element_in}
 use Rattle.list_resolve.specs.inner.SkippedElements.{reference_resolved_in, lists_named, scoped_element_at, target_meant}
 
 -- ---- by the only result of a target
@@ -36,24 +36,24 @@ pub meant : (root target : List ℕ) (read : Result Target UriFault) → TargetR
 unfolding target_meant
 meant root target read is = one_target root (encode_utf8_all target) read (some_target root (encode_utf8_all target)).0 is (some_target root (encode_utf8_all target)).1
 
-pub led : (g : ResolutionContext) (r : Reference) (read : Result Target UriFault) → TargetResult g.root (encode_utf8_all r.target) read → lead_of g r.wanted read ≡ reference_resolved_in g r
-led g r read is = ap (lead_of g r.wanted) (meant g.root r.target read is)
+pub led : (g : ResolutionContext) (r : Reference) (read : Result Target UriFault) → TargetResult g.root (encode_utf8_all r.target) read → resolve_target g r.wanted read ≡ reference_resolved_in g r
+led g r read is = ap (resolve_target g r.wanted) (meant g.root r.target read is)
 
 is_meant : (root target : List ℕ) → TargetResult root (encode_utf8_all target) (target_meant root target)
 unfolding target_meant
 is_meant root target = (some_target root (encode_utf8_all target)).1
 
-pub are_leads : (g : ResolutionContext) → AreLeads g (reference_resolved_in g)
+pub are_leads : (g : ResolutionContext) → ResolvesReferences g (reference_resolved_in g)
 are_leads g = λ r. (target_meant g.root r.target, is_meant g.root r.target, refl)
 
-one_lead : (g : ResolutionContext) (r : Reference) (found : Option ResolvedReference) → ((read : Result Target UriFault) × TargetResult g.root (encode_utf8_all r.target) read × (found ≡ lead_of g r.wanted read)) → found ≡ reference_resolved_in g r
+one_lead : (g : ResolutionContext) (r : Reference) (found : Option ResolvedReference) → ((read : Result Target UriFault) × TargetResult g.root (encode_utf8_all r.target) read × (found ≡ resolve_target g r.wanted read)) → found ≡ reference_resolved_in g r
 one_lead g r found (read, is, e) = e ∙ led g r read is
 
 -- there is one map of all references
-pub one_map : (g : ResolutionContext) (resolve_reference : Reference → Option ResolvedReference) → AreLeads g resolve_reference → resolve_reference ≡ reference_resolved_in g
+pub one_map : (g : ResolutionContext) (resolve_reference : Reference → Option ResolvedReference) → ResolvesReferences g resolve_reference → resolve_reference ≡ reference_resolved_in g
 one_map g resolve_reference are = λ i r. one_lead g r (resolve_reference r) (are r) i
 
-pub target_led : (g : ResolutionContext) (r : Reference) (bytes : List ℕ) (target : Target) → bytes ≡ encode_utf8_all r.target → TargetResult g.root bytes (Ok target) → lead_of g r.wanted (Ok target) ≡ reference_resolved_in g r
+pub target_led : (g : ResolutionContext) (r : Reference) (bytes : List ℕ) (target : Target) → bytes ≡ encode_utf8_all r.target → TargetResult g.root bytes (Ok target) → resolve_target g r.wanted (Ok target) ≡ reference_resolved_in g r
 target_led g r bytes target same is = led g r (Ok target) (subst (λ (z : List ℕ). TargetResult g.root z (Ok target)) same is)
 
 pub fault_led : (g : ResolutionContext) (r : Reference) (bytes : List ℕ) (error : ReadError UriFault) (fault : UriFault) → bytes ≡ encode_utf8_all r.target → error ≡ Fault fault
@@ -75,8 +75,8 @@ abbrev lead_if : ReferenceTarget → Place → ScopedElement → Option Resolved
 lead_if wanted place scoped_element = if is_wanted wanted scoped_element.kind then Some (lead place scoped_element) else None
 
 -- the element that a selector selects in a document with this name
-abbrev lead_by : ReferenceTarget → List ℕ → Selector → Tree → Option ResolvedReference
-lead_by wanted name selector root = option_and_then (lead_at wanted name root) (selected_in selector.steps root)
+abbrev resolve_by : ReferenceTarget → List ℕ → Selector → Tree → Option ResolvedReference
+resolve_by wanted name selector root = option_and_then (resolve_at wanted name root) (selected_in selector.steps root)
 
 own_name : (home : Home) (doc : DocId) → is_own home doc ≡ true → doc ≡ lists_named home doc.name
 own_name home doc own =
@@ -95,32 +95,32 @@ at_place wanted name root p (Some s) l e h =
     (sym (ap (λ (x : ResolvedReference). x.place) same), e ∙ ap Some (ap (λ (x : ResolvedReference). x.scoped_element) same))
 
 by_path : (wanted : ReferenceTarget) (name : List ℕ) (root : Tree) (path : Option (List ℕ)) (l : ResolvedReference)
-    → option_and_then (lead_at wanted name root) path ≡ Some l → (l.place.name ≡ name) × (list_element root l.place.path ≡ Some l.scoped_element)
+    → option_and_then (resolve_at wanted name root) path ≡ Some l → (l.place.name ≡ name) × (list_element root l.place.path ≡ Some l.scoped_element)
 by_path wanted name root None l h = absurd cc
 by_path wanted name root (Some p) l h =
     let found = at_place wanted name root p (list_element root p) l refl h in
     (ap (λ (x : Place). x.name) found.0, ap (λ (x : Place). list_element root x.path) found.0 ∙ found.1)
 
 in_tree : (wanted : ReferenceTarget) (name : List ℕ) (selector : Selector) (tree : Option Tree) (l : ResolvedReference)
-    → option_and_then (lead_by wanted name selector) tree ≡ Some l → (l.place.name ≡ name) × (option_and_then (λ root. list_element root l.place.path) tree ≡ Some l.scoped_element)
+    → option_and_then (resolve_by wanted name selector) tree ≡ Some l → (l.place.name ≡ name) × (option_and_then (λ root. list_element root l.place.path) tree ≡ Some l.scoped_element)
 in_tree wanted name selector None l h = absurd cc
 in_tree wanted name selector (Some root) l h = by_path wanted name root (selected_in selector.steps root) l h
 
 found_own : (g : ResolutionContext) (wanted : ReferenceTarget) (doc : DocId) (selector : Selector) (l : ResolvedReference) → is_own g.home doc ≡ true
-    → option_and_then (lead_by wanted doc.name selector) (tree_held g.documents doc) ≡ Some l → scoped_element_at g l.place ≡ Some l.scoped_element
+    → option_and_then (resolve_by wanted doc.name selector) (tree_held g.documents doc) ≡ Some l → scoped_element_at g l.place ≡ Some l.scoped_element
 found_own g wanted doc selector l own h =
     let found = in_tree wanted doc.name selector (tree_held g.documents doc) l h in
     let same : doc ≡ lists_named g.home l.place.name = own_name g.home doc own ∙ ap (lists_named g.home) (sym found.0) in
     ap (λ (d : DocId). option_and_then (λ root. list_element root l.place.path) (tree_held g.documents d)) (sym same) ∙ found.1
 
 if_own : (g : ResolutionContext) (wanted : ReferenceTarget) (doc : DocId) (selector : Selector) (l : ResolvedReference) (own element : Bool) → is_own g.home doc ≡ own
-    → cond (own && element) (option_and_then (lead_by wanted doc.name selector) (tree_held g.documents doc)) None ≡ Some l → scoped_element_at g l.place ≡ Some l.scoped_element
+    → cond (own && element) (option_and_then (resolve_by wanted doc.name selector) (tree_held g.documents doc)) None ≡ Some l → scoped_element_at g l.place ≡ Some l.scoped_element
 if_own g wanted doc selector l true true e h = found_own g wanted doc selector l e h
 if_own g wanted doc selector l true false e h = absurd cc
 if_own g wanted doc selector l false element e h = absurd cc
 
 -- only the address of a node leads anywhere
-pub leads_nowhere : (g : ResolutionContext) (wanted : ReferenceTarget) (target : Target) → ((doc : DocId) (selector : Selector) → target ≡ Node doc selector → ⊥) → None ≡ lead_of g wanted (Ok target)
+pub leads_nowhere : (g : ResolutionContext) (wanted : ReferenceTarget) (target : Target) → ((doc : DocId) (selector : Selector) → target ≡ Node doc selector → ⊥) → None ≡ resolve_target g wanted (Ok target)
 leads_nowhere g wanted (Node doc selector) h = absurd (h doc selector refl)
 leads_nowhere g wanted (Document doc) h = refl
 leads_nowhere g wanted (Deep auid home) h = refl
@@ -128,7 +128,7 @@ leads_nowhere g wanted (Feed mode tag doc) h = refl
 leads_nowhere g wanted (ElementFeed tag doc selector raw) h = refl
 leads_nowhere g wanted (Flat doc service) h = refl
 
-lead_there : (g : ResolutionContext) (wanted : ReferenceTarget) (read : Result Target UriFault) (l : ResolvedReference) → lead_of g wanted read ≡ Some l → scoped_element_at g l.place ≡ Some l.scoped_element
+lead_there : (g : ResolutionContext) (wanted : ReferenceTarget) (read : Result Target UriFault) (l : ResolvedReference) → resolve_target g wanted read ≡ Some l → scoped_element_at g l.place ≡ Some l.scoped_element
 lead_there g wanted (Ok (Node doc selector)) l h = if_own g wanted doc selector l (is_own g.home doc) (is_element selector.end) refl h
 lead_there g wanted (Ok (Document doc)) l h = absurd cc
 lead_there g wanted (Ok (Deep auid home)) l h = absurd cc
@@ -141,6 +141,6 @@ lead_there g wanted (Err fault) l h = absurd cc
 there : (g : ResolutionContext) (r : Reference) (l : ResolvedReference) → reference_resolved_in g r ≡ Some l → scoped_element_at g l.place ≡ Some l.scoped_element
 there g r l h = lead_there g r.wanted (target_meant g.root r.target) l h
 
-pub found_there : (g : ResolutionContext) (r : Reference) (found : Option CodeLead) → option_map lead_in found ≡ reference_resolved_in g r → IfSome found (λ l. scoped_element_at g l.place ≡ Some (scoped_element_in l.scoped_element))
+pub found_there : (g : ResolutionContext) (r : Reference) (found : Option CodeLead) → option_map resolved_in found ≡ reference_resolved_in g r → IfSome found (λ l. scoped_element_at g l.place ≡ Some (scoped_element_in l.scoped_element))
 found_there g r None e = tt
-found_there g r (Some l) e = there g r (lead_in l) (sym e)
+found_there g r (Some l) e = there g r (resolved_in l) (sym e)

@@ -6,8 +6,7 @@ use Rattle.std.proofs.lemmas.Option.{same_Some}
 use Rattle.std.specs.Option.{ForSome, option_map_or}
 use Rattle.std.specs.Str.{bytes_eq}
 use Rattle.std.specs.Cmp.Lexicographic.{bytes_decides}
-use Rattle.xml_tree.specs.Tree.{Content, last, more, comment_node}
-use Rattle.xml_names.specs.declared.names.Attr.{Attr}
+use Rattle.xml_tree.specs.Tree.{Content, Tree, last, more, comment_node, tree_of}
 use Rattle.usage_docs.specs.declared.schema_table.ElementKind.{ElementKind}
 use Rattle.usage_docs.specs.declared.schema_table.ElementKind.TheVariants.{ResourceLists, EntryList, Entry, EntryRef, External, DisplayName, RlsServices, Service, ResourceList, Packages, Package}
 use Rattle.usage_docs.specs.SchemaTable.{Scope, kind_of}
@@ -18,7 +17,7 @@ use Rattle.list_resolve.specs.Places.{same_place, is_on}
 use Rattle.list_resolve.specs.ScopedElements.{ScopedElement}
 use Rattle.list_resolve.specs.Resolution.{ResolutionContext}
 use Rattle.list_resolve.specs.Walks.{Item, address, mark, kind_items, scoped_element_items, walked}
-use Rattle.list_resolve.specs.inner.WalkStates.{Tally, Gathered, gathering, with_item, with_items}
+use Rattle.list_resolve.specs.inner.WalkStates.{Tally, Gathered, with_collected_item, with_item, with_items}
 use Rattle.list_resolve.specs.inner.SkippedElements.{AreGathered, IsPassed, IsSound, own_items, scoped_element_at}
 use Rattle.list_resolve.specs.inner.PlaceTests.{place_exact}
 use Rattle.list_resolve.proofs.Walks.{marks_rise, reference_items}
@@ -81,32 +80,32 @@ gathered_now (mark ∷ items) s h = let rise = marks_rise items (with_item s mar
 -- ---- without references it doesn't matter what comes after one
 
 -- what a child gives, if it has an element kind
-abbrev given_if : (Reference → List Item) → List ℕ → Option ElementKind → List Attr → Content → List Item → List Item
-given_if behind root found ats k items = option_map_or (λ kind. kind_items behind root kind ats k items) found []
+abbrev given_if : (Reference → List Item) → List ℕ → Option ElementKind → Tree → List Item → List Item
+given_if behind root found e items = option_map_or (λ kind. kind_items behind root kind e items) found []
 
 module _ (one other : Reference → List Item) (root : List ℕ) (uris : List (List ℕ)) where
   unreferred : (r : Option Reference) → AreGathered uris (reference_items one r) → reference_items one r ≡ reference_items other r
   unreferred None h = refl
   unreferred (Some r) h = absurd h.0
 
-  given_alike : (kind : ElementKind) (ats : List Attr) (k : Content) (items others : List Item) → (AreGathered uris items → items ≡ others)
-      → AreGathered uris (kind_items one root kind ats k items) → kind_items one root kind ats k items ≡ kind_items other root kind ats k others
-  given_alike Entry ats k items others same h = refl
-  given_alike EntryList ats k items others same h = same h
-  given_alike EntryRef ats k items others same h = unreferred (reference_of root EntryRef ats k) h
-  given_alike External ats k items others same h = unreferred (reference_of root External ats k) h
-  given_alike ResourceList ats k items others same h = unreferred (reference_of root ResourceList ats k) h
-  given_alike ResourceLists ats k items others same h = refl
-  given_alike DisplayName ats k items others same h = refl
-  given_alike RlsServices ats k items others same h = refl
-  given_alike Service ats k items others same h = refl
-  given_alike Packages ats k items others same h = refl
-  given_alike Package ats k items others same h = refl
+  given_alike : (kind : ElementKind) (e : Tree) (items others : List Item) → (AreGathered uris items → items ≡ others)
+      → AreGathered uris (kind_items one root kind e items) → kind_items one root kind e items ≡ kind_items other root kind e others
+  given_alike Entry e items others same h = refl
+  given_alike EntryList e items others same h = same h
+  given_alike EntryRef e items others same h = unreferred (reference_of root EntryRef e.attrs e.content) h
+  given_alike External e items others same h = unreferred (reference_of root External e.attrs e.content) h
+  given_alike ResourceList e items others same h = unreferred (reference_of root ResourceList e.attrs e.content) h
+  given_alike ResourceLists e items others same h = refl
+  given_alike DisplayName e items others same h = refl
+  given_alike RlsServices e items others same h = refl
+  given_alike Service e items others same h = refl
+  given_alike Packages e items others same h = refl
+  given_alike Package e items others same h = refl
 
-  given_if_alike : (kind : Option ElementKind) (ats : List Attr) (k : Content) (items others : List Item) → (AreGathered uris items → items ≡ others)
-      → AreGathered uris (given_if one root kind ats k items) → given_if one root kind ats k items ≡ given_if other root kind ats k others
-  given_if_alike None ats k items others same h = refl
-  given_if_alike (Some kind) ats k items others same h = given_alike kind ats k items others same h
+  given_if_alike : (kind : Option ElementKind) (e : Tree) (items others : List Item) → (AreGathered uris items → items ≡ others)
+      → AreGathered uris (given_if one root kind e items) → given_if one root kind e items ≡ given_if other root kind e others
+  given_if_alike None e items others same h = refl
+  given_if_alike (Some kind) e items others same h = given_alike kind e items others same h
 
   both_gathered : (items more_items : List Item) → AreGathered uris (items ++ more_items) → AreGathered uris items × AreGathered uris more_items
   both_gathered [] more_items h = (tt, h)
@@ -118,14 +117,14 @@ module _ (one other : Reference → List Item) (root : List ℕ) (uris : List (L
   walked_alike row c (more t n ds ats k rest) h =
       let kind = kind_of row (c ++ ds ∷ []) n in
       let inner = walked one root EntryList (c ++ ds ∷ []) k in
-      let parts = both_gathered (given_if one root kind ats k inner) (walked one root row c rest) h in
-      let first = given_if_alike kind ats k inner (walked other root EntryList (c ++ ds ∷ []) k) (walked_alike EntryList (c ++ ds ∷ []) k) parts.0 in
+      let parts = both_gathered (given_if one root kind (tree_of n ds ats k) inner) (walked one root row c rest) h in
+      let first = given_if_alike kind (tree_of n ds ats k) inner (walked other root EntryList (c ++ ds ∷ []) k) (walked_alike EntryList (c ++ ds ∷ []) k) parts.0 in
       ap (λ xs. xs ++ walked one root row c rest) first
-      ∙ ap (λ xs. given_if other root kind ats k (walked other root EntryList (c ++ ds ∷ []) k) ++ xs) (walked_alike row c rest parts.1)
+      ∙ ap (λ xs. given_if other root kind (tree_of n ds ats k) (walked other root EntryList (c ++ ds ∷ []) k) ++ xs) (walked_alike row c rest parts.1)
 
   spot_alike : (s : ScopedElement) → AreGathered uris (scoped_element_items one root s) → scoped_element_items one root s ≡ scoped_element_items other root s
   spot_alike s h =
-      given_alike s.kind s.element.attrs s.element.content (walked one root EntryList s.scope s.element.content) (walked other root EntryList s.scope s.element.content)
+      given_alike s.kind s.element (walked one root EntryList s.scope s.element.content) (walked other root EntryList s.scope s.element.content)
       (walked_alike EntryList s.scope s.element.content) h
 
 for_some : (A : Type 0) (P : A → Type 0) (o : Option A) (x : A) → o ≡ Some x → ForSome o P → P x
@@ -163,7 +162,7 @@ all_still g uris more_uris [] grow h = tt
 all_still g uris more_uris (p ∷ ps) grow h = (still_passed g uris more_uris (scoped_element_at g p) grow h.0, all_still g uris more_uris ps grow h.1)
 
 -- one more item leaves them so
-pub sound_with : (g : ResolutionContext) (s : Gathered) (i : Item) → IsSound g s → IsSound g (gathering s i)
+pub sound_with : (g : ResolutionContext) (s : Gathered) (i : Item) → IsSound g s → IsSound g (with_collected_item s i)
 sound_with g s i h = all_still g s.tally.uris (with_item s.tally i).uris s.passed (λ uri there. stays uri s.tally i there) h
 
 one_of_by : (P : Place → Type 0) (p q : Place) (ps : List Place) (b : Bool) → same_place p q ≡ b → ((list_any (same_place p) ps ≡ true) → P p) → (b || list_any (same_place p) ps) ≡ true → P q → P p
@@ -184,7 +183,7 @@ passed_there g s p h sound = one_of (IsPassed g s.tally.uris) p s.passed h sound
 abbrev entry_items : Option (List ℕ) → List Item
 entry_items found = option_map_or (λ uri. address uri ∷ []) found []
 
-pub entry_gathered : (g : ResolutionContext) (uri : List ℕ) (o : Option (List ℕ)) (old new : Gathered) → Some uri ≡ o → new ≡ gathering old (address uri) → IsSound g old
+pub entry_gathered : (g : ResolutionContext) (uri : List ℕ) (o : Option (List ℕ)) (old new : Gathered) → Some uri ≡ o → new ≡ with_collected_item old (address uri) → IsSound g old
     → (new.tally ≡ with_items old.tally (entry_items o)) × IsSound g new
 entry_gathered g uri o old new e h sound = (
   subst (λ (x : Option (List ℕ)). new.tally ≡ with_items old.tally (entry_items x)) e (ap (λ (x : Gathered). x.tally) h),

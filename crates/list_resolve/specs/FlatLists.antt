@@ -16,7 +16,7 @@ use Rattle.list_resolve.specs.declared.fault.FlatFault.{FlatFault}
 use Rattle.list_resolve.specs.declared.fault.FlatFault.TheVariants.{NoService, TooWide}
 use Rattle.list_resolve.specs.declared.reference.Reference.{Reference}
 use Rattle.list_resolve.specs.ScopedElements.{ScopedElement, child_spot, root_element}
-use Rattle.list_resolve.specs.Resolution.{ResolvedReference, AreLeads, tree_held}
+use Rattle.list_resolve.specs.Resolution.{ResolvedReference, ResolvesReferences, tree_held}
 use Rattle.list_resolve.specs.Walks.{Item, address, mark, walk}
 
 -- ---- of a walk
@@ -67,7 +67,8 @@ abbrev pub IsFlatList : StoreContents → List ℕ → DocId → List ℕ → Re
     → Type 0
 IsFlatList c root doc uri answer =
     (resolve_reference : Reference → Option ResolvedReference)
-    × AreLeads (record { documents = c.documents; root = root; home = doc.home }) resolve_reference
+    × ResolvesReferences (record { documents = c.documents; root = root; home = doc.home })
+    resolve_reference
     × (answer
     ≡ option_map_or (λ service. flat_of (walk resolve_reference root service))
     (option_and_then (service_of uri) (tree_held c.documents doc)) (Err NoService))

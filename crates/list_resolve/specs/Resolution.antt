@@ -39,8 +39,8 @@ abbrev pub is_own : Home → DocId → Bool
 is_own home doc = same_auid doc.auid auids.ResourceLists && same_home doc.home home
 
 -- the element at a path of a document with this name, if it is of the expected kind
-abbrev pub lead_at : ReferenceTarget → List ℕ → Tree → List ℕ → Option ResolvedReference
-lead_at wanted name root path =
+abbrev pub resolve_at : ReferenceTarget → List ℕ → Tree → List ℕ → Option ResolvedReference
+resolve_at wanted name root path =
     option_and_then (λ scoped_element.
     if is_wanted wanted scoped_element.kind
     then Some
@@ -53,19 +53,19 @@ abbrev pub tree_held : List StoredDocument → DocId → Option Tree
 tree_held hs doc = option_map (λ h. h.tree) (document_in stored_name hs doc)
 
 -- where a target with this meaning leads: the address of a node, to what its selector selects
-abbrev pub lead_of : ResolutionContext → ReferenceTarget → Result Target UriFault
+abbrev pub resolve_target : ResolutionContext → ReferenceTarget → Result Target UriFault
     → Option ResolvedReference
-lead_of g wanted (Ok (Node doc selector)) =
+resolve_target g wanted (Ok (Node doc selector)) =
     if is_own g.home doc && is_element selector.end
     then option_and_then
-    (λ root. option_and_then (lead_at wanted doc.name root) (selected_in selector.steps root))
+    (λ root. option_and_then (resolve_at wanted doc.name root) (selected_in selector.steps root))
     (tree_held g.documents doc)
     else None
-lead_of g wanted _ = None
+resolve_target g wanted _ = None
 
 -- this map says of every reference where it leads, by a meaning of its target
-abbrev pub AreLeads : ResolutionContext → (Reference → Option ResolvedReference) → Type 0
-AreLeads g resolve_reference =
+abbrev pub ResolvesReferences : ResolutionContext → (Reference → Option ResolvedReference) → Type 0
+ResolvesReferences g resolve_reference =
     (r : Reference)
     → (read : Result Target UriFault) × TargetResult g.root (encode_utf8_all r.target) read
-    × (resolve_reference r ≡ lead_of g r.wanted read)
+    × (resolve_reference r ≡ resolve_target g r.wanted read)

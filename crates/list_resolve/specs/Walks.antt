@@ -4,8 +4,7 @@
 -- server's own.
 use Rattle.std.specs.Prelude.{ℕ, zero, suc, List, [], ◌∷◌, ◌++◌, Option, if◌then◌else◌}
 use Rattle.std.specs.Option.{option_map_or}
-use Rattle.xml_tree.specs.Tree.{Content, last, more, comment_node}
-use Rattle.xml_names.specs.declared.names.Attr.{Attr}
+use Rattle.xml_tree.specs.Tree.{Content, Tree, last, more, comment_node, tree_of}
 use Rattle.usage_docs.specs.declared.schema_table.ElementKind.{ElementKind}
 use Rattle.usage_docs.specs.declared.schema_table.ElementKind.TheVariants.{EntryList, Entry}
 use Rattle.usage_docs.specs.declared.schema_table.Key.TheVariants.{Uri}
@@ -27,29 +26,30 @@ pub data Item : Type 0 where
 -- what an element of this kind gives, where a list gives these items: an entry its address, which
 -- it has in a valid document; a list its walk; a reference a mark, and then what it leads to; and
 -- any other element nothing
-abbrev pub kind_items : (Reference → List Item) → List ℕ → ElementKind → List Attr → Content
-    → List Item → List Item
-kind_items behind root Entry ats k items =
-    option_map_or (λ uri. address uri ∷ []) (value_of Uri ats) []
-kind_items behind root EntryList ats k items = items
-kind_items behind root kind ats k items =
-    option_map_or (λ r. mark ∷ behind r) (reference_of root kind ats k) []
+abbrev pub kind_items : (Reference → List Item) → List ℕ → ElementKind → Tree → List Item
+    → List Item
+kind_items behind root Entry e items =
+    option_map_or (λ uri. address uri ∷ []) (value_of Uri e.attrs) []
+kind_items behind root EntryList e items = items
+kind_items behind root kind e items =
+    option_map_or (λ r. mark ∷ behind r) (reference_of root kind e.attrs e.content) []
 
--- the walk of the content of an element of this kind, in the scope inside it: what its children
--- that have element kinds give, in order
+-- the walk of the content of an element of this kind, in the scope inside it: the items of its
+-- children that have a kind, in order
 abbrev pub walked : (Reference → List Item) → List ℕ → ElementKind → Scope → Content → List Item
 walked behind root row c (last t) = []
 walked behind root row c (comment_node t x rest) = walked behind root row c rest
 walked behind root row c (more t n ds ats k rest) =
-    option_map_or
-    (λ kind. kind_items behind root kind ats k (walked behind root EntryList (c ++ ds ∷ []) k))
+    option_map_or (λ kind.
+    kind_items behind root kind (tree_of n ds ats k)
+    (walked behind root EntryList (c ++ ds ∷ []) k))
     (kind_of row (c ++ ds ∷ []) n) []
     ++ walked behind root row c rest
 
 -- what an element of an element kind gives
 abbrev pub scoped_element_items : (Reference → List Item) → List ℕ → ScopedElement → List Item
 scoped_element_items behind root s =
-    kind_items behind root s.kind s.element.attrs s.element.content
+    kind_items behind root s.kind s.element
     (walked behind root EntryList s.scope s.element.content)
 
 -- what comes after a mark: what the element that the reference leads to gives, unless it is

@@ -1,15 +1,15 @@
 //! Resolves references.
 ghost use Rattle.std.specs.Prelude.{◌≡◌, ◌≤◌, option_and_then, option_map, IfOk, IfSome, Ok, Some};
-ghost use Rattle.xml_names.specs.Limits.{max_levels};
+ghost use Rattle.xml_names.specs.declared.limits.TheConstants.{MAX_LEVELS};
 ghost use Rattle.xml_tree.specs.Tree.{height};
 ghost use Rattle.doc_names.specs.Equality.{same_home};
 ghost use Rattle.node_select.specs.Selection.{selected_in};
 ghost use Rattle.xcap_uri.specs.Targets.{is_element};
 ghost use Rattle.xcap_uri.specs.declared.target.Target.TheVariants.{Node};
-ghost use Rattle.list_resolve.specs.Resolution.{is_own, lead_at, lead_of};
+ghost use Rattle.list_resolve.specs.Resolution.{is_own, resolve_at, resolve_target};
 ghost use Rattle.list_resolve.specs.inner.SkippedElements.{reference_resolved_in};
 ghost use Rattle.list_resolve.specs.inner.SkippedElements.{scoped_element_at};
-ghost use Rattle.list_resolve.specs.inner.Views.{context_in, lead_in, scoped_element_in};
+ghost use Rattle.list_resolve.specs.inner.Views.{context_in, resolved_in, scoped_element_in};
 
 use crate::document_place::Place;
 use crate::reference::{Reference, ReferenceTarget};
@@ -74,13 +74,13 @@ fn is_element(end: &End) -> bool
 }
 
 // The element at a path of a document with this name, if it is of the expected kind.
-fn lead_at<'a>(
+fn resolve_at<'a>(
     wanted: ReferenceTarget,
     name: Text,
     root: &'a Element,
     path: Path,
 ) -> Option<ResolvedReference<'a>>
-    ensures exact { option_map lead_in result ≡ lead_at wanted name root.now path }
+    ensures exact { option_map resolved_in result ≡ resolve_at wanted name root.now path }
     ensures is_no_higher { IfSome result
         (λ l. height l.scoped_element.element.now ≤ height root.now) }
 {
@@ -95,53 +95,55 @@ fn lead_at<'a>(
 }
 
 // The element that a selector selects in a document with this name, if it is of the expected kind.
-fn lead_by<'a>(
+fn resolve_by<'a>(
     alloc: Global,
     wanted: ReferenceTarget,
     name: Text,
     selector: &Selector,
     root: &'a Element,
 ) -> Option<ResolvedReference<'a>>
-    requires { height root.now ≤ max_levels }
-    ensures exact { option_map lead_in result
-        ≡ option_and_then (lead_at wanted name root.now) (selected_in selector.now.steps root.now) }
-    ensures within_levels { IfSome result (λ l. height l.scoped_element.element.now ≤ max_levels) }
+    requires { height root.now ≤ MAX_LEVELS }
+    ensures exact { option_map resolved_in result
+        ≡ option_and_then (resolve_at wanted name root.now)
+        (selected_in selector.now.steps root.now) }
+    ensures within_levels { IfSome result (λ l. height l.scoped_element.element.now ≤ MAX_LEVELS) }
 {
     let path = select(alloc, root, selector)?;
-    lead_at(wanted, name, root, path)
+    resolve_at(wanted, name, root, path)
 }
 
 // Where a target that is a node leads.
-fn lead_to<'a>(
+fn resolve_to<'a>(
     ground: &ResolutionContext<'a>,
     wanted: ReferenceTarget,
     doc: DocId,
     selector: &Selector,
 ) -> Option<ResolvedReference<'a>>
-    ensures exact { option_map lead_in result
-        ≡ lead_of (context_in ground.now) wanted (Ok (Node doc selector.now)) }
-    ensures within_levels { IfSome result (λ l. height l.scoped_element.element.now ≤ max_levels) }
+    ensures exact { option_map resolved_in result
+        ≡ resolve_target (context_in ground.now) wanted (Ok (Node doc selector.now)) }
+    ensures within_levels { IfSome result (λ l. height l.scoped_element.element.now ≤ MAX_LEVELS) }
 {
     if !(is_own(ground.home, &doc) && is_element(&selector.end)) {
         return None;
     }
     let (root, _) = ground.store.get(&doc)?;
-    lead_by(ground.alloc, wanted, doc.name, selector, root)
+    resolve_by(ground.alloc, wanted, doc.name, selector, root)
 }
 
 // Where a target leads: if anywhere, it is a node.
-fn lead_of<'a>(
+fn resolve_target<'a>(
     ground: &ResolutionContext<'a>,
     wanted: ReferenceTarget,
     target: Target,
 ) -> Option<ResolvedReference<'a>>
-    ensures exact { option_map lead_in result ≡ lead_of (context_in ground.now) wanted (Ok target) }
-    ensures within_levels { IfSome result (λ l. height l.scoped_element.element.now ≤ max_levels) }
+    ensures exact { option_map resolved_in result
+        ≡ resolve_target (context_in ground.now) wanted (Ok target) }
+    ensures within_levels { IfSome result (λ l. height l.scoped_element.element.now ≤ MAX_LEVELS) }
 {
     let Target::Node(doc, selector) = target else {
         return None;
     };
-    lead_to(ground, wanted, doc, &selector)
+    resolve_to(ground, wanted, doc, &selector)
 }
 
 /// Resolves a reference.
@@ -153,10 +155,10 @@ pub(crate) fn resolve_reference<'a>(
     reference: &Reference,
 ) -> Result<Option<ResolvedReference<'a>>, NoMemory>
     ensures exact { IfOk result
-        (λ found. option_map lead_in found
+        (λ found. option_map resolved_in found
         ≡ reference_resolved_in (context_in ground.now) reference.now) }
     ensures within_levels { IfOk result
-        (λ found. IfSome found (λ l. height l.scoped_element.element.now ≤ max_levels)) }
+        (λ found. IfSome found (λ l. height l.scoped_element.element.now ≤ MAX_LEVELS)) }
     ensures lead_is_there { IfOk result
         (λ found. IfSome found
         (λ l. scoped_element_at (context_in ground.now) l.place
@@ -164,7 +166,7 @@ pub(crate) fn resolve_reference<'a>(
 {
     let target = reference.target.as_str().as_bytes();
     match read_target(ground.alloc, ground.root, target) {
-        Ok(target) => Ok(lead_of(ground, reference.wanted, target)),
+        Ok(target) => Ok(resolve_target(ground, reference.wanted, target)),
         Err(ReadError::Fault(_)) => Ok(None),
         Err(ReadError::NoMemory) => Err(AllocError),
     }

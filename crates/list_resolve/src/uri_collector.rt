@@ -2,7 +2,8 @@
 ghost use Rattle.std.specs.Prelude.{◌≡◌, ◌≤◌, ◌∷◌, [], chars, IfOk, OnOk, IfErr};
 ghost use Rattle.list_resolve.specs.Places.{is_on};
 ghost use Rattle.list_resolve.specs.Walks.{address, mark};
-ghost use Rattle.list_resolve.specs.inner.WalkStates.{Fails, gathering, nothing, passing};
+ghost use Rattle.list_resolve.specs.inner.WalkStates.{Fails, with_collected_item, empty_walk};
+ghost use Rattle.list_resolve.specs.inner.WalkStates.{with_visited_place};
 
 use crate::document_place::Place;
 use crate::fault::{FlatError, FlatFault};
@@ -44,7 +45,7 @@ impl Model for UriCollector {
 impl UriCollector {
     /// An empty collector. Does not allocate; what is added later is allocated by `alloc`.
     pub(crate) fn new(alloc: Global) -> UriCollector
-        ensures holds_nothing { result ≡ nothing }
+        ensures holds_nothing { result ≡ empty_walk }
     {
         UriCollector {
             alloc,
@@ -59,7 +60,7 @@ impl UriCollector {
     /// # Errors
     /// `NoMemory` when out of memory.
     pub(crate) fn add_uri(&mut self, uri: &str) -> Result<(), NoMemory>
-        ensures ok { OnOk result (self.new ≡ gathering self.old (address (chars uri.now))) }
+        ensures ok { OnOk result (self.new ≡ with_collected_item self.old (address (chars uri.now))) }
     {
         let uri = Text::from(self.alloc, uri)?;
         self.uris.insert(uri)?;
@@ -71,7 +72,7 @@ impl UriCollector {
     /// # Errors
     /// `TooWide` exactly where there are too many then.
     pub(crate) fn add_mark(&mut self) -> Result<(), FlatError>
-        ensures ok { OnOk result (self.new ≡ gathering self.old mark) }
+        ensures ok { OnOk result (self.new ≡ with_collected_item self.old mark) }
         ensures err_too_many { IfErr result (Fails (mark ∷ []) self.old.tally) }
     {
         if self.marks == MARK_LIMIT {
@@ -93,7 +94,7 @@ impl UriCollector {
     /// # Errors
     /// `NoMemory` when out of memory.
     pub(crate) fn pass(&mut self, place: Place) -> Result<(), NoMemory>
-        ensures ok { OnOk result (self.new ≡ passing self.old place) }
+        ensures ok { OnOk result (self.new ≡ with_visited_place self.old place) }
     {
         self.passed.insert(place)?;
         Ok(())

@@ -2,7 +2,7 @@
 //! 4.2).
 ghost use Rattle.std.specs.Prelude.{◌≡◌, ◌≤◌, ◌∷◌, [], Some, OnOk, if◌then◌else◌};
 ghost use Rattle.std.specs.Option.{option_map_or};
-ghost use Rattle.xml_names.specs.Limits.{max_levels};
+ghost use Rattle.xml_names.specs.declared.limits.TheConstants.{MAX_LEVELS};
 ghost use Rattle.xml_tree.specs.Tree.{height};
 ghost use Rattle.usage_docs.specs.declared.schema_table.Key.TheVariants.{Uri};
 ghost use Rattle.usage_docs.specs.declared.schema_table.ElementKind.TheVariants.{EntryList};
@@ -117,7 +117,7 @@ fn walk_element(
     ensures gathers_element { Gathers (context_in ground.now)
         (kind_items (walk_after
         (reference_resolved_in (context_in ground.now)) ground.now.root.now left chain.now)
-        ground.now.root.now kind element.now.attrs element.now.content
+        ground.now.root.now kind element.now
         (walked (walk_after (reference_resolved_in (context_in ground.now)) ground.now.root.now left
         chain.now) ground.now.root.now EntryList scope.now element.now.content))
         collector.old collector.new result }
@@ -189,20 +189,20 @@ fn walk_after(
     }
     match resolve_reference(ground, reference)? {
         None => Ok(()),
-        Some(lead) => walk_lead(ground, left - 1, chain, lead, collector),
+        Some(lead) => walk_resolved_reference(ground, left - 1, chain, lead, collector),
     }
 }
 
-// Collects what an element that a reference leads to gives, unless it is on the chain.
+// Collects the addresses of a referenced element, unless it is on the chain.
 #[cycle(walk)]
-fn walk_lead(
+fn walk_resolved_reference(
     ground: &ResolutionContext<'_>,
     left: usize,
     chain: &VisitChain<'_>,
     lead: ResolvedReference<'_>,
     collector: &mut UriCollector,
 ) -> Result<(), FlatError>
-    requires height_bounded { height lead.scoped_element.element.now ≤ max_levels }
+    requires height_bounded { height lead.scoped_element.element.now ≤ MAX_LEVELS }
     requires place_exists { scoped_element_at (context_in ground.now) lead.place
         ≡ Some (scoped_element_in lead.scoped_element) }
     requires is_sound { IsSound (context_in ground.now) collector.old }
@@ -230,7 +230,7 @@ fn walk_once(
     lead: ResolvedReference<'_>,
     collector: &mut UriCollector,
 ) -> Result<(), FlatError>
-    requires height_bounded { height lead.scoped_element.element.now ≤ max_levels }
+    requires height_bounded { height lead.scoped_element.element.now ≤ MAX_LEVELS }
     requires place_exists { scoped_element_at (context_in ground.now) lead.place
         ≡ Some (scoped_element_in lead.scoped_element) }
     requires is_sound { IsSound (context_in ground.now) collector.old }
@@ -259,7 +259,7 @@ fn walk_longer(
     lead: &ResolvedReference<'_>,
     collector: &mut UriCollector,
 ) -> Result<(), FlatError>
-    requires height_bounded { height lead.now.scoped_element.element.now ≤ max_levels }
+    requires height_bounded { height lead.now.scoped_element.element.now ≤ MAX_LEVELS }
     requires is_sound { IsSound (context_in ground.now) collector.old }
     ensures gathers_element { Gathers (context_in ground.now)
         (scoped_element_items

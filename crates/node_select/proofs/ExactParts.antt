@@ -7,7 +7,7 @@ use Rattle.std.specs.Int.{is_in_range as within}
 use Rattle.std.specs.Char.{is_ascii_digit as is_digit, is_ascii_hexdigit as is_hex_digit}
 use Rattle.xml_names.specs.Characters.{is_char, is_name_start, is_name_char}
 use Rattle.xml_grammar.specs.Digits.{decimal_digits, hexadecimal}
-use Rattle.xml_grammar.specs.Rules.{word, run, either, valued, optional, between, keeping_first, keeping_second, number}
+use Rattle.xml_grammar.specs.Rules.{word, run, either, map_rule, optional, between, keeping_first, keeping_second, number}
 use Rattle.xml_grammar.specs.TextReading.{starts, read_word, read_valued}
 use Rattle.xml_grammar.specs.readers.Functions.{read_either}
 use Rattle.xml_grammar.specs.Answers.{Faults}
@@ -28,7 +28,7 @@ use Rattle.xml_tokens.specs.Values.{qname_of}
 use Rattle.xml_tokens.specs.Tokens.{name, qname, stands_for, entity, char_ref, reference, last_char, is_quote, is_raw, is_raw_in}
 use Rattle.xml_tokens.specs.readers.Tokens.{read_qname, read_stands_for, read_entity, read_numbered, read_reference}
 use Rattle.node_select.specs.declared.selector.NameTest.TheVariants.{Any}
-use Rattle.node_select.specs.Grammar.{position_of, node_name, position, IsUnbound, names_attribute, attribute, literal_value, value, test}
+use Rattle.node_select.specs.Grammar.{position_of, node_name, position, IsUnbound, is_attribute_name, attribute, literal_value, value, test}
 use Rattle.node_select.specs.readers.SelectorValues.{attr_test, element_test}
 use Rattle.node_select.specs.readers.Words.{star, at_sign, open_bracket, close_bracket, equals_sign}
 use Rattle.node_select.specs.readers.Selectors.{read_position, read_inside_quotes, read_value}
@@ -153,7 +153,7 @@ quote_not_ampersand : (q c : ℕ) → is_quote q ≡ true → (c == 38) ≡ true
 quote_not_ampersand q c is t e = let same : q ≡ 38 = sym e ∙ eqb-true c 38 t in let z : true ≡ false = sym is ∙ ap is_quote same in cc
 
 module _ {faults : Faults FaultKind} {K : Rest FaultKind} where
-  exact_inside : (q : ℕ) → is_quote q ≡ true → Exact faults (valued literal_value (between (run (is_raw_in q)) reference)) (λ _. ahead (word (q ∷ [])) (λ _. K)) (read_inside_quotes q)
+  exact_inside : (q : ℕ) → is_quote q ≡ true → Exact faults (map_rule literal_value (between (run (is_raw_in q)) reference)) (λ _. ahead (word (q ∷ [])) (λ _. K)) (read_inside_quotes q)
   exact_inside q is =
       exact_valued literal_value
       (exact_between_run_head (λ c. c == 38) starts_reference (λ c m. (m, raw_not_ampersand q c m)) (heads_starts (starts_word {P = Is q} refl)) (raw_not_quote q) (λ c t e. quote_not_ampersand q c is t e)
@@ -189,7 +189,7 @@ quiet_qname = quiet_valued qname_of (quiet_sequence quiet_name_of (λ _. quiet_o
 
 module _ (bindings : List Decl) (default : List ℕ) where
   pub lawful_attribute : Lawful (attribute bindings default)
-  lawful_attribute = lawful_behind (lawful_word at_sign) (lawful_named bindings (lawful_only names_attribute lawful_qname) (λ u n m. m.0))
+  lawful_attribute = lawful_behind (lawful_word at_sign) (lawful_named bindings (lawful_only is_attribute_name lawful_qname) (λ u n m. m.0))
 
   pub lawful_test : Lawful (test bindings default)
   lawful_test =
@@ -203,8 +203,8 @@ module _ (bindings : List Decl) (default : List ℕ) (on : Bool) {K : Rest Fault
   pub exact_attribute : Heads (Not in_qname) K → Exact (marks on) (attribute bindings default) (λ _. K) (judged_attribute bindings default on)
   exact_attribute h =
       exact_behind exact_word
-      (exact_name bindings on (lawful_only names_attribute lawful_qname) (quiet_only names_attribute quiet_qname) (λ u n m. m.0) prefixed_attribute inside
-      (exact_only names_attribute in_qname lawful_qname (λ _. h) (exact_qname heads_unless) (exact_qname h)))
+      (exact_name bindings on (lawful_only is_attribute_name lawful_qname) (quiet_only is_attribute_name quiet_qname) (λ u n m. m.0) prefixed_attribute inside
+      (exact_only is_attribute_name in_qname lawful_qname (λ _. h) (exact_qname heads_unless) (exact_qname h)))
 
   pub exact_node_name : Heads (Not in_qname) K → Exact (marks on) (node_name bindings default) (λ _. K) (judged_node_name bindings default on)
   exact_node_name h =

@@ -4,9 +4,9 @@ use Rattle.std.specs.Prelude.{◌||◌, not, ◌==◌, Option, None, Some}
 use Rattle.std.proofs.lemmas.Bool.{eqb-true}
 use Rattle.std.proofs.lemmas.List.{append_cancel_right, append_cancel_left, length-append, take-append-drop}
 use Rattle.xml_names.specs.Characters.{is_name_start}
-use Rattle.xml_grammar.specs.Rules.{Event, Begin, Mark, Rule, word, many, only, judged, optional, keeping_second, valued}
+use Rattle.xml_grammar.specs.Rules.{Event, Begin, Mark, Rule, word, many, only, with_value_marks, optional, keeping_second, map_rule}
 use Rattle.xml_grammar.specs.TextReading.{Stop, Syntax, Faulty, ◌>>=◌, Reader, head_is, starts, read_word, read_valued}
-use Rattle.xml_grammar.specs.readers.Functions.{all_of, read_behind, read_optional, read_whole}
+use Rattle.xml_grammar.specs.readers.Functions.{all_of, read_after, read_optional, read_whole}
 use Rattle.xml_grammar.specs.Answers.{Answers, Faults}
 use Rattle.xml_grammar.proofs.Exact.{Rest, ahead, Exact, IsRead, IsStopped, exact_sequence}
 use Rattle.xml_grammar.proofs.Leaves.{exact_word}
@@ -29,7 +29,7 @@ use Rattle.node_select.specs.declared.selector.End.TheVariants.{Namespaces}
 use Rattle.node_select.specs.declared.selector.PatchEnd.{PatchEnd}
 use Rattle.node_select.specs.declared.selector.PatchEnd.TheVariants as patch_ends
 use Rattle.node_select.specs.Grammar
-use Rattle.node_select.specs.Grammar.{IsUnbound, names_attribute, position}
+use Rattle.node_select.specs.Grammar.{IsUnbound, is_attribute_name, position}
 use Rattle.node_select.specs.readers.SelectorValues.{attribute_end, patch_attribute_end, first_step_of, end_or_element, selector_of, patch_end_or_element, patch_selector_of}
 use Rattle.node_select.specs.readers.Words.{slash, at_sign, namespaces, text_test}
 use Rattle.node_select.specs.readers.Selectors.{step_follows, patch_step_follows, slash_follows, namespace_axis, text_call}
@@ -136,7 +136,7 @@ module _ (bindings : List Decl) (default : List ℕ) (on : Bool) where
 
   module _ {E : Type 0} (last : Rule FaultKind E) (f : Option E → E) (lawful_last : Lawful last) where
     abbrev pub tail : Rule FaultKind E
-    tail = valued f (optional (keeping_second (word slash) last))
+    tail = map_rule f (optional (keeping_second (word slash) last))
 
     abbrev pub tail_rest : Rest FaultKind
     tail_rest = ahead tail (λ _. ends)
@@ -196,7 +196,7 @@ module _ (bindings : List Decl) (default : List ℕ) (on : Bool) where
             stops = λ text h. stops text (head_is (λ c. c == 47) text) refl h;
           }) (exact_behind exact_word (exact_step bindings default on heads_after inside_after))))
 
-    pub exact_tail : {p : Reader FaultKind E} → Exact faults last (λ _. ends) p → Exact faults tail (λ _. ends) (read_valued f (read_optional slash_follows (read_behind (read_word slash) p)))
+    pub exact_tail : {p : Reader FaultKind E} → Exact faults last (λ _. ends) p → Exact faults tail (λ _. ends) (read_valued f (read_optional slash_follows (read_after (read_word slash) p)))
     exact_tail h = exact_valued f (exact_optional_head (λ c. c == 47) (starts_behind last (starts_word refl)) (λ c m. m) (heads_ends {P = λ _. ⊥}) (λ c t m. m) (exact_behind exact_word h))
 
   -- ---- what a step is where the end of a selector begins
@@ -207,7 +207,7 @@ module _ (bindings : List Decl) (default : List ℕ) (on : Bool) where
   lawful_patch_end = lawful_either (lawful_valued (patch_attribute_end bindings default) (lawful_attribute bindings default)) (lawful_valued chars_end (lawful_behind (lawful_word text_test) (lawful_optional lawful_position)))
 
   starts_attribute : {P : ℕ → Type 0} → P 64 → Starts P attribute
-  starts_attribute h = starts_behind (judged (IsUnbound bindings) (only names_attribute qname)) (starts_word h)
+  starts_attribute h = starts_behind (with_value_marks (IsUnbound bindings) (only is_attribute_name qname)) (starts_word h)
 
   no_at : (t : List ℕ) → starts at_sign t ≡ false → (c : ℕ) (x : List ℕ) → t ≡ c ∷ x → c ≡ 64 → ⊥
   no_at t f c x j e = let same : t ≡ 64 ∷ x = j ∙ ap (λ (z : ℕ). z ∷ x) e in let yes : starts at_sign t ≡ true = ap (starts at_sign) same in clash (starts at_sign t) yes f

@@ -5,7 +5,7 @@ use Rattle.std.proofs.lemmas.List.{append_cancel_left, append-nil, length-append
 use Rattle.xml_names.specs.Characters.{is_name_start}
 use Rattle.xml_names.specs.declared.names.Decl.{Decl}
 use Rattle.std.specs.Char.{is_ascii_digit as is_digit}
-use Rattle.xml_grammar.specs.Rules.{Event, Begin, Mark, Rule, word, sequence, optional, keeping_first, keeping_second, valued, some_of}
+use Rattle.xml_grammar.specs.Rules.{Event, Begin, Mark, Rule, word, sequence, optional, keeping_first, keeping_second, map_rule, some_of}
 use Rattle.xml_grammar.specs.TextReading.{head_is, starts}
 use Rattle.xml_grammar.specs.readers.Functions.{read_optional}
 use Rattle.xml_grammar.specs.Answers.{Faults}
@@ -50,7 +50,7 @@ led_position : Led open_bracket (λ c. is_digit c ≡ true) position
 led_position = led_valued (λ x. x.1) (led_then open_bracket (starts_before (word close_bracket) (starts_valued position_of (starts_some_of (λ c m. m)))))
 
 starts_position : {P : ℕ → Type 0} → P 91 → Starts P position
-starts_position h = starts_behind (keeping_first (valued position_of (some_of is_digit)) (word close_bracket)) (starts_word h)
+starts_position h = starts_behind (keeping_first (map_rule position_of (some_of is_digit)) (word close_bracket)) (starts_word h)
 
 module _ (bindings : List Decl) (default : List ℕ) where
   abbrev tested : Rule FaultKind AttrTest
@@ -62,7 +62,7 @@ module _ (bindings : List Decl) (default : List ℕ) where
       (led_then open_bracket (starts_before (word close_bracket) (starts_valued (attr_test bindings default) (starts_sequence (λ _. keeping_second (word equals_sign) value) (starts_behind _ (starts_word refl))))))
 
   starts_test : {P : ℕ → Type 0} → P 91 → Starts P tested
-  starts_test h = starts_behind (keeping_first (valued (attr_test bindings default) (sequence (attribute bindings default) (λ _. keeping_second (word equals_sign) value))) (word close_bracket)) (starts_word h)
+  starts_test h = starts_behind (keeping_first (map_rule (attr_test bindings default) (sequence (attribute bindings default) (λ _. keeping_second (word equals_sign) value))) (word close_bracket)) (starts_word h)
 
   pub lawful_step : Lawful (step bindings default)
   lawful_step =

@@ -8,7 +8,7 @@ use Rattle.std.proofs.lemmas.List.{length-append, append-nil}
 use Rattle.xml_names.specs.declared.names.Name.{Name}
 use Rattle.xml_names.specs.declared.names.Decl.{Decl}
 use Rattle.xml_names.specs.Characters.{is_name_start, is_name_char}
-use Rattle.xml_grammar.specs.Rules.{Event, Begin, Mark, Rule, AllPass, word, only, judged, optional, keeping_second}
+use Rattle.xml_grammar.specs.Rules.{Event, Begin, Mark, Rule, AllPass, word, only, with_value_marks, optional, keeping_second}
 use Rattle.xml_grammar.specs.TextReading.{Stop, Syntax, Faulty, Reader, ◌>>=◌, front_of, after_front}
 use Rattle.xml_grammar.specs.readers.Functions.{read_judged, read_only, judgement}
 use Rattle.xml_grammar.proofs.Exact.{Rest, ahead, Exact, IsRead, IsAtFault, Outcome, Passed, Behind, Later}
@@ -20,7 +20,7 @@ use Rattle.xml_tokens.specs.Values.{written, qname_of}
 use Rattle.xml_tokens.specs.Tokens.{name, qname}
 use Rattle.xml_tokens.specs.readers.Tokens.{read_name, read_qname}
 use Rattle.node_select.specs.Names.{is_unbound}
-use Rattle.node_select.specs.Grammar.{IsUnbound, names_attribute}
+use Rattle.node_select.specs.Grammar.{IsUnbound, is_attribute_name}
 use Rattle.node_select.specs.Faults.{marks}
 use Rattle.node_select.proofs.NameReading.{judge}
 
@@ -106,10 +106,10 @@ prefixed text v w n j m h =
     subst (λ (z : Name). ReadSo read_qname text z) (sym m.2)
     (prefixed_by text sp.front sp.back w m.0.0 m.0.1 (j ∙ ap (λ (z : List ℕ). z ++ w) sp.joined) sp.front_is sp.back_is (subst (λ (z : Name). HasPrefix z) m.2 h))
 
-may_name : (n read : Name) → read.prefix ≡ n.prefix → HasPrefix n → names_attribute read ≡ true
+may_name : (n read : Name) → read.prefix ≡ n.prefix → HasPrefix n → is_attribute_name read ≡ true
 may_name n read e h = let f : bytes_eq read.prefix [] ≡ false = ap (λ (z : List ℕ). bytes_eq z []) e ∙ h in rw f refl
 
-pub prefixed_attribute : (text v w : List ℕ) (n : Name) → text ≡ v ++ w → (only names_attribute qname).Spells v n → HasPrefix n → ReadSo (read_only names_attribute read_qname) text n
+pub prefixed_attribute : (text v w : List ℕ) (n : Name) → text ≡ v ++ w → (only is_attribute_name qname).Spells v n → HasPrefix n → ReadSo (read_only is_attribute_name read_qname) text n
 prefixed_attribute text v w n j m h =
     let s = prefixed text v w n j m.0 h in
     record { read = s.read; rest = s.rest; read_is = rw (s.read_is, may_name n s.read s.prefix_is h) refl; prefix_is = s.prefix_is }
@@ -163,14 +163,14 @@ both_on false on h = absurd cc
 named_within : (bindings : List Decl) (u : List ℕ) (n : Name) (k : FaultKind) (b : ℕ) → qname.Spells u n → IsUnbound bindings n k b → (0 < b) × (b ≤ length u)
 named_within bindings u n k b m says = let l = qname_long u n m in let s = qname_some u n m in (omega (arith, says.2, l, s), omega (arith, says.2, l))
 
-pub lawful_named : (bindings : List Decl) {r : Rule FaultKind Name} → Lawful r → ((u : List ℕ) (n : Name) → r.Spells u n → qname.Spells u n) → Lawful (judged (IsUnbound bindings) r)
+pub lawful_named : (bindings : List Decl) {r : Rule FaultKind Name} → Lawful r → ((u : List ℕ) (n : Name) → r.Spells u n → qname.Spells u n) → Lawful (with_value_marks (IsUnbound bindings) r)
 lawful_named bindings lawful named = lawful_judged (IsUnbound bindings) (λ u n k b m says. named_within bindings u n k b (named u n m) says) lawful
 
 module _ (bindings : List Decl) (on : Bool) {r : Rule FaultKind Name} {K : Rest FaultKind} {p : Reader FaultKind Name} (lawful : Lawful r) (quiet : Quiet r)
     (named : (u : List ℕ) (n : Name) → r.Spells u n → qname.Spells u n)
     (so : (text v w : List ℕ) (n : Name) → text ≡ v ++ w → r.Spells v n → HasPrefix n → ReadSo p text n) (inside : Inside K) where
   abbrev Judged : Rule FaultKind Name
-  Judged = judged (IsUnbound bindings) r
+  Judged = with_value_marks (IsUnbound bindings) r
 
   inside_all : Inside (ahead Judged (λ _. K))
   inside_all = inside_ahead (lawful_named bindings lawful named) (λ _. inside)

@@ -5,7 +5,7 @@ use Rattle.std.specs.Prelude.{◌&&◌, Option, None, Some, if◌then◌else◌}
 use Rattle.xml_names.specs.declared.names.Name.{Name}
 use Rattle.xml_names.specs.declared.names.Decl.{Decl}
 use Rattle.xml_grammar.specs.TextReading.{Reader, read_word, read_sequence, read_valued}
-use Rattle.xml_grammar.specs.readers.Functions.{read_either, read_many, read_judged, read_only, read_optional, read_before, read_behind}
+use Rattle.xml_grammar.specs.readers.Functions.{read_either, read_many, read_judged, read_only, read_optional, read_before, read_after}
 use Rattle.xml_tokens.specs.declared.fault_kind.FaultKind.{FaultKind}
 use Rattle.xml_tokens.specs.declared.fault_kind.FaultKind.TheVariants.{Unbound}
 use Rattle.xml_tokens.specs.Values.{written}
@@ -35,12 +35,12 @@ module _ (bindings : List Decl) (default : List ℕ) (on : Bool) where
   judged_node_name = read_either star_follows (read_valued (λ _. Any) (read_word Words.star)) (read_valued (SelectorValues.element_test bindings default) (read_judged (judge bindings on) read_qname))
 
   abbrev pub judged_attribute : Reader FaultKind Name
-  judged_attribute = read_behind (read_word Words.at_sign) (read_judged (judge bindings on) (read_only Grammar.names_attribute read_qname))
+  judged_attribute = read_after (read_word Words.at_sign) (read_judged (judge bindings on) (read_only Grammar.is_attribute_name read_qname))
 
   abbrev pub judged_test : Reader FaultKind AttrTest
   judged_test =
-      read_behind (read_word Words.open_bracket)
-      (read_before (read_valued (SelectorValues.attr_test bindings default) (read_sequence judged_attribute (λ _. read_behind (read_word Words.equals_sign) read_value))) (read_word Words.close_bracket))
+      read_after (read_word Words.open_bracket)
+      (read_before (read_valued (SelectorValues.attr_test bindings default) (read_sequence judged_attribute (λ _. read_after (read_word Words.equals_sign) read_value))) (read_word Words.close_bracket))
 
   abbrev pub judged_step : Reader FaultKind Step
   judged_step =
@@ -48,7 +48,7 @@ module _ (bindings : List Decl) (default : List ℕ) (on : Bool) where
       (read_sequence (read_sequence judged_node_name (λ _. read_optional position_follows read_position)) (λ _. read_optional test_follows judged_test))
 
   abbrev pub judged_next : Reader FaultKind Step
-  judged_next = read_behind (read_word Words.slash) judged_step
+  judged_next = read_after (read_word Words.slash) judged_step
 
   abbrev pub judged_steps : (List ℕ → Bool) → Reader FaultKind (List Step)
   judged_steps follows = read_valued SelectorValues.first_step_of (read_sequence judged_step (λ _. read_many follows judged_next))
@@ -59,15 +59,15 @@ module _ (bindings : List Decl) (default : List ℕ) (on : Bool) where
   abbrev pub judged_selector : Reader FaultKind Selector
   judged_selector =
       read_valued SelectorValues.selector_of
-      (read_sequence (judged_steps step_follows) (λ _. read_valued SelectorValues.end_or_element (read_optional slash_follows (read_behind (read_word Words.slash) judged_end))))
+      (read_sequence (judged_steps step_follows) (λ _. read_valued SelectorValues.end_or_element (read_optional slash_follows (read_after (read_word Words.slash) judged_end))))
 
   abbrev pub judged_patch_end : Reader FaultKind PatchEnd
   judged_patch_end =
       read_either attribute_follows (read_valued (SelectorValues.patch_attribute_end bindings default) judged_attribute)
-      (read_valued (λ n. patch_ends.Chars n) (read_behind (read_word Words.text_test) (read_optional test_follows read_position)))
+      (read_valued (λ n. patch_ends.Chars n) (read_after (read_word Words.text_test) (read_optional test_follows read_position)))
 
   abbrev pub judged_patch_selector : Reader FaultKind PatchSelector
   judged_patch_selector =
-      read_behind (read_optional slash_follows (read_word Words.slash))
+      read_after (read_optional slash_follows (read_word Words.slash))
       (read_valued SelectorValues.patch_selector_of
-      (read_sequence (judged_steps patch_step_follows) (λ _. read_valued SelectorValues.patch_end_or_element (read_optional slash_follows (read_behind (read_word Words.slash) judged_patch_end)))))
+      (read_sequence (judged_steps patch_step_follows) (λ _. read_valued SelectorValues.patch_end_or_element (read_optional slash_follows (read_after (read_word Words.slash) judged_patch_end)))))

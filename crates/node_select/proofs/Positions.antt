@@ -3,7 +3,8 @@ use Rattle.std.proofs.Common.{◌≡◌, ℕ, ◌+◌, ◌-◌, ◌*◌, ◌<◌
 use Rattle.std.specs.Prelude.{nat_le}
 use Rattle.xml_grammar.specs.Digits.{decimal_digits}
 use Rattle.xml_grammar.specs.Rules.{number_from}
-use Rattle.node_select.specs.Grammar.{greatest_position, position_of}
+use Rattle.node_select.specs.Grammar.{position_of}
+use Rattle.node_select.specs.declared.steps.TheConstants.{MAX_POSITION}
 
 not_less : (cs : List ℕ) (n : ℕ) → n ≤ number_from decimal_digits n cs
 not_less [] n = omega arith
@@ -12,9 +13,9 @@ not_less (c ∷ cs) n = let rest = not_less cs (n * 10 + (c - 48)) in omega arit
 le_false : (n m : ℕ) → m < n → nat_le n m ≡ false
 le_false n m lt = grind arith
 
-pub too_great : (digits left after : List ℕ) (value c v : ℕ) → left ≡ c ∷ after → number_from decimal_digits value left ≡ number_from decimal_digits 0 digits → v ≡ value * 10 + (c - 48) → greatest_position < v → 0 ≡ position_of digits
+pub too_great : (digits left after : List ℕ) (value c v : ℕ) → left ≡ c ∷ after → number_from decimal_digits value left ≡ number_from decimal_digits 0 digits → v ≡ value * 10 + (c - 48) → MAX_POSITION < v → 0 ≡ position_of digits
 too_great digits left after value c v is so_far v_is great =
     let all : number_from decimal_digits 0 digits ≡ number_from decimal_digits (value * 10 + (c - 48)) after = sym so_far ∙ ap (number_from decimal_digits value) is in
     let more = not_less after (value * 10 + (c - 48)) in
-    let above : greatest_position < number_from decimal_digits 0 digits = omega arith in
-    sym (ap (λ b. cond b (number_from decimal_digits 0 digits) 0) (le_false (number_from decimal_digits 0 digits) greatest_position above))
+    let above : MAX_POSITION < number_from decimal_digits 0 digits = omega arith in
+    sym (ap (λ b. cond b (number_from decimal_digits 0 digits) 0) (le_false (number_from decimal_digits 0 digits) MAX_POSITION above))

@@ -4,7 +4,7 @@ use Rattle.std.proofs.Common.{◌≡◌, ℕ, zero, suc, ◌+◌, ◌-◌, Bool,
 use Rattle.std.specs.Prelude.{Option, None, Some, option_map, nat_eq, map}
 use Rattle.xml_grammar.specs.Rules.{word, keeping_second, only}
 use Rattle.xml_grammar.specs.TextReading.{Stop, Syntax, Reader, ◌>>=◌, read_word, read_sequence, read_valued}
-use Rattle.xml_grammar.specs.readers.Functions.{read_sized, read_only, read_optional, read_behind}
+use Rattle.xml_grammar.specs.readers.Functions.{read_with_length, read_only, read_optional, read_after}
 use Rattle.xml_grammar.proofs.Exact.{Exact}
 use Rattle.xml_grammar.proofs.Leaves.{exact_word}
 use Rattle.xml_grammar.proofs.ClosedRules.{exact_only, heads_unless}
@@ -21,7 +21,7 @@ use Rattle.node_select.specs.declared.selector.End.TheVariants.{Namespaces}
 use Rattle.node_select.specs.declared.selector.PatchSelector.{PatchSelector}
 use Rattle.node_select.specs.declared.selector.PatchEnd.TheVariants as patch_ends
 use Rattle.node_select.specs.readers.SelectorValues
-use Rattle.node_select.specs.Grammar.{position, value, names_attribute}
+use Rattle.node_select.specs.Grammar.{position, value, is_attribute_name}
 use Rattle.node_select.specs.readers.Words.{slash, star, at_sign, open_bracket, close_bracket, equals_sign, namespaces, text_test}
 use Rattle.node_select.specs.readers.Raw
 use Rattle.node_select.specs.readers.Raw.{RawStep, RawEnd, AtAttribute, AtNamespaces, RawPatchEnd, PatchAttribute, PatchChars, first_of, unbound_at, unbound_name, unbound_test, unbound_in, unbound_from, unbound_end, unbound_patch_end, no_end, name_test, steps_size, slash_width}
@@ -52,7 +52,7 @@ sized_by {A} n (Ok x) z e =
     sym (ap (λ (y : (A × ℕ) × List ℕ). y.0.1) same) ∙ ap (λ (y : (A × ℕ) × List ℕ). n - length y.1) same
 sized_by n (Err y) z e = absurd cc
 
-sized_wide : {A : Type 0} (p : Reader FaultKind A) (text : List ℕ) (z : (A × ℕ) × List ℕ) → read_sized p text ≡ Ok z → z.0.1 ≡ length text - length z.1
+sized_wide : {A : Type 0} (p : Reader FaultKind A) (text : List ℕ) (z : (A × ℕ) × List ℕ) → read_with_length p text ≡ Ok z → z.0.1 ≡ length text - length z.1
 sized_wide p text z e = sized_by (length text) (p text) z e
 
 slash_by : (b : Bool) (text : List ℕ) (out : Result (Unit {0} × List ℕ) (Stop FaultKind)) (z : ℕ × List ℕ) → ((y : Unit {0} × List ℕ) → out ≡ Ok y → 1 + length y.1 ≡ length text)
@@ -89,8 +89,8 @@ module _ (bindings : List Decl) (default : List ℕ) (on : Bool) (whole : List �
   word_follows : (w : List ℕ) → Follows on whole (read_word w) (read_word w) (λ a. a) (no_name on whole)
   word_follows w = let e : Exact (marks on) (word w) (λ _. ends) (read_word w) = exact_word in plain on whole e
 
-  equals_follows : Follows on whole (read_behind (read_word equals_sign) read_value) (read_behind (read_word equals_sign) read_value) (λ a. a) (no_name on whole)
-  equals_follows = let e : Exact (marks on) (keeping_second (word equals_sign) value) (λ _. ends) (read_behind (read_word equals_sign) read_value) = exact_behind exact_word exact_value in plain on whole e
+  equals_follows : Follows on whole (read_after (read_word equals_sign) read_value) (read_after (read_word equals_sign) read_value) (λ a. a) (no_name on whole)
+  equals_follows = let e : Exact (marks on) (keeping_second (word equals_sign) value) (λ _. ends) (read_after (read_word equals_sign) read_value) = exact_behind exact_word exact_value in plain on whole e
 
   position_follows_so : Follows on whole (read_optional position_follows read_position) (read_optional position_follows read_position) (option_map (λ a. a)) (if_some on whole (no_name on whole))
   position_follows_so = let e : Exact (marks on) position (λ _. ends) read_position = exact_position in optional on whole position_follows (plain on whole e)
@@ -101,8 +101,8 @@ module _ (bindings : List Decl) (default : List ℕ) (on : Bool) (whole : List �
   qname_exact : Exact (marks on) qname (λ _. ends) read_qname
   qname_exact = exact_qname heads_ends
 
-  attribute_exact : Exact (marks on) (only names_attribute qname) (λ _. ends) (read_only names_attribute read_qname)
-  attribute_exact = exact_only names_attribute in_qname lawful_qname (λ _. heads_ends) (exact_qname heads_unless) (exact_qname heads_ends)
+  attribute_exact : Exact (marks on) (only is_attribute_name qname) (λ _. ends) (read_only is_attribute_name read_qname)
+  attribute_exact = exact_only is_attribute_name in_qname lawful_qname (λ _. heads_ends) (exact_qname heads_unless) (exact_qname heads_ends)
 
   -- ---- steps
   node_name_follows : Follows on whole read_node_name (judged_node_name bindings default on) (name_test bindings default) (unbound_name bindings)
@@ -118,8 +118,8 @@ module _ (bindings : List Decl) (default : List ℕ) (on : Bool) (whole : List �
       (λ n w text rest a c e fills. let one : n + 1 ≡ n + w = omega (arith, word_wide at_sign text (a, rest) e, fills) in ap (λ (k : ℕ). unbound_at bindings k c) one))
       (λ x. x.1) (λ x. x.1) (λ a. a) (λ n a. unbound_at bindings (n + 1) a) (λ x. refl) (λ n x. refl)
 
-  tested_follows : Follows on whole (read_sequence read_attribute (λ _. read_behind (read_word equals_sign) read_value))
-      (read_valued (SelectorValues.attr_test bindings default) (read_sequence (judged_attribute bindings default on) (λ _. read_behind (read_word equals_sign) read_value))) (Raw.attr_test bindings) (λ n x. unbound_at bindings (n + 1) x.0)
+  tested_follows : Follows on whole (read_sequence read_attribute (λ _. read_after (read_word equals_sign) read_value))
+      (read_valued (SelectorValues.attr_test bindings default) (read_sequence (judged_attribute bindings default on) (λ _. read_after (read_word equals_sign) read_value))) (Raw.attr_test bindings) (λ n x. unbound_at bindings (n + 1) x.0)
   tested_follows =
       right on whole
       (sequence on whole attribute_follows_so equals_follows (λ n x. unbound_at bindings (n + 1) x.0) (λ n w text rest a c e fills. sym (first_none (unbound_at bindings (n + 1) a))))
@@ -200,8 +200,8 @@ module _ (bindings : List Decl) (default : List ℕ) (on : Bool) (whole : List �
   end_place n None = refl
   end_place n (Some e) = refl
 
-  tail_follows : Follows on whole (read_valued Raw.end_or_element (read_optional slash_follows (read_behind (read_word slash) read_end)))
-      (read_valued SelectorValues.end_or_element (read_optional slash_follows (read_behind (read_word slash) (judged_end bindings default on)))) (Raw.end_of bindings) (λ n e. unbound_end bindings e (n + 1))
+  tail_follows : Follows on whole (read_valued Raw.end_or_element (read_optional slash_follows (read_after (read_word slash) read_end)))
+      (read_valued SelectorValues.end_or_element (read_optional slash_follows (read_after (read_word slash) (judged_end bindings default on)))) (Raw.end_of bindings) (λ n e. unbound_end bindings e (n + 1))
   tail_follows =
       valued on whole
       (optional on whole slash_follows
@@ -244,8 +244,8 @@ module _ (bindings : List Decl) (default : List ℕ) (on : Bool) (whole : List �
   patch_end_place n None = refl
   patch_end_place n (Some e) = refl
 
-  patch_tail_follows : Follows on whole (read_valued Raw.patch_end_or_element (read_optional slash_follows (read_behind (read_word slash) read_patch_end)))
-      (read_valued SelectorValues.patch_end_or_element (read_optional slash_follows (read_behind (read_word slash) (judged_patch_end bindings default on)))) (Raw.patch_end_of bindings) (λ n e. unbound_patch_end bindings e (n + 1))
+  patch_tail_follows : Follows on whole (read_valued Raw.patch_end_or_element (read_optional slash_follows (read_after (read_word slash) read_patch_end)))
+      (read_valued SelectorValues.patch_end_or_element (read_optional slash_follows (read_after (read_word slash) (judged_patch_end bindings default on)))) (Raw.patch_end_of bindings) (λ n e. unbound_patch_end bindings e (n + 1))
   patch_tail_follows =
       valued on whole
       (optional on whole slash_follows
@@ -270,8 +270,8 @@ module _ (bindings : List Decl) (default : List ℕ) (on : Bool) (whole : List �
   patch_of x = record { steps = Raw.steps_of bindings default x.0; end = Raw.patch_end_of bindings x.1 }
 
   patch_parts : Follows on whole
-      (read_sequence (read_steps patch_step_follows) (λ _. read_valued Raw.patch_end_or_element (read_optional slash_follows (read_behind (read_word slash) read_patch_end))))
-      (read_valued SelectorValues.patch_selector_of (read_sequence (judged_steps bindings default on patch_step_follows) (λ _. read_valued SelectorValues.patch_end_or_element (read_optional slash_follows (read_behind (read_word slash) (judged_patch_end bindings default on))))))
+      (read_sequence (read_steps patch_step_follows) (λ _. read_valued Raw.patch_end_or_element (read_optional slash_follows (read_after (read_word slash) read_patch_end))))
+      (read_valued SelectorValues.patch_selector_of (read_sequence (judged_steps bindings default on patch_step_follows) (λ _. read_valued SelectorValues.patch_end_or_element (read_optional slash_follows (read_after (read_word slash) (judged_patch_end bindings default on))))))
       patch_of (λ n x. unbound_from bindings n x.0 (unbound_patch_end bindings x.1))
   patch_parts =
       right on whole

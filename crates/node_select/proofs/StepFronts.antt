@@ -9,7 +9,7 @@ use Rattle.xml_tokens.specs.readers.Words.{colon, ampersand, semicolon, hash, sm
 use Rattle.xml_tokens.specs.Tokens.{qname, reference, last_char, stands_for, char_ref, entity}
 use Rattle.xml_tokens.specs.Values.{qname_of}
 use Rattle.node_select.specs.declared.selector.NameTest.TheVariants.{Any}
-use Rattle.node_select.specs.Grammar.{IsUnbound, names_attribute, literal_value, node_name, position_of, position, attribute, value, test, step}
+use Rattle.node_select.specs.Grammar.{IsUnbound, is_attribute_name, literal_value, node_name, position_of, position, attribute, value, test, step}
 use Rattle.node_select.specs.readers.SelectorValues.{step_of, element_test, attr_test}
 use Rattle.node_select.specs.readers.Words.{star, open_bracket, close_bracket, at_sign, equals_sign}
 use Rattle.node_select.proofs.ExactParts.{lawful_reference, lawful_value, lawful_position, lawful_attribute, lawful_node_name}
@@ -49,7 +49,7 @@ fronted_position = fronted_behind (lawful_word open_bracket) (fronted_word open_
 -- the step
 module _ (bindings : List Decl) (default : List ℕ) where
   fronted_attribute : Fronted (attribute bindings default)
-  fronted_attribute = fronted_behind (lawful_word at_sign) (fronted_word at_sign) (fronted_judged (IsUnbound bindings) (fronted_only names_attribute fronted_qname))
+  fronted_attribute = fronted_behind (lawful_word at_sign) (fronted_word at_sign) (fronted_judged (IsUnbound bindings) (fronted_only is_attribute_name fronted_qname))
 
   fronted_test : Fronted (test bindings default)
   fronted_test =

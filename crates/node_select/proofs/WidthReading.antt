@@ -5,7 +5,7 @@ use Rattle.std.specs.Prelude.{◌&&◌, Option, None, Some, option_map, map}
 use Rattle.std.proofs.lemmas.List.{length-append}
 use Rattle.xml_grammar.specs.Rules.{Rule}
 use Rattle.xml_grammar.specs.TextReading.{Stop, Faulty, Reader, ◌>>=◌, read_sequence, read_valued}
-use Rattle.xml_grammar.specs.readers.Functions.{read_either, read_at_most, read_many, read_sized, read_empty, read_judged, judgement, read_optional}
+use Rattle.xml_grammar.specs.readers.Functions.{read_either, read_at_most, read_many, read_with_length, read_empty, read_judged, judgement, read_optional}
 use Rattle.xml_grammar.specs.Answers.{Faults}
 use Rattle.xml_grammar.proofs.Exact.{Rest, Exact, Outcome}
 use Rattle.xml_names.specs.declared.names.Name.{Name}
@@ -134,7 +134,7 @@ module _ (on : Bool) (whole : List ℕ) where
         by n text (Err z) other e = λ t. ap (λ (r : Result (B × List ℕ) (Stop FaultKind)). r >>= λ x. let r : Result (D × List ℕ) (Stop FaultKind) = Ok (g' x.0, x.1) in r) (e t)
 
   module _ {A B : Type 0} {p : Reader FaultKind A} {q : Reader FaultKind B} {f : A → B} {u : ℕ → A → Option ℕ} (h : Follows p q f u) where
-    pub sized : Follows (read_sized p) q (λ x. f x.0) (λ n x. u n x.0)
+    pub sized : Follows (read_with_length p) q (λ x. f x.0) (λ n x. u n x.0)
     sized = record { by = λ n text at. by n text (p text) (q text) (h.by n text at) }
       where
         by : (n : ℕ) (text : List ℕ) (out : Result (A × List ℕ) (Stop FaultKind)) (other : Result (B × List ℕ) (Stop FaultKind)) → Agrees f u n text out other

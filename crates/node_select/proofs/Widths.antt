@@ -4,21 +4,21 @@ use Rattle.std.specs.Prelude.{nat_eq}
 use Rattle.xml_names.specs.declared.names.Name.{Name}
 use Rattle.std.specs.Char.{is_ascii_digit as is_digit}
 use Rattle.xml_grammar.specs.TextReading.{Stop, Syntax, Reader, ◌>>=◌, read_word, read_sequence, read_valued}
-use Rattle.xml_grammar.specs.readers.Functions.{read_at_most, read_many, read_sized, read_only, read_optional, read_name_of, read_before, read_behind, read_whole, all_of}
+use Rattle.xml_grammar.specs.readers.Functions.{read_at_most, read_many, read_with_length, read_only, read_optional, read_name_of, read_before, read_after, read_whole, all_of}
 use Rattle.xml_tokens.specs.declared.fault_kind.FaultKind.{FaultKind}
 use Rattle.xml_tokens.specs.Tokens.{is_quote, is_raw_in}
 use Rattle.xml_tokens.specs.readers.Tokens.{reference_follows}
 use Rattle.xml_tokens.proofs.TagLemmas.{shrinks_qname, shrinks_reference}
 use Rattle.xml_grammar.specs.readers.Ends.{EndsWith}
 use Rattle.xml_tokens.proofs.Shrinks.{Left, Shrinks, ok_left, ok_small, shrinks_one, shrinks_word, shrinks_run, shrinks_empty, shrinks_sequence, shrinks_valued, shrinks_either, shrinks_many}
-use Rattle.node_select.specs.Grammar.{position_of, names_attribute, literal_value}
+use Rattle.node_select.specs.Grammar.{position_of, is_attribute_name, literal_value}
 use Rattle.node_select.specs.readers.SelectorValues.{first_step_of}
 use Rattle.node_select.specs.readers.Words.{star, at_sign, open_bracket, close_bracket, equals_sign, slash}
 use Rattle.node_select.specs.readers.Raw.{RawStep, RawPatchEnd, steps_size, AreWhole, HasRoom, RawSelector, RawPatchSelector, raw_step_of, end_or_element, patch_end_or_element, slash_width}
 use Rattle.node_select.specs.readers.Selectors.{star_follows, position_follows, test_follows, slash_follows, read_node_name, read_position, read_attribute, read_inside_quotes, read_value, read_test, read_step, read_next_step, read_steps, read_end, read_selector, read_patch_end, read_patch_selector, step_follows, patch_step_follows}
 
 -- ---- shapes
-shrinks_behind : {A B : Type 0} {p : Reader FaultKind A} {q : Reader FaultKind B} → Shrinks p → Shrinks q → Shrinks (read_behind p q)
+shrinks_behind : {A B : Type 0} {p : Reader FaultKind A} {q : Reader FaultKind B} → Shrinks p → Shrinks q → Shrinks (read_after p q)
 shrinks_behind h i = shrinks_valued (λ x. x.1) (shrinks_sequence h (λ _. i))
 
 shrinks_before : {A B : Type 0} {p : Reader FaultKind A} {q : Reader FaultKind B} → Shrinks p → Shrinks q → Shrinks (read_before p q)
@@ -49,7 +49,7 @@ shrinks_position : Shrinks read_position
 shrinks_position = shrinks_behind (shrinks_word open_bracket) (shrinks_before (shrinks_valued position_of (shrinks_name_of is_digit is_digit)) (shrinks_word close_bracket))
 
 shrinks_attribute : Shrinks read_attribute
-shrinks_attribute = shrinks_behind (shrinks_word at_sign) (shrinks_only names_attribute shrinks_qname)
+shrinks_attribute = shrinks_behind (shrinks_word at_sign) (shrinks_only is_attribute_name shrinks_qname)
 
 shrinks_inside : (q : ℕ) → Shrinks (read_inside_quotes q)
 shrinks_inside q = shrinks_valued literal_value (shrinks_sequence (shrinks_run (is_raw_in q)) (λ _. shrinks_many reference_follows (shrinks_sequence shrinks_reference (λ _. shrinks_run (is_raw_in q)))))
@@ -96,7 +96,7 @@ valued_ok {A} {B} f p text z h =
     let x = bind_ok (p text) (λ x. let w : B × List ℕ = (f x.0, x.1) in Ok w) z h in
     (x.0, x.1, ok_is (f x.0.0, x.0.1) z x.2)
 
-sized_ok : {A : Type 0} (p : Reader FaultKind A) (text : List ℕ) (z : (A × ℕ) × List ℕ) → read_sized p text ≡ Ok z → (x : A × List ℕ) × (p text ≡ Ok x) × (((x.0, length text - length x.1), x.1) ≡ z)
+sized_ok : {A : Type 0} (p : Reader FaultKind A) (text : List ℕ) (z : (A × ℕ) × List ℕ) → read_with_length p text ≡ Ok z → (x : A × List ℕ) × (p text ≡ Ok x) × (((x.0, length text - length x.1), x.1) ≡ z)
 sized_ok {A} p text z h =
     let x = bind_ok (p text) (λ x. let w : (A × ℕ) × List ℕ = ((x.0, length text - length x.1), x.1) in Ok w) z h in
     (x.0, x.1, ok_is ((x.0.0, length text - length x.0.1), x.0.1) z x.2)
@@ -118,10 +118,10 @@ Whole = (((Option Name × Option ℕ) × ℕ) × Option (Name × List ℕ)) × �
 
 pub step_fills : (text : List ℕ) (s : RawStep) (rest : List ℕ) → read_step text ≡ Ok (s, rest) → Fills text s rest
 step_fills text s rest h =
-    let whole = read_sequence (read_sized front_reader) (λ _. read_optional test_follows read_test) in
-    let v = valued_ok raw_step_of (read_sized whole) text (s, rest) h in
+    let whole = read_sequence (read_with_length front_reader) (λ _. read_optional test_follows read_test) in
+    let v = valued_ok raw_step_of (read_with_length whole) text (s, rest) h in
     let z = sized_ok whole text v.0 v.1 in
-    let q = sequence_ok (read_sized front_reader) (λ _. read_optional test_follows read_test) text z.0 z.1 in
+    let q = sequence_ok (read_with_length front_reader) (λ _. read_optional test_follows read_test) text z.0 z.1 in
     let f = sized_ok front_reader text q.first q.first_is in
     let first = ok_small shrinks_front text f.0 f.1 in
     let second = ok_small shrinks_optional_test q.first.1 q.second q.second_is in
@@ -223,7 +223,7 @@ whole_read {A} p text a (c ∷ cs) h e = absurd (omega (arith, eqb-true (length 
 pub selector_room : (text : List ℕ) (raw : RawSelector) → length text < 2 ^ 63 → read_whole read_selector text ≡ Ok raw → HasRoom 0 raw.0
 selector_room text raw lt h =
     let w = whole_ok (read_selector text) raw h in
-    let q = sequence_ok (read_steps step_follows) (λ _. read_valued end_or_element (read_optional slash_follows (read_behind (read_word slash) read_end))) text w.0 w.1 in
+    let q = sequence_ok (read_steps step_follows) (λ _. read_valued end_or_element (read_optional slash_follows (read_after (read_word slash) read_end))) text w.0 w.1 in
     let f = steps_fill step_follows text q.first q.first_is in
     let same : q.first.0 ≡ raw.0 = ap (λ (z : RawSelector × List ℕ). z.0.0) q.made ∙ ap (λ (z : RawSelector). z.0) w.2 in
     subst (λ (ss : List RawStep). HasRoom 0 ss) same (record { within = omega (arith, f.0); whole = f.1 })
@@ -242,7 +242,7 @@ shrinks_slash = shrinks_valued slash_width (shrinks_optional slash_follows (shri
 pub patch_selector_room : (text : List ℕ) (raw : RawPatchSelector) → length text < 2 ^ 63 → read_whole read_patch_selector text ≡ Ok raw → HasRoom raw.0 raw.1.0
 patch_selector_room text raw lt h =
     let w = whole_ok (read_patch_selector text) raw h in
-    let behind = λ (_ : List RawStep). read_valued patch_end_or_element (read_optional slash_follows (read_behind (read_word slash) read_patch_end)) in
+    let behind = λ (_ : List RawStep). read_valued patch_end_or_element (read_optional slash_follows (read_after (read_word slash) read_patch_end)) in
     let q = sequence_ok (read_valued slash_width (read_optional slash_follows (read_word slash))) (λ _. read_sequence (read_steps patch_step_follows) behind) text w.0 w.1 in
     let r = sequence_ok (read_steps patch_step_follows) behind q.first.1 q.second q.second_is in
     let f = steps_fill patch_step_follows q.first.1 r.first r.first_is in

@@ -19,8 +19,9 @@ use Rattle.xml_names.specs.Scopes.{xmlns_prefix}
 use Rattle.xml_names.specs.declared.names.Name.{Name}
 use Rattle.xml_names.specs.declared.names.Decl.{Decl}
 use Rattle.xml_grammar.specs.Digits.{decimal_digits}
-use Rattle.xml_grammar.specs.Rules.{Rule, word, run, number_from, sequence, either, many, valued}
-use Rattle.xml_grammar.specs.Rules.{only, judged, optional, between, some_of, keeping_first}
+use Rattle.xml_grammar.specs.Rules.{Rule, word, run, number_from, sequence, either, many, map_rule}
+use Rattle.xml_grammar.specs.Rules.{only, with_value_marks, optional, between, some_of}
+use Rattle.xml_grammar.specs.Rules.{keeping_first}
 use Rattle.xml_grammar.specs.Rules.{keeping_second, quoted}
 use Rattle.xml_tokens.specs.declared.fault_kind.FaultKind.{FaultKind}
 use Rattle.xml_tokens.specs.declared.fault_kind.FaultKind.TheVariants.{Unbound}
@@ -50,15 +51,13 @@ abbrev pub literal_value : List ℕ × List (ℕ × List ℕ) → List ℕ
 literal_value x = x.0 ++ more_plain x.1
 
 abbrev pub value : Rule FaultKind (List ℕ)
-value = quoted is_quote (λ quote. valued literal_value (between (run (is_raw_in quote)) reference))
+value = quoted is_quote (λ quote. map_rule literal_value
+    (between (run (is_raw_in quote)) reference))
 
 -- a position above the greatest one is read as 0, a position that no child has
-abbrev pub greatest_position : ℕ
-greatest_position = MAX_POSITION
-
 abbrev pub position_of : List ℕ → ℕ
 position_of digits =
-    if nat_le (number_from decimal_digits 0 digits) greatest_position
+    if nat_le (number_from decimal_digits 0 digits) MAX_POSITION
     then number_from decimal_digits 0 digits
     else 0
 
@@ -66,11 +65,11 @@ position_of digits =
 abbrev pub position : Rule FaultKind ℕ
 position =
     keeping_second (word (codes "["))
-    (keeping_first (valued position_of (some_of is_ascii_digit)) (word (codes "]")))
+    (keeping_first (map_rule position_of (some_of is_ascii_digit)) (word (codes "]")))
 
 -- `xmlns`, which declares, isn't an attribute's name
-abbrev pub names_attribute : Name → Bool
-names_attribute n = not (bytes_eq n.prefix [] && bytes_eq n.local xmlns_prefix)
+abbrev pub is_attribute_name : Name → Bool
+is_attribute_name n = not (bytes_eq n.prefix [] && bytes_eq n.local xmlns_prefix)
 
 -- A name with an unbound prefix is marked, at its first character.
 abbrev pub IsUnbound : List Decl → Name → FaultKind → ℕ → Type 0
@@ -84,62 +83,63 @@ module _ (bindings : List Decl) (default : List ℕ) where
   -- QName / "*"
   abbrev pub node_name : Rule FaultKind NameTest
   node_name =
-      either (valued (λ _. Any) (word (codes "*")))
-      (valued (λ name. Named (name_uri bindings default name) name.local)
-      (judged (IsUnbound bindings) qname))
+      either (map_rule (λ _. Any) (word (codes "*")))
+      (map_rule (λ name. Named (name_uri bindings default name) name.local)
+      (with_value_marks (IsUnbound bindings) qname))
 
   -- "@" QName
   abbrev pub attribute : Rule FaultKind Name
   attribute =
-      keeping_second (word (codes "@")) (judged (IsUnbound bindings) (only names_attribute qname))
+      keeping_second (word (codes "@")) (with_value_marks (IsUnbound bindings)
+      (only is_attribute_name qname))
 
   -- "[" "@" QName "=" value "]"
   abbrev pub test : Rule FaultKind AttrTest
   test =
       keeping_second (word (codes "["))
-      (keeping_first (valued
+      (keeping_first (map_rule
       (λ x. record { uri = attr_uri bindings x.0; local = x.0.local; value = x.1 })
       (sequence attribute (λ _. keeping_second (word (codes "=")) value)))
       (word (codes "]")))
 
   abbrev pub step : Rule FaultKind Step
   step =
-      valued (λ x. record { name = x.0.0; position = x.0.1; test = x.1 })
+      map_rule (λ x. record { name = x.0.0; position = x.0.1; test = x.1 })
       (sequence (sequence node_name (λ _. optional position)) (λ _. optional test))
 
   -- step *( "/" step )
   abbrev pub steps : Rule FaultKind (List Step)
   steps =
-      valued (λ x. x.0 ∷ x.1) (sequence step (λ _. many (keeping_second (word (codes "/")) step)))
+      map_rule (λ x. x.0 ∷ x.1) (sequence step (λ _. many (keeping_second (word (codes "/")) step)))
 
   -- ---- selectors
 
   -- "@" QName / "namespace::*"
   abbrev pub end : Rule FaultKind End
   end =
-      either (valued (λ name. Attribute (attr_uri bindings name) name.local) attribute)
-      (valued (λ _. Namespaces) (word (codes "namespace::*")))
+      either (map_rule (λ name. Attribute (attr_uri bindings name) name.local) attribute)
+      (map_rule (λ _. Namespaces) (word (codes "namespace::*")))
 
   -- without an end it selects an element
   abbrev pub selector : Rule FaultKind Selector
   selector =
-      valued (λ x. record { steps = x.0; end = x.1 })
+      map_rule (λ x. record { steps = x.0; end = x.1 })
       (sequence steps (λ _.
-      valued (λ o. unwrap_or o Element) (optional (keeping_second (word (codes "/")) end))))
+      map_rule (λ o. unwrap_or o Element) (optional (keeping_second (word (codes "/")) end))))
 
   -- ---- selectors of patches
 
   -- "@" QName / "text()" [ "[" 1*DIGIT "]" ]
   abbrev pub patch_end : Rule FaultKind PatchEnd
   patch_end =
-      either (valued (λ name. patch_ends.Attribute (attr_uri bindings name) name.local) attribute)
-      (valued (λ n. patch_ends.Chars n)
+      either (map_rule (λ name. patch_ends.Attribute (attr_uri bindings name) name.local) attribute)
+      (map_rule (λ n. patch_ends.Chars n)
       (keeping_second (word (codes "text()")) (optional position)))
 
   abbrev pub patch_selector : Rule FaultKind PatchSelector
   patch_selector =
       keeping_second (optional (word (codes "/")))
-      (valued (λ x. record { steps = x.0; end = x.1 })
+      (map_rule (λ x. record { steps = x.0; end = x.1 })
       (sequence steps (λ _.
-      valued (λ o. unwrap_or o patch_ends.Element)
+      map_rule (λ o. unwrap_or o patch_ends.Element)
       (optional (keeping_second (word (codes "/")) patch_end)))))

@@ -37,9 +37,10 @@ pub record NoneValid (lawful valid : ℕ → Type 0) (gaps : ℕ) : Type 0 where
 
 -- the plan over `gaps` gaps, all of which are tried: the last lawful and valid one; the first
 -- refusal where none is lawful, the second where none of the lawful ones is valid
-abbrev pub PlanIs : {E : Type 0} → E → E → (ℕ → Type 0) → (ℕ → Type 0) → ℕ → Result ℕ E → Type 0
-PlanIs unlawful invalid lawful valid gaps (Ok gap) = IsLastPlace lawful valid gaps gap
-PlanIs unlawful invalid lawful valid gaps (Err e) =
+abbrev pub IsInsertionPlan : {E : Type 0} → E → E → (ℕ → Type 0) → (ℕ → Type 0) → ℕ → Result ℕ E
+    → Type 0
+IsInsertionPlan unlawful invalid lawful valid gaps (Ok gap) = IsLastPlace lawful valid gaps gap
+IsInsertionPlan unlawful invalid lawful valid gaps (Err e) =
     ((e ≡ unlawful) × NoneLawful lawful gaps) ⊎ ((e ≡ invalid) × NoneValid lawful valid gaps)
 
 -- ---- the computed plan, where both properties are tests

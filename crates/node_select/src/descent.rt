@@ -1,6 +1,6 @@
 //! How far the steps of a selector lead, in one descent.
 ghost use Rattle.std.specs.Prelude.{◌≡◌, ◌<◌, ◌≤◌, ◌+◌, ◌∷◌, [], length, take};
-ghost use Rattle.xml_names.specs.Limits.{max_levels};
+ghost use Rattle.xml_names.specs.declared.limits.TheConstants.{MAX_LEVELS};
 ghost use Rattle.xml_tree.specs.Tree.{height, child_elements_of};
 ghost use Rattle.node_select.specs.inner.LongestMatches.{ReachesBelow};
 ghost use Rattle.node_select.specs.Selection.{IsLongestMatch, SelectsPath};
@@ -23,16 +23,16 @@ pub struct Reached {
 /// How far steps lead. Each level is visited once. Only indexes of declarations allocate, and the
 /// result is the same without them.
 pub fn reach(alloc: Global, root: &Element, steps: &[Step]) -> Reached
-    requires height_bounded { height root.now ≤ max_levels }
+    requires height_bounded { height root.now ≤ MAX_LEVELS }
     ensures longest_selecting { IsLongestMatch steps.now root.now result.steps }
     ensures path_is_selected { 0 < result.steps
         → SelectsPath (take result.steps steps.now) root.now result.path }
 {
     let [step, steps @ ..] = steps else {
-        return nowhere();
+        return no_descent();
     };
     if !is_match(alloc, &LinkedScope::empty(), step, root, 0) {
-        return nowhere();
+        return no_descent();
     }
     let below = reach_inside(alloc, root, steps);
     Reached {
@@ -41,8 +41,8 @@ pub fn reach(alloc: Global, root: &Element, steps: &[Step]) -> Reached
     }
 }
 
-// No step leads anywhere.
-fn nowhere() -> Reached
+// The result where not even the first step selects.
+fn no_descent() -> Reached
     ensures no_step { result.steps ≡ 0 }
     ensures no_path { result.path ≡ [] }
 {
@@ -54,7 +54,7 @@ fn nowhere() -> Reached
 
 // How far steps lead from the root down.
 fn reach_inside(alloc: Global, root: &Element, steps: &[Step]) -> Reached
-    requires height_bounded { height root.now ≤ max_levels }
+    requires height_bounded { height root.now ≤ MAX_LEVELS }
     ensures reaches_below { ReachesBelow (root.now.decls ∷ [])
         (child_elements_of root.now) steps.now [] result }
 {
@@ -76,7 +76,7 @@ fn reach_below(
     steps: &[Step],
     path: Path,
 ) -> Reached
-    requires height_bounded { length path + height element.now ≤ max_levels }
+    requires height_bounded { length path + height element.now ≤ MAX_LEVELS }
     ensures reaches_below { ReachesBelow scope.now
         (child_elements_of element.now) steps.now path result }
 {

@@ -1,7 +1,7 @@
 //! What a selector selects in a tree.
 ghost use Rattle.std.specs.Prelude.{◌≡◌, ◌≤◌, ◌+◌, ◌++◌, ◌↔◌, ℕ, List, [], ◌∷◌, length, option_map};
 ghost use Rattle.std.specs.Prelude.{Some};
-ghost use Rattle.xml_names.specs.Limits.{max_levels};
+ghost use Rattle.xml_names.specs.declared.limits.TheConstants.{MAX_LEVELS};
 ghost use Rattle.xml_tree.specs.Tree.{height, child_elements_of};
 ghost use Rattle.node_select.specs.Selection.{IsLongestMatch, SelectsPath, depth_among, longest_in};
 ghost use Rattle.node_select.specs.Selection.{selected_among, selected_in};
@@ -16,7 +16,7 @@ use xml_tree::{Element, LinkedScope, Path};
 /// several. Each level is visited once. Only indexes of declarations allocate, and the result is
 /// the same without them.
 pub fn select(alloc: Global, root: &Element, selector: &Selector) -> Option<Path>
-    requires { height root.now ≤ max_levels }
+    requires { height root.now ≤ MAX_LEVELS }
     ensures selected_path { (p : List ℕ)
         → (result ≡ Some p) ↔ SelectsPath selector.now.steps root.now p }
     ensures computed_path { result ≡ selected_in selector.now.steps root.now }
@@ -26,7 +26,7 @@ pub fn select(alloc: Global, root: &Element, selector: &Selector) -> Option<Path
 
 /// The element that steps select, from the document down. Allocates as `select` does.
 pub fn select_steps(alloc: Global, root: &Element, steps: &[Step]) -> Option<Path>
-    requires { height root.now ≤ max_levels }
+    requires { height root.now ≤ MAX_LEVELS }
     ensures selected_path { (p : List ℕ) → (result ≡ Some p) ↔ SelectsPath steps.now root.now p }
     ensures exact { result ≡ selected_in steps.now root.now }
 {
@@ -35,7 +35,7 @@ pub fn select_steps(alloc: Global, root: &Element, steps: &[Step]) -> Option<Pat
 
 // The element that steps select, of which the first matches the root.
 fn select_outside(alloc: Global, root: &Element, steps: &[Step]) -> Option<Path>
-    requires { height root.now ≤ max_levels }
+    requires { height root.now ≤ MAX_LEVELS }
     ensures exact { result ≡ selected_in steps.now root.now }
 {
     let [step, steps @ ..] = steps else {
@@ -49,7 +49,7 @@ fn select_outside(alloc: Global, root: &Element, steps: &[Step]) -> Option<Path>
 
 // The element that steps select from the root down.
 fn select_inside(alloc: Global, root: &Element, steps: &[Step]) -> Option<Path>
-    requires { height root.now ≤ max_levels }
+    requires { height root.now ≤ MAX_LEVELS }
     ensures exact { result
         ≡ selected_among (root.now.decls ∷ []) (child_elements_of root.now) steps.now }
 {
@@ -71,7 +71,7 @@ fn select_below(
     steps: &[Step],
     path: Path,
 ) -> Option<Path>
-    requires { length path + height element.now ≤ max_levels }
+    requires { length path + height element.now ≤ MAX_LEVELS }
     ensures exact { result
         ≡ option_map (λ q. path ++ q)
         (selected_among scope.now (child_elements_of element.now) steps.now) }

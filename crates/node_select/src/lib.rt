@@ -37,3 +37,4 @@ pub use selector::{AttrTest, End, NameTest, PatchEnd, PatchForm, PatchSelector, 
 pub use selector_reader::{read_patch_form, read_patch_selector, read_selector};
 pub use step_laws::{alike, edits, gaps, plans, selection};
 pub use step_match::{attr_in, find_attr, is_at_position, same_text};
+pub use steps::MAX_POSITION;

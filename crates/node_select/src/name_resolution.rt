@@ -158,7 +158,7 @@ fn optional_test(
     }
 }
 
-// The step at `at`.
+// A raw step with its names resolved; `at` is where it starts in the selector.
 fn step(
     alloc: Global,
     bindings: &IndexedDecls<'_>,
@@ -227,7 +227,7 @@ pub fn end(
 }
 
 /// The end of a patch's selector at `at`.
-pub fn patch_end(
+pub fn resolve_patch_end(
     alloc: Global,
     bindings: &IndexedDecls<'_>,
     end: &RawPatchEnd<'_>,

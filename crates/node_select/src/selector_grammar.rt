@@ -1,7 +1,7 @@
 //! The grammar of selectors, read from left to right.
 ghost use Rattle.std.specs.Prelude.{chars, map, IfOk, Ok};
 ghost use Rattle.xml_grammar.specs.TextReading.{read_valued, read_word};
-ghost use Rattle.xml_grammar.specs.readers.Functions.{read_behind, read_optional, read_whole};
+ghost use Rattle.xml_grammar.specs.readers.Functions.{read_after, read_optional, read_whole};
 ghost use Rattle.xml_tokens.specs.readers.Results.{Gives};
 ghost use Rattle.node_select.specs.readers.Words.{slash};
 ghost use Rattle.node_select.specs.readers.Raw.{HasRoom, end_or_element, patch_end_or_element};
@@ -38,7 +38,7 @@ fn end(text: &str) -> Result<(RawEnd<'_>, &str), ParseError<'_>>
 fn optional_end(text: &str) -> Result<(RawEnd<'_>, &str), ParseError<'_>>
     ensures reads_rule { Gives (λ x. (end_in x.0, chars x.1.now)) result
         (read_valued end_or_element
-        (read_optional slash_follows (read_behind (read_word slash) read_end)) (chars text.now)) }
+        (read_optional slash_follows (read_after (read_word slash) read_end)) (chars text.now)) }
 {
     if !slash_follows(text) {
         return Ok((RawEnd::Element, text));
@@ -99,7 +99,7 @@ fn patch_end(text: &str) -> Result<(RawPatchEnd<'_>, &str), ParseError<'_>>
 fn optional_patch_end(text: &str) -> Result<(RawPatchEnd<'_>, &str), ParseError<'_>>
     ensures reads_rule { Gives (λ x. (patch_end_in x.0, chars x.1.now)) result
         (read_valued patch_end_or_element
-        (read_optional slash_follows (read_behind (read_word slash) read_patch_end))
+        (read_optional slash_follows (read_after (read_word slash) read_patch_end))
         (chars text.now)) }
 {
     if !slash_follows(text) {

@@ -14,7 +14,7 @@ ghost use Rattle.node_select.specs.readers.Whole.{raw_form_of, selector_read};
 
 use crate::bindings::Bindings;
 use crate::fault::SelectorFault;
-use crate::name_resolution::{Unresolved, end, patch_end, steps};
+use crate::name_resolution::{Unresolved, end, resolve_patch_end, steps};
 use crate::raw_selectors::{RawPatchEnd, RawPatchSelector, RawSelector};
 use crate::selector::{PatchForm, PatchSelector, Selector};
 use crate::selector_grammar::{raw_patch_selector, raw_selector};
@@ -92,7 +92,7 @@ fn resolve_patch_selector(
 {
     let indexed_decls = bindings.indexed_decls();
     let (steps, at) = steps(alloc, &indexed_decls, default_uri, &raw.steps, raw.slash)?;
-    let end = patch_end(alloc, &indexed_decls, &raw.end, at)?;
+    let end = resolve_patch_end(alloc, &indexed_decls, &raw.end, at)?;
     Ok(PatchSelector { steps, end })
 }
 

@@ -6,7 +6,8 @@ ghost use Rattle.std.specs.Prelude.{remove, slice_set, slice_get, count_by, Opti
 ghost use Rattle.std.specs.Prelude.{Result};
 ghost use Rattle.node_select.specs.StepSelection.{AreAlike, IsAtPosition, Matches, Selects};
 ghost use Rattle.node_select.specs.StepSelection.{selected};
-ghost use Rattle.node_select.specs.InsertionPoints.{IsFree, IsLawfulInsertion, PlanIs, plan_of};
+ghost use Rattle.node_select.specs.InsertionPoints.{IsFree, IsLawfulInsertion, IsInsertionPlan};
+ghost use Rattle.node_select.specs.InsertionPoints.{plan_of};
 ghost use Rattle.node_select.specs.Edits.{IsNextMatch, IsPassedOver, shifted};
 
 /// A step selects at most one child, and the computed selection is the relation.
@@ -73,11 +74,13 @@ pub fn gaps<A>()
 pub fn plans<E>()
     ensures answer_is_one { (unlawful invalid : E) (lawful valid : ℕ → Bool) (gaps : ℕ)
         (plan plan' : Result ℕ E)
-        → PlanIs unlawful invalid (λ j. IsTrue (lawful j)) (λ j. IsTrue (valid j)) gaps plan
-        → PlanIs unlawful invalid (λ j. IsTrue (lawful j)) (λ j. IsTrue (valid j)) gaps plan'
+        → IsInsertionPlan unlawful invalid (λ j. IsTrue (lawful j)) (λ j. IsTrue (valid j)) gaps
+        plan
+        → IsInsertionPlan unlawful invalid (λ j. IsTrue (lawful j)) (λ j. IsTrue (valid j)) gaps
+        plan'
         → plan ≡ plan' }
     ensures computed_path { (unlawful invalid : E) (lawful valid : ℕ → Bool) (gaps : ℕ)
-        → PlanIs unlawful invalid (λ j. IsTrue (lawful j)) (λ j. IsTrue (valid j)) gaps
+        → IsInsertionPlan unlawful invalid (λ j. IsTrue (lawful j)) (λ j. IsTrue (valid j)) gaps
         (plan_of unlawful invalid lawful valid gaps) }
 {}
 

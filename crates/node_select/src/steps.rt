@@ -7,7 +7,7 @@ ghost use Rattle.xml_grammar.specs.TextReading.{read_sequence};
 ghost use Rattle.xml_grammar.specs.readers.Functions.{read_optional};
 ghost use Rattle.xml_tokens.specs.readers.Results.{Gives};
 ghost use Rattle.xml_tokens.specs.readers.TokenViews.{name_in};
-ghost use Rattle.node_select.specs.Grammar.{position_of, names_attribute};
+ghost use Rattle.node_select.specs.Grammar.{position_of, is_attribute_name};
 ghost use Rattle.node_select.specs.readers.Selectors.{position_follows, read_attribute};
 ghost use Rattle.node_select.specs.readers.Selectors.{read_inside_quotes, read_next_step};
 ghost use Rattle.node_select.specs.readers.Selectors.{read_node_name, read_position, read_step};
@@ -25,7 +25,7 @@ use xml_tokens::{
 };
 
 /// The greatest position; a greater one is read as 0.
-const MAX_POSITION: u64 = 4_294_967_295;
+pub const MAX_POSITION: u64 = 4_294_967_295;
 
 // A name, or none for `*`, and what follows it.
 fn node_name(text: &str) -> Result<(Option<RawName<'_>>, &str), ParseError<'_>>
@@ -104,8 +104,8 @@ fn is_nothing(text: &str) -> bool
 }
 
 // Whether an attribute may have this name, which isn't a declaration's.
-fn names_attribute(name: &RawName<'_>) -> bool
-    ensures exact { result ≡ names_attribute (name_in name.now) }
+fn is_attribute_name(name: &RawName<'_>) -> bool
+    ensures exact { result ≡ is_attribute_name (name_in name.now) }
 {
     !(is_nothing(name.prefix) && is_xmlns(name.local))
 }
@@ -117,7 +117,7 @@ pub fn attribute(text: &str) -> Result<(RawName<'_>, &str), ParseError<'_>>
 {
     let rest = word(text, &['@'])?;
     let (name, rest) = qname(rest)?;
-    if !names_attribute(&name) {
+    if !is_attribute_name(&name) {
         return Err(ParseError::Syntax(rest));
     }
     Ok((name, rest))

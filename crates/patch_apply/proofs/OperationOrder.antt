@@ -8,8 +8,8 @@ use Rattle.xml_tree.specs.Tree.{Tree}
 use Rattle.xml_names.specs.declared.names.Decl.{Decl}
 use Rattle.patch_rules.specs.PatchOperations.{OperationError}
 use Rattle.patch_rules.specs.readers.AppliedOperations.{apply_operation}
-use Rattle.patch_rules.specs.Replay.{AtOperation, CopyFault, ReplicaContents, Now, DocumentOutcome, numbered, operation_count, then_next, unless_missing}
-use Rattle.patch_rules.specs.readers.Replay.{apply_all, all_taken, document_taken}
+use Rattle.patch_rules.specs.Replay.{AtOperation, CopyFault, ReplicaContents, Now, DocumentOutcome, with_operation_number, operation_count, then_next, unless_missing}
+use Rattle.patch_rules.specs.readers.Replay.{apply_all, outcome_of_documents, outcome_of_document}
 use Rattle.patch_apply.specs.inner.Results.{AreGiven}
 use Rattle.patch_apply.specs.Views.{operation_fault}
 use Rattle.patch_parse.specs.Views.{wrong_in}
@@ -22,16 +22,16 @@ use Rattle.patch_parse.specs.declared.operation_error.OperationError.TheVariants
 
 module _ (n : ℕ) (c : List (List Decl)) (o : Tree) (os : List Tree) (t : Tree) where
   pub applied_next : (made : Tree) → apply_operation c o t ≡ Ok made → apply_all n c (o ∷ os) t ≡ apply_all (suc n) c os made
-  applied_next made e = ap (λ r. then_next (numbered n r) (apply_all (suc n) c os)) e
+  applied_next made e = ap (λ r. then_next (with_operation_number n r) (apply_all (suc n) c os)) e
 
 -- ---- documents
 
 module _ (n : ℕ) (c : List (List Decl)) (d : Tree) (ds : List Tree) (held : ReplicaContents) where
-  pub taken_next : (now : ReplicaContents) → document_taken n c d held ≡ Ok (Now now) → all_taken n c (d ∷ ds) held ≡ all_taken (n + operation_count c d) c ds now
-  taken_next now e = ap (λ r. then_next r (λ turn. unless_missing turn (all_taken (n + operation_count c d) c ds))) e
+  pub taken_next : (now : ReplicaContents) → outcome_of_document n c d held ≡ Ok (Now now) → outcome_of_documents n c (d ∷ ds) held ≡ outcome_of_documents (n + operation_count c d) c ds now
+  taken_next now e = ap (λ r. then_next r (λ turn. unless_missing turn (outcome_of_documents (n + operation_count c d) c ds))) e
 
-  pub taken_fault : (f : CopyFault) → document_taken n c d held ≡ Err f → all_taken n c (d ∷ ds) held ≡ Err f
-  taken_fault f e = ap (λ r. then_next r (λ turn. unless_missing turn (all_taken (n + operation_count c d) c ds))) e
+  pub taken_fault : (f : CopyFault) → outcome_of_document n c d held ≡ Err f → outcome_of_documents n c (d ∷ ds) held ≡ Err f
+  taken_fault f e = ap (λ r. then_next r (λ turn. unless_missing turn (outcome_of_documents (n + operation_count c d) c ds))) e
 
 -- ---- an item of a list that is iterated over
 
@@ -74,12 +74,12 @@ error_alike v u a b (errors.Fault fault) same h = record { stated_fault = h.stat
 error_alike v u a b errors.NoMemory same h = tt
 
 -- the error of an operation is reported with its number
-pub wrong_told : (n : ℕ) (stated : Result Tree OperationError) (w : CodeWrong) (told : ApplyFault) → stated ≡ Err (wrong_in w) → told ≡ fault_at (min (suc n) u64_max) w → Answered (AreGiven {X = Tree} (λ t. t) (numbered n stated)) (Err (errors.Fault told))
-wrong_told n stated w told is same = record { stated_fault = AtOperation (suc n) (wrong_in w); is = ap (numbered n) is; told = same ∙ told_at (suc n) w }
+pub wrong_told : (n : ℕ) (stated : Result Tree OperationError) (w : CodeWrong) (told : ApplyFault) → stated ≡ Err (wrong_in w) → told ≡ fault_at (min (suc n) u64_max) w → Answered (AreGiven {X = Tree} (λ t. t) (with_operation_number n stated)) (Err (errors.Fault told))
+wrong_told n stated w told is same = record { stated_fault = AtOperation (suc n) (wrong_in w); is = ap (with_operation_number n) is; told = same ∙ told_at (suc n) w }
 
 -- a fault of a document ends the documents after it
 pub turn_fault : {X Z : Type 0} (v : X → DocumentOutcome) (u : Z → Option ReplicaContents) (n : ℕ) (c : List (List Decl)) (d : Tree) (ds : List Tree) (held : ReplicaContents) (all : Result (Option ReplicaContents) CopyFault) (e : ReadError ApplyFault)
-    → all ≡ all_taken n c (d ∷ ds) held → Answered (AreGiven v (document_taken n c d held)) (Err e) → Answered (AreGiven u all) (Err e)
+    → all ≡ outcome_of_documents n c (d ∷ ds) held → Answered (AreGiven v (outcome_of_document n c d held)) (Err e) → Answered (AreGiven u all) (Err e)
 turn_fault v u n c d ds held all (errors.Fault fault) same h = record { stated_fault = h.stated_fault; is = same ∙ taken_fault n c d ds held h.stated_fault h.is; told = h.told }
 turn_fault v u n c d ds held all errors.NoMemory same h = tt
 

@@ -7,7 +7,7 @@ use Rattle.xml_tree.specs.Tree.{Tree}
 use Rattle.patch_rules.specs.Replay as replay
 use Rattle.patch_rules.specs.Replay.{CopyAnswer, ReplicaContents, Patched, Removed, WrongDocument, copy_answer, documents, is_all_mine, then_next}
 use Rattle.patch_rules.specs.readers.AppliedOperations.{reading_in}
-use Rattle.patch_rules.specs.readers.Replay.{all_taken, replayed}
+use Rattle.patch_rules.specs.readers.Replay.{outcome_of_documents, replay_outcome}
 use Rattle.patch_laws.specs.ReplayLaws.{HoldsSound}
 use Rattle.patch_laws.proofs.OnwardNotices.{replayed_sound}
 use Rattle.patch_laws.proofs.Outcomes.{replays}
@@ -22,13 +22,13 @@ module _ (is_mine : List ℕ → Bool) (notice : Tree) (held : ReplicaContents) 
   answer_of r = then_next r (λ end. Ok (copy_answer (documents notice) held end))
 
   abbrev taken_all : Result (Option ReplicaContents) replay.CopyFault
-  taken_all = all_taken 0 (notice.decls ∷ []) (documents notice) held
+  taken_all = outcome_of_documents 0 (notice.decls ∷ []) (documents notice) held
 
   module _ (mine : is_all_mine is_mine (documents notice) ≡ true) where
-    pub of_mine : replayed is_mine notice held ≡ then_next (all_taken 0 (notice.decls ∷ []) (documents notice) held) (λ end. Ok (copy_answer (documents notice) held end))
+    pub of_mine : replay_outcome is_mine notice held ≡ then_next (outcome_of_documents 0 (notice.decls ∷ []) (documents notice) held) (λ end. Ok (copy_answer (documents notice) held end))
     of_mine = ap (λ b. cond b (answer_of taken_all) (Err WrongDocument)) mine
 
-    pub done_with : (new : ReplicaContents) → 0 < length (documents notice) → all_taken 0 (notice.decls ∷ []) (documents notice) held ≡ Ok (Some new) → replayed is_mine notice held ≡ Ok (if is_some new then Patched else Removed, new)
+    pub done_with : (new : ReplicaContents) → 0 < length (documents notice) → outcome_of_documents 0 (notice.decls ∷ []) (documents notice) held ≡ Ok (Some new) → replay_outcome is_mine notice held ≡ Ok (if is_some new then Patched else Removed, new)
     done_with new some e = of_mine ∙ ap answer_of e ∙ ap Ok (answer_is (documents notice) some)
       where
         answer_is : (ds : List Tree) → 0 < length ds → copy_answer ds held (Some new) ≡ (if is_some new then Patched else Removed, new)
@@ -37,13 +37,13 @@ module _ (is_mine : List ℕ → Bool) (notice : Tree) (held : ReplicaContents) 
 
 module _ (is_mine : List ℕ → Bool) (notice : Tree) (old : ReplicaContents) where
   -- the outcome by reading selectors from left to right is the outcome by the grammar
-  pub applies : (r : Result Applied (ReadError ApplyFault)) (new : ReplicaContents) → AppliesAs (replayed is_mine notice old) old r new → Applies is_mine notice old r new
+  pub applies : (r : Result Applied (ReadError ApplyFault)) (new : ReplicaContents) → AppliesAs (replay_outcome is_mine notice old) old r new → Applies is_mine notice old r new
   applies (Ok answer) new h = replays is_mine notice old (Ok (answer_in answer, new)) h
   applies (Err (Fault fault)) new h = (h.0.stated_fault, replays is_mine notice old (Err h.0.stated_fault) h.0.is, h.0.told, h.1)
   applies (Err NoMemory) new h = h
 
   -- the replica stays proper and within the depth
-  pub stays_sound : (r : Result Applied (ReadError ApplyFault)) (new : ReplicaContents) → ProperIn [] notice → AppliesAs (replayed is_mine notice old) old r new → HoldsSound old → HoldsSound new
+  pub stays_sound : (r : Result Applied (ReadError ApplyFault)) (new : ReplicaContents) → ProperIn [] notice → AppliesAs (replay_outcome is_mine notice old) old r new → HoldsSound old → HoldsSound new
   stays_sound (Ok answer) new proper h sound = replayed_sound reading_in is_mine notice old new (answer_in answer) proper sound h
   stays_sound (Err (Fault fault)) new proper h sound = subst HoldsSound (sym h.1) sound
   stays_sound (Err NoMemory) new proper h sound = subst HoldsSound (sym h) sound

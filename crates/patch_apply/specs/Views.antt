@@ -1,6 +1,7 @@
 -- What the types of the code mean in the terms of `patch_rules`.
 use Rattle.std.specs.Prelude.{◌≤◌, ℕ, min, List, Option, None, Some, option_map}
-use Rattle.xml_names.specs.Limits.{u64_max, max_levels}
+use Rattle.xml_names.specs.Limits.{u64_max}
+use Rattle.xml_names.specs.declared.limits.TheConstants.{MAX_LEVELS}
 use Rattle.xml_tree.specs.Tree.{Tree, height}
 use Rattle.patch_rules.specs.PatchOperations as words
 use Rattle.patch_rules.specs.Replay as replay
@@ -39,7 +40,7 @@ stored_in held = option_map version_in held
 -- the replica's tree has at most as many levels as a document may have
 abbrev pub IsWithinLevels : replay.ReplicaContents → Type 0
 IsWithinLevels None = Unit {0}
-IsWithinLevels (Some h) = height h.1 ≤ max_levels
+IsWithinLevels (Some h) = height h.1 ≤ MAX_LEVELS
 
 abbrev pub answer_in : Applied → replay.CopyAnswer
 answer_in answers.Same = replay.Same

@@ -8,7 +8,8 @@ ghost use Rattle.xml_names.specs.Limits.{u64_max};
 ghost use Rattle.patch_rules.specs.PatchOperations.{plain_value};
 ghost use Rattle.patch_rules.specs.Replay.{Patched, Removed, is_all_mine, last_new};
 ghost use Rattle.patch_rules.specs.Replay.{operation_count};
-ghost use Rattle.patch_rules.specs.readers.Replay.{all_taken, replayed, document_taken};
+ghost use Rattle.patch_rules.specs.readers.Replay.{outcome_of_documents, replay_outcome};
+ghost use Rattle.patch_rules.specs.readers.Replay.{outcome_of_document};
 ghost use Rattle.patch_rules.specs.Replay as words;
 ghost use Rattle.patch_laws.specs.ReplayLaws.{HoldsSound};
 ghost use Rattle.patch_apply.specs.ApplyAnswers.{Applies};
@@ -120,7 +121,7 @@ fn turn_of(
     requires height_bounded { IsWithinLevels (stored_in held.old) }
     ensures as_specified { (n : ℕ) → before ≡ min n u64_max
         → Answered (AreGiven {X = TheTurn × ℕ} (λ x. turn_in x.0 (stored_in held.new))
-        (document_taken n scope.now document.now (stored_in held.old))) result }
+        (outcome_of_document n scope.now document.now (stored_in held.old))) result }
     ensures counts_operations { IfOk result (λ x. x.1 ≡ operation_count scope.now document.now) }
     ensures within_levels { OnOk result (IsWithinLevels (stored_in held.new)) }
 {
@@ -132,7 +133,7 @@ fn turn_of(
 }
 
 // Applies `document`s one after another: none where one has no operations for its change.
-fn all_taken(
+fn outcome_of_documents(
     alloc: Global,
     scope: &Scope<'_>,
     documents: &[&Element],
@@ -142,7 +143,8 @@ fn all_taken(
     requires height_bounded { IsWithinLevels (stored_in held.old) }
     ensures as_specified { Answered
         (AreGiven (λ outcome. contents_in outcome (stored_in held.new))
-        (all_taken 0 scope.now (map (λ x. x.now) documents.now) (stored_in held.old))) result }
+        (outcome_of_documents 0 scope.now (map (λ x. x.now) documents.now)
+        (stored_in held.old))) result }
     ensures within_levels { OnOk result (IsWithinLevels (stored_in held.new)) }
 {
     let mut before = 0usize;
@@ -181,7 +183,7 @@ fn replay_documents(
     requires height_bounded { IsWithinLevels (stored_in replica.old.held) }
     ensures same_document { replica.new.doc ≡ replica.old.doc }
     ensures as_specified { AppliesAs
-        (replayed (is_name_of replica.old.doc) notice.now (stored_in replica.old.held))
+        (replay_outcome (is_name_of replica.old.doc) notice.now (stored_in replica.old.held))
         (stored_in replica.old.held) result (stored_in replica.new.held) }
     ensures within_levels { IsWithinLevels (stored_in replica.new.held) }
 {
@@ -194,7 +196,7 @@ fn replay_documents(
     }
     let mut held = copy_replica_version(alloc, &replica.held)?;
     let scope = Scope::empty().with(notice.decls());
-    let outcome = all_taken(alloc, &scope, documents, &mut held)?;
+    let outcome = outcome_of_documents(alloc, &scope, documents, &mut held)?;
     match outcome {
         DocumentOutcome::Missing => {
             drop(held);
@@ -218,7 +220,7 @@ fn replay(
     requires height_bounded { IsWithinLevels (stored_in replica.old.held) }
     ensures same_document { replica.new.doc ≡ replica.old.doc }
     ensures as_specified { AppliesAs
-        (replayed (is_name_of replica.old.doc) notice.now (stored_in replica.old.held))
+        (replay_outcome (is_name_of replica.old.doc) notice.now (stored_in replica.old.held))
         (stored_in replica.old.held) result (stored_in replica.new.held) }
     ensures within_levels { IsWithinLevels (stored_in replica.new.held) }
 {

@@ -2,7 +2,7 @@
 ghost use Rattle.std.specs.Prelude.{◌≡◌, ◌≤◌, ◌<◌, ◌++◌, ◌∷◌, [], Bool, List, length, remove};
 ghost use Rattle.std.specs.Prelude.{IsSome, IsSomeAnd, IfOk, OnOk};
 ghost use Rattle.xml_names.specs.Memory.{Answered};
-ghost use Rattle.xml_names.specs.Limits.{max_levels};
+ghost use Rattle.xml_names.specs.declared.limits.TheConstants.{MAX_LEVELS};
 ghost use Rattle.xml_names.specs.Attributes.{with_value};
 ghost use Rattle.xml_tree.specs.Edits.{change_at};
 ghost use Rattle.xml_names.specs.ExpandedNames.{attr_name, same_expanded};
@@ -57,7 +57,7 @@ fn write_at(tree: &mut Element, path: &Path, place: usize, value: Text)
 }
 
 // Removes an attribute of the element at a path.
-fn take_at(tree: &mut Element, path: &Path, place: usize)
+fn remove_attribute_at(tree: &mut Element, path: &Path, place: usize)
     requires { IsSomeAnd (at path.now tree.old) (λ e. place < length e.attrs) }
     ensures tree_changed { tree.new
         ≡ change_at path.now (with_attrs (λ ats. remove ats place)) tree.old }
@@ -112,7 +112,7 @@ pub(crate) fn add_attr(
     tree: &mut Element,
 ) -> Result<(), ReadError<OperationError>>
     requires place_exists { IsSome (at path.now tree.old) }
-    requires height_bounded { height tree.old ≤ max_levels }
+    requires height_bounded { height tree.old ≤ MAX_LEVELS }
     ensures as_specified { Answered
         (EditsAs (new_attr_result here.now name path.now operation.now.content tree.old) tree.new)
         result }
@@ -140,7 +140,7 @@ pub(crate) fn replace_attr(
     tree: &mut Element,
 ) -> Result<(), ReadError<OperationError>>
     requires place_exists { IsSomeAnd (at path.now tree.old) (λ e. place < length e.attrs) }
-    requires height_bounded { height tree.old ≤ max_levels }
+    requires height_bounded { height tree.old ≤ MAX_LEVELS }
     ensures as_specified { Answered
         (EditsAs (set_attr_result path.now place operation.now.content tree.old) tree.new) result }
 {
@@ -160,14 +160,14 @@ pub(crate) fn remove_attr(
     tree: &mut Element,
 ) -> Result<(), ReadError<OperationError>>
     requires place_exists { IsSomeAnd (at path.now tree.old) (λ e. place < length e.attrs) }
-    requires height_bounded { height tree.old ≤ max_levels }
+    requires height_bounded { height tree.old ≤ MAX_LEVELS }
     ensures as_specified { Answered
         (EditsAs (drop_attr_result path.now place operation.now.content tree.old) tree.new) result }
 {
     if !is_bare(operation) {
         return Err(ReadError::Fault(OperationError::WrongNodes));
     }
-    take_at(tree, path, place);
+    remove_attribute_at(tree, path, place);
     Ok(())
 }
 
@@ -192,7 +192,7 @@ pub(crate) fn replace_text(
 ) -> Result<(), ReadError<OperationError>>
     requires place_exists { IsSomeAnd (at path.now tree.old)
         (λ e. place < length (nodes_of e.content)) }
-    requires height_bounded { height tree.old ≤ max_levels }
+    requires height_bounded { height tree.old ≤ MAX_LEVELS }
     ensures as_specified { (c : List (List Decl))
         → Answered (EditsAs (replace_result c
         (spots.AtText path.now place) operation.now.content tree.old) tree.new) result }
@@ -216,7 +216,7 @@ pub(crate) fn remove_text(
 ) -> Result<(), ReadError<OperationError>>
     requires place_exists { IsSomeAnd (at path.now tree.old)
         (λ e. place < length (nodes_of e.content)) }
-    requires height_bounded { height tree.old ≤ max_levels }
+    requires height_bounded { height tree.old ≤ MAX_LEVELS }
     ensures as_specified { (before after : Bool)
         → Answered (EditsAs (remove_result before after
         (spots.AtText path.now place) operation.now.content tree.old) tree.new) result }

@@ -4,11 +4,13 @@ ghost use Rattle.std.specs.Prelude.{OnOk, false, bytes_eq};
 ghost use Rattle.std.specs.Option.{option_copied, option_map_or};
 ghost use Rattle.xml_names.specs.Memory.{Answered};
 ghost use Rattle.xml_tree.specs.declared.scope.TheConstants.{SCOPE_LIMIT};
-ghost use Rattle.xml_names.specs.Limits.{u64_max, max_levels};
+ghost use Rattle.xml_names.specs.Limits.{u64_max};
+ghost use Rattle.xml_names.specs.declared.limits.TheConstants.{MAX_LEVELS};
 ghost use Rattle.xml_tree.specs.Tree.{Tree, height};
 ghost use Rattle.patch_rules.specs.PatchOperations as words;
-ghost use Rattle.patch_rules.specs.Replay.{WrongTag, held_tag, numbered};
-ghost use Rattle.patch_rules.specs.readers.Replay.{apply_all, by_tags, change_outcome};
+ghost use Rattle.patch_rules.specs.Replay.{WrongTag, held_tag, with_operation_number};
+ghost use Rattle.patch_rules.specs.readers.Replay.{apply_all, outcome_by_previous_tag};
+ghost use Rattle.patch_rules.specs.readers.Replay.{change_outcome};
 ghost use Rattle.patch_rules.specs.readers.Replay.{renewed_copy};
 ghost use Rattle.patch_apply.specs.inner.Results.{AreGiven, EditsAs};
 ghost use Rattle.patch_apply.specs.Views.{IsWithinLevels, stored_in, version_in};
@@ -45,7 +47,7 @@ pub struct DocumentDiff<'a> {
 fn error_at(error: ReadError<OperationError>, number: usize) -> ReadError<ApplyFault>
     ensures numbered_fault { (n : ℕ) (stated : Result Tree words.OperationError) (new : Tree)
         → number ≡ min (suc n) u64_max → Answered (EditsAs stated new) (Err error)
-        → Answered (AreGiven {X = Tree} (λ t. t) (numbered n stated)) (Err result) }
+        → Answered (AreGiven {X = Tree} (λ t. t) (with_operation_number n stated)) (Err result) }
 {
     match error {
         ReadError::Fault(wrong) => ReadError::Fault(fault_at(wrong, number)),
@@ -63,11 +65,11 @@ fn apply_all(
     tree: &mut Element,
 ) -> Result<(), ReadError<ApplyFault>>
     requires room_left { length scope.now < SCOPE_LIMIT }
-    requires height_bounded { height tree.old ≤ max_levels }
+    requires height_bounded { height tree.old ≤ MAX_LEVELS }
     ensures as_specified { (n : ℕ) → before ≡ min n u64_max
         → Answered (AreGiven (λ _. tree.new)
         (apply_all n scope.now (map (λ x. x.now) operations.now) tree.old)) result }
-    ensures within_levels { OnOk result (height tree.new ≤ max_levels) }
+    ensures within_levels { OnOk result (height tree.new ≤ MAX_LEVELS) }
 {
     let mut number = before;
     for operation in operations {
@@ -127,12 +129,12 @@ fn change_outcome(
     held: &mut ReplicaVersion,
 ) -> Result<DocumentOutcome, ReadError<ApplyFault>>
     requires room_left { length scope.now < SCOPE_LIMIT }
-    requires height_bounded { height held.old.root ≤ max_levels }
+    requires height_bounded { height held.old.root ≤ MAX_LEVELS }
     ensures as_specified { (n : ℕ) → before ≡ min n u64_max
         → Answered (AreGiven (λ outcome. turn_in outcome (Some (version_in held.new)))
         (change_outcome n scope.now (map (λ x. x.now) operations.now) tag.now
         (Some (version_in held.old)))) result }
-    ensures within_levels { OnOk result (height held.new.root ≤ max_levels) }
+    ensures within_levels { OnOk result (height held.new.root ≤ MAX_LEVELS) }
 {
     if operations.is_empty() {
         return Ok(DocumentOutcome::Missing);
@@ -185,7 +187,7 @@ pub(crate) fn document_outcome(
     requires height_bounded { IsWithinLevels (stored_in held.old) }
     ensures as_specified { (n : ℕ) → before ≡ min n u64_max
         → Answered (AreGiven (λ outcome. turn_in outcome (stored_in held.new))
-        (by_tags n scope.now (map (λ x. x.now) told.now.operations.items)
+        (outcome_by_previous_tag n scope.now (map (λ x. x.now) told.now.operations.items)
         (option_copied told.now.previous) (option_copied told.now.new) (stored_in held.old)))
         result }
     ensures within_levels { OnOk result (IsWithinLevels (stored_in held.new)) }

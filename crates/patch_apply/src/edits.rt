@@ -1,7 +1,6 @@
 //! Places among the nodes of a tree, and edits there, in place.
 ghost use Rattle.std.specs.Prelude.{◌≡◌, ◌≤◌, ◌<◌, ◌+◌, suc, length, nat_le, true, IsSome};
 ghost use Rattle.std.specs.Prelude.{IsSomeAnd, OnOk};
-ghost use Rattle.xml_names.specs.Limits.{max_levels};
 ghost use Rattle.xml_tree.specs.Edits.{change_at, parent_path};
 ghost use Rattle.xml_tree.specs.Nodes.{exchange_nodes, nodes_of};
 ghost use Rattle.xml_tree.specs.Tree.{at, height};
@@ -51,7 +50,7 @@ pub(crate) fn place_in_parent(tree: &Element, path: &Path) -> InsertPosition
 }
 
 /// The number after a node of the element at a path.
-pub(crate) fn number_behind(tree: &Element, path: &Path, place: usize) -> usize
+pub(crate) fn number_after(tree: &Element, path: &Path, place: usize) -> usize
     requires within { IsSomeAnd (at path.now tree.now) (λ e. place < length (nodes_of e.content)) }
     ensures next_place { result ≡ suc place }
 {
@@ -114,7 +113,7 @@ pub(crate) fn gap_of(position: Position, tree: &Element, path: Path) -> InsertPo
         Position::Before => place_in_parent(tree, &path),
         Position::After => {
             let InsertPosition { path, place } = place_in_parent(tree, &path);
-            let place = number_behind(tree, &path, place);
+            let place = number_after(tree, &path, place);
             InsertPosition { path, place }
         }
     }
@@ -124,14 +123,14 @@ pub(crate) fn gap_of(position: Position, tree: &Element, path: Path) -> InsertPo
 
 /// Whether nodes fit into the element at a path, by their depth.
 pub(crate) fn may_hold(path: &Path, nodes: &[Node]) -> bool
-    ensures exact { result ≡ nat_le (length path.now + suc (nodes_height nodes.now)) max_levels }
+    ensures exact { result ≡ nat_le (length path.now + suc (nodes_height nodes.now)) MAX_LEVELS }
 {
     nodes_depth(nodes).saturating_add(path.numbers().len() + 1) <= MAX_LEVELS
 }
 
 /// Whether an element fits at a path, by its depth.
 pub(crate) fn may_stand(path: &Path, element: &Element) -> bool
-    ensures exact { result ≡ nat_le (length path.now + height element.now) max_levels }
+    ensures exact { result ≡ nat_le (length path.now + height element.now) MAX_LEVELS }
 {
     depth(element).saturating_add(path.numbers().len()) <= MAX_LEVELS
 }
@@ -140,7 +139,7 @@ pub(crate) fn may_stand(path: &Path, element: &Element) -> bool
 
 /// Whether the names in an operation mean the same in the scope at it and in the scope at the
 /// element of a path.
-pub(crate) fn means_alike_at(
+pub(crate) fn names_agree_at(
     alloc: Global,
     here: &Scope<'_>,
     tree: &Element,
@@ -172,7 +171,7 @@ pub(crate) fn alike_around(
 {
     match path.split_last() {
         None => means_alike(alloc, here, &Scope::empty(), operation),
-        Some((parent, _)) => means_alike_at(alloc, here, tree, &parent, operation),
+        Some((parent, _)) => names_agree_at(alloc, here, tree, &parent, operation),
     }
 }
 
@@ -213,6 +212,6 @@ pub(crate) fn exchange_one(
     ensures ok { OnOk result
         (tree.new ≡ change_at path.now (exchange_nodes place (suc place) nodes.items) tree.old) }
 {
-    let behind = number_behind(tree, path, place);
+    let behind = number_after(tree, path, place);
     exchange_at(tree, path, place, behind, nodes)
 }

@@ -2,7 +2,7 @@
 ghost use Rattle.std.specs.Prelude.{◌≡◌, ◌≤◌, ◌<◌, ◌+◌, ◌-◌, suc, true, not, ◌||◌, length};
 ghost use Rattle.std.specs.Prelude.{slice_get, is_some, IsSome, IsSomeAnd, OnOk, if◌then◌else◌};
 ghost use Rattle.xml_names.specs.Memory.{Answered};
-ghost use Rattle.xml_names.specs.Limits.{max_levels};
+ghost use Rattle.xml_names.specs.declared.limits.TheConstants.{MAX_LEVELS};
 ghost use Rattle.xml_tree.specs.Nodes.{nodes_of};
 ghost use Rattle.xml_tree.specs.Tree.{at, height};
 ghost use Rattle.patch_rules.specs.PatchOperations.{cut_nodes, is_space_at, nodes_at, put_result};
@@ -14,7 +14,7 @@ ghost use Rattle.patch_parse.specs.Views.{position_in};
 
 use crate::edits::{
     InsertPosition, alike_around, exchange_at, gap_of, is_below, is_off_root, may_hold, may_stand,
-    means_alike_at, number_behind, place_in_parent,
+    names_agree_at, number_after, place_in_parent,
 };
 use crate::nodes::{is_space_at, is_space_before};
 use patch_parse::{OperationError, Position, is_bare, sole_element};
@@ -42,7 +42,7 @@ pub(crate) fn put_content(
     tree: &mut Element,
 ) -> Result<(), ReadError<OperationError>>
     requires place_exists { IsSome (at path tree.old) }
-    requires height_bounded { height tree.old ≤ max_levels }
+    requires height_bounded { height tree.old ≤ MAX_LEVELS }
     ensures as_specified { Answered
         (EditsAs (put_result here.now (position_in position) path operation.now.content tree.old)
         tree.new) result }
@@ -68,7 +68,7 @@ fn put_in_gap(
 ) -> Result<(), ReadError<OperationError>>
     requires within { IsSomeAnd (at gap.now.path tree.old)
         (λ e. gap.now.place ≤ length (nodes_of e.content)) }
-    requires height_bounded { height tree.old ≤ max_levels }
+    requires height_bounded { height tree.old ≤ MAX_LEVELS }
     ensures as_specified { Answered
         (EditsAs (insert_result here.now gap.now.path gap.now.place operation.now.content tree.old)
         tree.new) result }
@@ -77,7 +77,7 @@ fn put_in_gap(
     if !may_hold(&gap.path, nodes) {
         return Err(ReadError::Fault(OperationError::WrongNodes));
     }
-    if !means_alike_at(alloc, here, tree, &gap.path, operation) {
+    if !names_agree_at(alloc, here, tree, &gap.path, operation) {
         return Err(ReadError::Fault(OperationError::Prefix));
     }
     let copies = copy_nodes(alloc, nodes)?;
@@ -94,7 +94,7 @@ pub(crate) fn replace_element(
     tree: &mut Element,
 ) -> Result<(), ReadError<OperationError>>
     requires place_exists { IsSome (at path.now tree.old) }
-    requires height_bounded { height tree.old ≤ max_levels }
+    requires height_bounded { height tree.old ≤ MAX_LEVELS }
     ensures as_specified { Answered
         (EditsAs (replace_result here.now (spots.AtElement path.now) operation.now.content tree.old)
         tree.new) result }
@@ -122,7 +122,7 @@ fn is_none_or_before(asked: bool, nodes: &[Node], place: usize) -> bool
 }
 
 // Whether white space comes after the node of a number, if it is asked for.
-fn is_none_or_behind(asked: bool, nodes: &[Node], place: usize) -> bool
+fn has_asked_space_after(asked: bool, nodes: &[Node], place: usize) -> bool
     requires { place < length nodes.now }
     ensures exact { result ≡ (not asked || is_space_at (suc place) nodes.now) }
 {
@@ -139,7 +139,7 @@ fn space_fits(tree: &Element, gap: &InsertPosition, before: bool, after: bool) -
         unreachable!()
     };
     let nodes = parent.nodes();
-    is_none_or_before(before, nodes, gap.place) && is_none_or_behind(after, nodes, gap.place)
+    is_none_or_before(before, nodes, gap.place) && has_asked_space_after(after, nodes, gap.place)
 }
 
 // The number after an element and, if it is asked for, the white space after it.
@@ -152,11 +152,11 @@ fn end_of_cut(tree: &Element, gap: &InsertPosition, after: bool) -> usize
     ensures within_nodes { IsSomeAnd (at gap.now.path tree.now)
         (λ e. result ≤ length (nodes_of e.content)) }
 {
-    let behind = number_behind(tree, &gap.path, gap.place);
+    let behind = number_after(tree, &gap.path, gap.place);
     if !after {
         return behind;
     }
-    number_behind(tree, &gap.path, behind)
+    number_after(tree, &gap.path, behind)
 }
 
 // Removes an element, and where it is asked for the node before it and the node after it.
@@ -189,7 +189,7 @@ pub(crate) fn remove_element(
     tree: &mut Element,
 ) -> Result<(), ReadError<OperationError>>
     requires place_exists { IsSome (at path.now tree.old) }
-    requires height_bounded { height tree.old ≤ max_levels }
+    requires height_bounded { height tree.old ≤ MAX_LEVELS }
     ensures as_specified { Answered
         (EditsAs (remove_result before after (spots.AtElement path.now) operation.now.content
         tree.old) tree.new) result }

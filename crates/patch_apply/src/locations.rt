@@ -1,6 +1,6 @@
 //! What the selector of an operation selects (RFC 5261, section 4.1).
 ghost use Rattle.std.specs.Prelude.{◌≡◌, ◌≤◌, Some};
-ghost use Rattle.xml_names.specs.Limits.{max_levels};
+ghost use Rattle.xml_names.specs.declared.limits.TheConstants.{MAX_LEVELS};
 ghost use Rattle.xml_tree.specs.TreeScopes.{scope_at};
 ghost use Rattle.xml_tree.specs.Tree.{at, height};
 ghost use Rattle.node_select.specs.declared.selector.PatchEnd.TheVariants as ends;
@@ -81,7 +81,7 @@ fn locate_end(
 
 /// The location that a selector selects in a tree.
 pub(crate) fn locate(alloc: Global, selector: &PatchSelector, tree: &Element) -> Option<Location>
-    requires { height tree.now ≤ max_levels }
+    requires { height tree.now ≤ MAX_LEVELS }
     ensures selected_spot { Spots tree.now (locate selector.now tree.now) result }
 {
     let path = select_steps(alloc, tree, selector.steps.as_slice())?;

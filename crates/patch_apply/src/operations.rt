@@ -2,7 +2,7 @@
 ghost use Rattle.std.specs.Prelude.{◌≤◌, ◌<◌, length};
 ghost use Rattle.xml_names.specs.Memory.{Answered};
 ghost use Rattle.xml_tree.specs.declared.scope.TheConstants.{SCOPE_LIMIT};
-ghost use Rattle.xml_names.specs.Limits.{max_levels};
+ghost use Rattle.xml_names.specs.declared.limits.TheConstants.{MAX_LEVELS};
 ghost use Rattle.xml_tree.specs.Tree.{height};
 ghost use Rattle.patch_rules.specs.PatchOperations.{remove_result, replace_result};
 ghost use Rattle.patch_rules.specs.PatchOperations.{locate_and_apply};
@@ -32,7 +32,7 @@ fn replace(
     tree: &mut Element,
 ) -> Result<(), ReadError<OperationError>>
     requires place_exists { IsThere tree.old location }
-    requires height_bounded { height tree.old ≤ max_levels }
+    requires height_bounded { height tree.old ≤ MAX_LEVELS }
     ensures as_specified { (w : words.Location) → IsSpot tree.old location w
         → Answered (EditsAs (replace_result here.now w operation.now.content tree.old) tree.new)
         result }
@@ -54,7 +54,7 @@ fn remove(
     tree: &mut Element,
 ) -> Result<(), ReadError<OperationError>>
     requires place_exists { IsThere tree.old location }
-    requires height_bounded { height tree.old ≤ max_levels }
+    requires height_bounded { height tree.old ≤ MAX_LEVELS }
     ensures as_specified { (w : words.Location) → IsSpot tree.old location w
         → Answered (EditsAs (remove_result before after w operation.now.content tree.old) tree.new)
         result }
@@ -76,7 +76,7 @@ fn apply_action(
     tree: &mut Element,
 ) -> Result<(), ReadError<OperationError>>
     requires place_exists { IsThere tree.old location }
-    requires height_bounded { height tree.old ≤ max_levels }
+    requires height_bounded { height tree.old ≤ MAX_LEVELS }
     ensures as_specified { (w : words.Location) → IsSpot tree.old location w
         → Answered
         (EditsAs
@@ -112,7 +112,7 @@ fn locate_and_apply(
     operation: &Element,
     tree: &mut Element,
 ) -> Result<(), ReadError<OperationError>>
-    requires height_bounded { height tree.old ≤ max_levels }
+    requires height_bounded { height tree.old ≤ MAX_LEVELS }
     ensures as_specified { Answered
         (EditsAs
         (locate_and_apply here.now (task_in task) selector.now operation.now.content tree.old)
@@ -133,7 +133,7 @@ fn apply_selected(
     operation: &Element,
     tree: &mut Element,
 ) -> Result<(), ReadError<OperationError>>
-    requires height_bounded { height tree.old ≤ max_levels }
+    requires height_bounded { height tree.old ≤ MAX_LEVELS }
     ensures as_specified { Answered
         (EditsAs (apply_selected here.now sel.now operation.now tree.old) tree.new) result }
 {
@@ -156,7 +156,7 @@ pub(crate) fn apply_operation(
     tree: &mut Element,
 ) -> Result<(), ReadError<OperationError>>
     requires room_left { length scope.now < SCOPE_LIMIT }
-    requires height_bounded { height tree.old ≤ max_levels }
+    requires height_bounded { height tree.old ≤ MAX_LEVELS }
     ensures as_specified { Answered
         (EditsAs (apply_operation scope.now operation.now tree.old) tree.new) result }
 {

@@ -25,7 +25,7 @@ use Rattle.patch_rules.specs.PatchOperations as words
 use Rattle.patch_rules.specs.PatchOperations.{AtAttr, AtElement, attr_of, rewritten, with_attrs}
 use Rattle.patch_rules.specs.readers.AppliedOperations.{apply_operation}
 use Rattle.edit_ops.specs.Operations.{attr_path_text, change_operation as told}
-use Rattle.patch_laws.specs.Premises.{ArePositions, Meets, around_operations}
+use Rattle.patch_laws.specs.Premises.{ArePositions, BindsAlike, around_operations}
 use Rattle.patch_laws.proofs.PathSelection.{attr_form, attr_means, attr_read, locates_attr, locates_element, path_form, path_means, path_read, steps}
 use Rattle.patch_laws.proofs.Prefixes.{Meets-told, attr_alike, same_expanded-refl}
 use Rattle.patch_laws.proofs.PassedOperations.{applied_by, change_at-agree, made_is}
@@ -65,7 +65,7 @@ module _ (d uri : List ℕ) (ne : d ≢ []) (t : Tree) (p : List ℕ) (n : Name)
   abbrev own_uri : List ℕ
   own_uri = attr_uri (bindings_in own) n
 
-  meets : Meets place own
+  meets : BindsAlike place own
   meets = Meets-told place d uri ne
 
   agree : Agree (is_attr place own_uri n.local) (is_named n) k.attrs

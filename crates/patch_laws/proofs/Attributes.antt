@@ -22,7 +22,7 @@ use Rattle.patch_rules.proofs.NameCuts.{cut_from_front}
 use Rattle.patch_rules.specs.PatchOperations.{attr_of, no_declaration, rewritten, type_of, with_prefix}
 use Rattle.patch_rules.specs.inner.NameCuts.{cut_onto}
 use Rattle.edit_ops.specs.Operations.{attr_name_text}
-use Rattle.patch_laws.specs.Premises.{Meets}
+use Rattle.patch_laws.specs.Premises.{BindsAlike}
 use Rattle.patch_laws.proofs.Prefixes.{both, same_uri-refl}
 
 -- ---- tests that agree
@@ -221,24 +221,24 @@ not_xmlns d p ne = by (bytes_eq p xmlns_prefix) refl
     by true e = absurd (ne ((bytes_eq-Decides p xmlns_prefix).0 e))
     by false e = bound-bindings_in d p
 
-pub uri_is : (c d : List (List Decl)) (n : Name) → Meets c d → IsNamed c n → n.prefix ≢ xmlns_prefix → attr_uri (bindings_in d) n ≡ uri_of (attr_name c n)
+pub uri_is : (c d : List (List Decl)) (n : Name) → BindsAlike c d → IsNamed c n → n.prefix ≢ xmlns_prefix → attr_uri (bindings_in d) n ≡ uri_of (attr_name c n)
 uri_is c d n m h ne = by (bytes_eq n.prefix [])
   where
     by : (b : Bool) → cond b [] (unwrap_or (prefix_uri (bindings_in d) n.prefix) []) ≡ unwrap_or (cond b None (bound c n.prefix)) []
     by true = refl
     by false = ap (λ (o : Option (List ℕ)). unwrap_or o []) (not_xmlns d n.prefix ne ∙ sym (m n.prefix h.known))
 
-prefix_known : (c d : List (List Decl)) (n : Name) → Meets c d → IsNamed c n → n.prefix ≢ xmlns_prefix → n.prefix ≢ [] → IsSome (prefix_uri (bindings_in d) n.prefix)
+prefix_known : (c d : List (List Decl)) (n : Name) → BindsAlike c d → IsNamed c n → n.prefix ≢ xmlns_prefix → n.prefix ≢ [] → IsSome (prefix_uri (bindings_in d) n.prefix)
 prefix_known c d n m h ne some = subst (λ o. IsSome o) (m n.prefix h.known ∙ sym (not_xmlns d n.prefix ne)) (h.known some)
 
-pub known_type : (c d : List (List Decl)) (n : Name) → Meets c d → IsNamed c n → n.prefix ≢ xmlns_prefix → (bytes_eq n.prefix [] || is_some (prefix_uri (bindings_in d) n.prefix)) ≡ true
+pub known_type : (c d : List (List Decl)) (n : Name) → BindsAlike c d → IsNamed c n → n.prefix ≢ xmlns_prefix → (bytes_eq n.prefix [] || is_some (prefix_uri (bindings_in d) n.prefix)) ≡ true
 known_type c d n m h ne = by (bytes_eq n.prefix []) refl
   where
     by : (b : Bool) → bytes_eq n.prefix [] ≡ b → (b || is_some (prefix_uri (bindings_in d) n.prefix)) ≡ true
     by true e = refl
     by false e = prefix_known c d n m h ne (λ z. let w : true ≡ false = sym ((bytes_eq-Decides n.prefix []).1 z) ∙ e in absurd cc)
 
-pub not_unbound : (c d : List (List Decl)) (n : Name) → Meets c d → IsNamed c n → n.prefix ≢ xmlns_prefix → is_unbound (bindings_in d) n ≡ false
+pub not_unbound : (c d : List (List Decl)) (n : Name) → BindsAlike c d → IsNamed c n → n.prefix ≢ xmlns_prefix → is_unbound (bindings_in d) n ≡ false
 not_unbound c d n m h ne = by (bytes_eq n.prefix []) refl
   where
     some : (o : Option (List ℕ)) → IsSome o → is_none o ≡ false

@@ -22,11 +22,11 @@ use Rattle.patch_rules.specs.PatchOperations.{attr_of}
 use Rattle.patch_rules.specs.readers.AppliedOperations.{apply_operation}
 use Rattle.edit_ops.specs.Notes.{AreNotesOf, Note, is_fresh, note_of, scope_of_place, tree_after}
 use Rattle.edit_ops.specs.Operations.{operation, change_operation as told}
-use Rattle.patch_rules.specs.Replay.{numbered, then_next}
+use Rattle.patch_rules.specs.Replay.{with_operation_number, then_next}
 use Rattle.patch_rules.specs.readers.Replay.{apply_all}
 use Rattle.patch_rules.specs.Notices.{operations}
 use Rattle.patch_rules.proofs.Lengths.{HasPositions, HasPositions-short, path_positions}
-use Rattle.patch_laws.specs.Premises.{ArePositions, AreTold, IsTold, around_operations}
+use Rattle.patch_laws.specs.Premises.{ArePositions, AreDiffableTrees, IsDiffableTree, around_operations}
 use Rattle.patch_laws.proofs.Attributes.{Sole-distinct, Sole-front, named_there, new_behind}
 use Rattle.patch_laws.proofs.AttributeOps.{NameAt, added, dropped, exchanged}
 use Rattle.patch_laws.proofs.Prefixes.{both}
@@ -131,19 +131,19 @@ module _ (d uri : List ℕ) (ne : d ≢ []) where
 
   -- ---- changes in order
 
-  pub first_told : (t : Tree) (ns : List Note) → AreTold t ns → IsTold t
+  pub first_told : (t : Tree) (ns : List Note) → AreDiffableTrees t ns → IsDiffableTree t
   first_told t [] h = h
   first_told t (n ∷ ns) h = h.0
 
-  pub applied_note : (tag : ℕ) (t : Tree) (n : Note) → Fits t n.change → n ≡ note_of tag n.next t n.change → IsTold t → IsTold (edited t n.change)
+  pub applied_note : (tag : ℕ) (t : Tree) (n : Note) → Fits t n.change → n ≡ note_of tag n.next t n.change → IsDiffableTree t → IsDiffableTree (edited t n.change)
       → apply_operation (around_operations d uri) (operation d n) t ≡ Ok (edited t n.change)
   applied_note tag t n fits is before after =
       ap (λ (x : Note). apply_operation (around_operations d uri) (told d x.bindings x.fresh n.change) t) is
       ∙ applied_told t n.change fits before.proper (HasPositions-short t before.short) after.proper after.low
 
-  pub all_applied_notes : (count tag : ℕ) (t : Tree) (ns : List Note) → AreNotesOf tag t ns → AreTold t ns → apply_all count (around_operations d uri) (operations d ns) t ≡ Ok (tree_after t ns)
+  pub all_applied_notes : (count tag : ℕ) (t : Tree) (ns : List Note) → AreNotesOf tag t ns → AreDiffableTrees t ns → apply_all count (around_operations d uri) (operations d ns) t ≡ Ok (tree_after t ns)
   all_applied_notes count tag t [] h told = refl
   all_applied_notes count tag t (n ∷ ns) h told =
       let one = applied_note tag t n h.0 h.1 told.0 (first_told (edited t n.change) ns told.1) in
-      ap (λ r. then_next (numbered count r) (apply_all (suc count) (around_operations d uri) (operations d ns))) one
+      ap (λ r. then_next (with_operation_number count r) (apply_all (suc count) (around_operations d uri) (operations d ns))) one
       ∙ all_applied_notes (suc count) n.next (edited t n.change) ns h.2 told.1

@@ -2,8 +2,8 @@
 use Rattle.std.proofs.Common.{◌≡◌, ℕ, zero, suc, ◌+◌, ◌*◌, ◌<◌, ◌≤◌, ◌^◌, Ordering, Less, Equal, Greater, Bool, true, false, List, [], ◌∷◌, ◌++◌, length, filter, flat_map, length-append, Option, Some, None, option_map, slice_get, refl, ap, ◌∙◌, arith}
 use Rattle.std.specs.Prelude.{unwrap_or}
 use Rattle.xml_tree.specs.Edits.{parent_path, put, put_kid, put_over}
-use Rattle.xml_names.specs.Markup.{byte_len, closing, opening, print_decl}
-use Rattle.xml_tree.specs.Print.{ending, is_empty, print, print_content}
+use Rattle.xml_names.specs.Markup.{byte_len, end_tag_text, tag_front, print_decl}
+use Rattle.xml_tree.specs.Print.{rest_of_element, is_empty, print, print_content}
 use Rattle.xml_names.specs.inner.DeclarationMaps.{gathered, placed}
 use Rattle.xml_names.specs.Scopes.{bindings_in, binds, joined}
 use Rattle.xml_tree.specs.TreeScopes.{scope_around, scope_at}
@@ -11,7 +11,7 @@ use Rattle.xml_tree.specs.Tree.{Content, last, more, comment_node, Tree, tree_of
 use Rattle.xml_names.specs.declared.names.Decl.{Decl}
 use Rattle.xml_names.proofs.BindingWords.{gathered_are}
 use Rattle.xml_names.proofs.ByteOrder.{order}
-use Rattle.xml_names.proofs.PrintLengths.{byte_len-append, byte_len-decl, byte_len-opening}
+use Rattle.xml_names.proofs.PrintLengths.{byte_len-append, byte_len-decl, byte_len-tag_front}
 use Rattle.xml_tree.proofs.ProperEdits.{at-change_at}
 use Rattle.edit_ops.specs.Changes.{Fits, edited}
 use Rattle.edit_ops.specs.declared.change.Change.{Change}
@@ -19,7 +19,7 @@ use Rattle.edit_ops.specs.declared.change.Change.TheVariants.{CreateDocument, In
 use Rattle.edit_ops.specs.Notes.{AreNotesOf, Note, scope_of_place}
 use Rattle.patch_rules.specs.Notices.{declarations, declarations_in, operations}
 use Rattle.edit_ops.specs.Operations.{operation, change_operation as told}
-use Rattle.patch_laws.specs.Premises.{AreFew, AreTold}
+use Rattle.patch_laws.specs.Premises.{AreFew, AreDiffableTrees}
 use Rattle.patch_laws.proofs.Changes.{there_of}
 use Rattle.patch_laws.proofs.Elements.{some_and}
 use Rattle.patch_rules.proofs.Lengths.{commented, kid_shorter, opened, parts, place_shorter}
@@ -32,7 +32,7 @@ decls_short [] = omega arith
 decls_short (d ∷ ds) = omega (arith, byte_len-append (print_decl d) (flat_map print_decl ds), byte_len-decl d, decls_short ds)
 
 -- the parts of a print
-whole_parts : (e : Tree) → byte_len (opening e.name e.decls e.attrs) + byte_len (print_content e.content) ≤ byte_len (print e)
+whole_parts : (e : Tree) → byte_len (tag_front e.name e.decls e.attrs) + byte_len (print_content e.content) ≤ byte_len (print e)
 whole_parts e = by (is_empty e.content) refl
   where
     nothing : (c : Content) → is_empty c ≡ true → byte_len (print_content c) ≡ 0
@@ -41,14 +41,14 @@ whole_parts e = by (is_empty e.content) refl
     nothing (more t m ds ats c rest) z = cc
     nothing (comment_node t x rest) z = cc
 
-    by : (b : Bool) → is_empty e.content ≡ b → byte_len (opening e.name e.decls e.attrs) + byte_len (print_content e.content) ≤ byte_len (print e)
+    by : (b : Bool) → is_empty e.content ≡ b → byte_len (tag_front e.name e.decls e.attrs) + byte_len (print_content e.content) ≤ byte_len (print e)
     by true is = omega (arith, opened e, nothing e.content is)
     by false is =
-        let end : byte_len (ending e.name (is_empty e.content) (print_content e.content)) ≡ byte_len (62 ∷ (print_content e.content ++ closing e.name)) = ap (λ b. byte_len (ending e.name b (print_content e.content))) is in
-        omega (arith, opened e, end, byte_len-append (62 ∷ []) (print_content e.content ++ closing e.name), byte_len-append (print_content e.content) (closing e.name))
+        let end : byte_len (rest_of_element e.name (is_empty e.content) (print_content e.content)) ≡ byte_len (62 ∷ (print_content e.content ++ end_tag_text e.name)) = ap (λ b. byte_len (rest_of_element e.name b (print_content e.content))) is in
+        omega (arith, opened e, end, byte_len-append (62 ∷ []) (print_content e.content ++ end_tag_text e.name), byte_len-append (print_content e.content) (end_tag_text e.name))
 
-opening_short : (e : Tree) → length e.decls ≤ byte_len (opening e.name e.decls e.attrs)
-opening_short e = omega (arith, byte_len-opening e.name e.decls e.attrs, decls_short e.decls)
+opening_short : (e : Tree) → length e.decls ≤ byte_len (tag_front e.name e.decls e.attrs)
+opening_short e = omega (arith, byte_len-tag_front e.name e.decls e.attrs, decls_short e.decls)
 
 content_short : (c : Content) → declarations_in c ≤ byte_len (print_content c)
 content_short (last t) = omega arith
@@ -133,16 +133,16 @@ told_short t bs false (SetAttr p n v) fits = omega arith
 told_short t bs fresh (DropAttr p n) fits = omega arith
 told_short t bs fresh RemoveDocument fits = absurd fits
 
-first_short : (t : Tree) (ns : List Note) → AreTold t ns → byte_len (print t) ≤ 4294967295
+first_short : (t : Tree) (ns : List Note) → AreDiffableTrees t ns → byte_len (print t) ≤ 4294967295
 first_short t [] h = h.short
 first_short t (n ∷ ns) h = h.0.short
 
-notes_short : (tag : ℕ) (t : Tree) (ns : List Note) → AreNotesOf tag t ns → AreTold t ns → declarations (operations [] ns) ≤ length ns * 8589934590
+notes_short : (tag : ℕ) (t : Tree) (ns : List Note) → AreNotesOf tag t ns → AreDiffableTrees t ns → declarations (operations [] ns) ≤ length ns * 8589934590
 notes_short tag t [] h are = omega arith
 notes_short tag t (n ∷ ns) h are =
     let decls : length (operation [] n).decls ≡ length (bindings_in (scope_of_place t n.change)) =
     ap length (told_decls [] n.bindings n.fresh n.change ∙ ap (λ (m : Note). m.bindings) h.1) in
     omega (arith, decls, place_short t n.change h.0, told_short t n.bindings n.fresh n.change h.0, are.0.short, first_short (edited t n.change) ns are.1, notes_short n.next (edited t n.change) ns h.2 are.1)
 
-pub few_declarations : (tag : ℕ) (t : Tree) (ns : List Note) → AreNotesOf tag t ns → AreTold t ns → AreFew ns → declarations (operations [] ns) < 2 ^ 64
+pub few_declarations : (tag : ℕ) (t : Tree) (ns : List Note) → AreNotesOf tag t ns → AreDiffableTrees t ns → AreFew ns → declarations (operations [] ns) < 2 ^ 64
 few_declarations tag t ns h are few = omega (arith, notes_short tag t ns h are)

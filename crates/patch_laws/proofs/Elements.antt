@@ -11,7 +11,7 @@ use Rattle.xml_names.specs.declared.names.Decl.{Decl}
 use Rattle.xml_tree.proofs.PathLemmas.{at-snoc}
 use Rattle.edit_ops.specs.Changes.{Fits, edited}
 use Rattle.edit_ops.specs.declared.change.Change.TheVariants.{Insert, Replace, Remove}
-use Rattle.edit_ops.specs.inner.LocalChanges.{FitsHere}
+use Rattle.edit_ops.specs.inner.LocalChanges.{FitsLocally}
 use Rattle.edit_ops.proofs.SiteLemmas.{fits_there}
 use Rattle.xml_tree.specs.PathTexts.{path_text}
 use Rattle.node_select.specs.declared.selector.PatchEnd.TheVariants.{Element}
@@ -84,7 +84,7 @@ module _ (d uri : List ℕ) (ne : d ≢ []) (t : Tree) where
       → apply_operation (around_operations d uri) (told d (bindings_in (scope_around p t)) fresh (Remove p)) t ≡ Ok (edited t (Remove p))
   removed p fresh fits small low =
       let place = scope_around p t in
-      let k = some_and (at (parent_path p) t) (FitsHere (Remove p)) (fits_there t (Remove p) fits) in
+      let k = some_and (at (parent_path p) t) (FitsLocally (Remove p)) (fits_there t (Remove p) fits) in
       applied_by (around_operations d uri) (told d (bindings_in place) fresh (Remove p)) t (path_text p) (words.Remove false false) (path_form p)
       (record { steps = own_steps place p; end = Element }) (AtElement p) refl refl refl (path_read p small) refl (path_means (own place) p) refl (locates_element (bindings_in (own place)) (unwrap_or (bound (own place) []) []) p t fits.1)
       ∙ rw (below_root p fits.0) (made_is _ _ (edited t (Remove p)) (cut_element-is p k.0 t k.1 k.2.1) low refl)

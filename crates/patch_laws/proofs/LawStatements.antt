@@ -24,7 +24,7 @@ use Rattle.edit_ops.specs.Operations.{attr_path_text, operation}
 use Rattle.patch_rules.specs.Replay.{Replays, is_notice}
 use Rattle.patch_rules.specs.readers.Replay.{apply_all}
 use Rattle.patch_rules.proofs.Lengths.{HasPositions-short}
-use Rattle.patch_laws.specs.Premises.{AreFew, ArePositions, AreTold, IsTold, Meets, around_operations}
+use Rattle.patch_laws.specs.Premises.{AreFew, ArePositions, AreDiffableTrees, IsDiffableTree, BindsAlike, around_operations}
 use Rattle.patch_laws.specs.ReplayLaws.{IsReadBack, answer_for}
 use Rattle.patch_laws.proofs.Attributes.{agrees, any_agree, found_any, may_name, not_unbound, uri_is}
 use Rattle.patch_laws.proofs.AttributeOps.{as_written}
@@ -50,7 +50,7 @@ element_selected c p t small there =
     ap (λ (o : Option Reading). option_and_then (λ s. locate s t) (option_and_then (λ r. r.means c) o)) (path_read p small) ∙ ap (option_and_then (λ s. locate s t)) (path_means c p)
     ∙ locates_element (bindings_in c) (unwrap_or (bound c []) []) p t there
 
-pub attribute_selected : (c : List (List Decl)) (p : List ℕ) (n : Name) (t k : Tree) → ArePositions p → at p t ≡ Some k → ProperIn [] t → IsSome (attr_at p n t) → Meets (scope_at p t) c
+pub attribute_selected : (c : List (List Decl)) (p : List ℕ) (n : Name) (t k : Tree) → ArePositions p → at p t ≡ Some k → ProperIn [] t → IsSome (attr_at p n t) → BindsAlike (scope_at p t) c
     → (f : Attr → Bool) × (selected_by c (attr_path_text p n) t ≡ Some (AtAttr p f)) × AllByRecursion (λ a. f a ≡ is_named n a) k.attrs
 attribute_selected c p n t k small there proper some meets =
     let found : IsSome (find (is_named n) k.attrs) = subst (λ o. IsSome o) (ap (option_and_then (λ (e : Tree). find (is_named n) e.attrs)) there) some in
@@ -66,29 +66,29 @@ attribute_selected c p n t k small there proper some meets =
       agree,
     )
 
-pub one_made : (prefix uri : List ℕ) (previous next : ℕ) (t : Tree) (change : Change) → prefix ≢ [] → Fits t change → IsTold t → IsTold (edited t change)
+pub one_made : (prefix uri : List ℕ) (previous next : ℕ) (t : Tree) (change : Change) → prefix ≢ [] → Fits t change → IsDiffableTree t → IsDiffableTree (edited t change)
     → apply_operation (around_operations prefix uri) (operation prefix (note_of previous next t change)) t ≡ Ok (edited t change)
 one_made prefix uri previous next t change ne fits before after = applied_told prefix uri ne t change fits before.proper (HasPositions-short t before.short) after.proper after.low
 
-pub all_made : (prefix uri : List ℕ) (count tag : ℕ) (t : Tree) (ns : List Note) → prefix ≢ [] → AreNotesOf tag t ns → AreTold t ns
+pub all_made : (prefix uri : List ℕ) (count tag : ℕ) (t : Tree) (ns : List Note) → prefix ≢ [] → AreNotesOf tag t ns → AreDiffableTrees t ns
     → apply_all count (around_operations prefix uri) (operations prefix ns) t ≡ Ok (tree_after t ns)
 all_made prefix uri count tag t ns ne h told = all_applied_notes prefix uri ne count tag t ns h told
 
-pub patching_replayed : (is_mine : List ℕ → Bool) (root sel : List ℕ) (tag : ℕ) (t : Tree) (ns : List Note) → is_mine sel ≡ true → AreNotesOf tag t ns → AreTold t ns → AreFew ns
+pub patching_replayed : (is_mine : List ℕ → Bool) (root sel : List ℕ) (tag : ℕ) (t : Tree) (ns : List Note) → is_mine sel ≡ true → AreNotesOf tag t ns → AreDiffableTrees t ns → AreFew ns
     → Replays is_mine (patching_notice root sel tag ns) (Some (decimal tag, t)) (Ok (answer_for ns, Some (decimal (tag_after tag ns), tree_after t ns)))
 patching_replayed is_mine root sel tag t ns mine h told few =
     let p = IsPrefixFor-prefix_for ns (few_declarations tag t ns h told few) in
     replays is_mine (patching_notice root sel tag ns) (Some (decimal tag, t)) (Ok (answer_for ns, Some (decimal (tag_after tag ns), tree_after t ns)))
     (replayed_one_by_one (prefix_for ns) p.some p.other is_mine root sel tag t ns mine p.free h told)
 
-pub aggregate_replayed : (is_mine : List ℕ → Bool) (root sel : List ℕ) (tag : ℕ) (t : Tree) (ns : List Note) → is_mine sel ≡ true → AreNotesOf tag t ns → AreTold t ns → AreFew ns
+pub aggregate_replayed : (is_mine : List ℕ → Bool) (root sel : List ℕ) (tag : ℕ) (t : Tree) (ns : List Note) → is_mine sel ≡ true → AreNotesOf tag t ns → AreDiffableTrees t ns → AreFew ns
     → Replays is_mine (aggregate_notice root sel tag ns) (Some (decimal tag, t)) (Ok (answer_for ns, Some (decimal (tag_after tag ns), tree_after t ns)))
 aggregate_replayed is_mine root sel tag t ns mine h told few =
     let p = IsPrefixFor-prefix_for ns (few_declarations tag t ns h told few) in
     replays is_mine (aggregate_notice root sel tag ns) (Some (decimal tag, t)) (Ok (answer_for ns, Some (decimal (tag_after tag ns), tree_after t ns)))
     (replayed_at_once (prefix_for ns) p.some p.other is_mine root sel tag t ns mine p.free h told)
 
-diff_prefix : (tag : ℕ) (t : Tree) (ns : List Note) → AreNotesOf tag t ns → AreTold t ns → AreFew ns → IsDiffPrefix (prefix_for ns)
+diff_prefix : (tag : ℕ) (t : Tree) (ns : List Note) → AreNotesOf tag t ns → AreDiffableTrees t ns → AreFew ns → IsDiffPrefix (prefix_for ns)
 diff_prefix tag t ns h told few =
     let os = operations [] ns in
     IsDiffPrefix-candidate (first_free (is_taken os) (declarations os) 0) (omega (arith, first_low (is_taken os) (declarations os) 0, few_declarations tag t ns h told few))
@@ -98,14 +98,14 @@ read_back notice h form =
     let bytes = encode_utf8_all (document_print notice) in
     record { read = subst (TextAnswer 67 [] bytes) (document_is_read 67 [] notice refl h.0 h.1).read (text_answer 67 [] bytes); form = form; proper = h.0 }
 
-pub patching_read : (root sel : List ℕ) (tag : ℕ) (t : Tree) (ns : List Note) → all_chars root ≡ true → all_chars sel ≡ true → AreNotesOf tag t ns → AreTold t ns → AreFew ns
+pub patching_read : (root sel : List ℕ) (tag : ℕ) (t : Tree) (ns : List Note) → all_chars root ≡ true → all_chars sel ≡ true → AreNotesOf tag t ns → AreDiffableTrees t ns → AreFew ns
     → IsReadBack (patching_notice root sel tag ns)
 patching_read root sel tag t ns chars more h told few =
     let p = IsPrefixFor-prefix_for ns (few_declarations tag t ns h told few) in
     read_back (patching_notice root sel tag ns) (proper_one_by_one (prefix_for ns) (diff_prefix tag t ns h told few) root sel tag t ns chars more h told p.free)
     (is_notice_one_by_one (prefix_for ns) p.some p.other root sel ns p.free)
 
-pub aggregate_read : (root sel : List ℕ) (tag : ℕ) (t : Tree) (ns : List Note) → all_chars root ≡ true → all_chars sel ≡ true → AreNotesOf tag t ns → AreTold t ns → AreFew ns
+pub aggregate_read : (root sel : List ℕ) (tag : ℕ) (t : Tree) (ns : List Note) → all_chars root ≡ true → all_chars sel ≡ true → AreNotesOf tag t ns → AreDiffableTrees t ns → AreFew ns
     → IsReadBack (aggregate_notice root sel tag ns)
 aggregate_read root sel tag t ns chars more h told few =
     let p = IsPrefixFor-prefix_for ns (few_declarations tag t ns h told few) in

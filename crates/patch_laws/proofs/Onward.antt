@@ -27,7 +27,7 @@ use Rattle.patch_rules.specs.PatchOperations as words
 use Rattle.patch_rules.proofs.NameCuts.{cut_from_front}
 use Rattle.patch_rules.specs.PatchOperations.{Position, Behind, Prepend, Before, After, Location, AtElement, AtAttr, AtText, PatchAction, OperationError, new_attr_result, attr_of, name_of_text, apply_action, given, is_bound_type, checked_tree, means_alike, no_declaration, is_off_root, spot_path, put_at, put_result, remove_result, replace_result, rewritten, scope_of_put, sole_element, tested, type_of, value_in, with_attrs, with_prefix, within_depth}
 use Rattle.patch_rules.specs.inner.NameCuts.{cut_onto}
-use Rattle.patch_laws.specs.Premises.{IsSound}
+use Rattle.patch_laws.specs.Premises.{IsReplicaTree}
 use Rattle.patch_laws.proofs.Attributes.{not_xmlns, same_expanded-true}
 use Rattle.patch_laws.proofs.Prefixes.{both}
 
@@ -112,7 +112,7 @@ made_ok new alike u h =
     let same = same_ok new u b.1 in
     (same, b.0, subst (λ x. height x ≤ 64) same (low (height new) a.0))
 
-made_sound : (new : Tree) (alike : Bool) (u : Tree) → checked_tree new alike ≡ Ok u → (alike ≡ true → ProperIn [] new) → IsSound u
+made_sound : (new : Tree) (alike : Bool) (u : Tree) → checked_tree new alike ≡ Ok u → (alike ≡ true → ProperIn [] new) → IsReplicaTree u
 made_sound new alike u h keeps = let m = made_ok new alike u h in (subst (ProperIn []) m.0 (keeps m.1), m.2)
 
 -- ---- content
@@ -160,7 +160,7 @@ put_proper c Before (n ∷ p) k t off h g = with-nodes IsProperPart [] (parent_p
 put_proper c After [] k t off h g = cc
 put_proper c After (n ∷ p) k t off h g = with-nodes IsProperPart [] (parent_path (n ∷ p)) (suc (words.own_place (n ∷ p) t)) (suc (words.own_place (n ∷ p) t)) (nodes_of k) t (nodes_proper (scope_at (parent_path (n ∷ p)) t) k h) g
 
-put_sound : (c : List (List Decl)) (pos : Position) (p : List ℕ) (k : Content) (t u : Tree) → Proper c k → ProperIn [] t → put_result c pos p k t ≡ Ok u → IsSound u
+put_sound : (c : List (List Decl)) (pos : Position) (p : List ℕ) (k : Content) (t u : Tree) → Proper c k → ProperIn [] t → put_result c pos p k t ≡ Ok u → IsReplicaTree u
 put_sound c pos p k t u h g is =
     let rest = checked_tree (put_at pos p (nodes_of k) t) (means_alike c (scope_of_put pos p t) k) in
     let a = tested_ok (is_off_root pos p) words.RootTouched (tested (is_some (slice_get (nodes_of k) 0)) words.WrongNodes rest) u is in
@@ -312,7 +312,7 @@ type_named (c ∷ cs) n is = by (c == 64) is (name_of_text cs) refl
     by true s (Some m) e = declared_not m n (ap (option_and_then no_declaration) (sym e) ∙ s) (cut_named cs [] m (cut_from_front cs ∙ e))
     by false s o e = cc
 
-added_named : (pos type : Option (List ℕ)) (n : Name) → words.adding pos type ≡ Some (words.NewAttr n) → IsTyped n
+added_named : (pos type : Option (List ℕ)) (n : Name) → words.add_action pos type ≡ Some (words.NewAttr n) → IsTyped n
 added_named None None n is = absurd (cc)
 added_named (Some pos) None n is = by (words.add_position pos) is
   where
@@ -340,7 +340,7 @@ task_named words.Cut pos type ws n is = by (is_some pos || is_some type) ws is
     inner None e = absurd (cc)
     inner (Some x) e = absurd (cc)
 
-    by : (b : Bool) (ws : Option (List ℕ)) → cond b None (words.cutting ws) ≡ Some (words.NewAttr n) → IsTyped n
+    by : (b : Bool) (ws : Option (List ℕ)) → cond b None (words.remove_action ws) ≡ Some (words.NewAttr n) → IsTyped n
     by true ws e = absurd (cc)
     by false None e = absurd (cc)
     by false (Some ws) e = inner (words.white_space_of ws) e
@@ -366,7 +366,7 @@ not_false true h = cc
 not_false false h = refl
 
 attr_sound : (c : List (List Decl)) (n : Name) (p : List ℕ) (k : Content) (t u : Tree) → IsTyped n → (bytes_eq n.prefix [] || is_some (prefix_uri (bindings_in c) n.prefix)) ≡ true → Proper c k → ProperIn [] t
-    → new_attr_result c n p k t ≡ Ok u → IsSound u
+    → new_attr_result c n p k t ≡ Ok u → IsReplicaTree u
 attr_sound c n p k t u typed known h g is =
     let place = scope_at p t in
     let there = unwrap_or (option_map (λ (e : Tree). e.attrs) (at p t)) [] in
@@ -390,7 +390,7 @@ attr_sound c n p k t u typed known h g is =
 
 -- ---- replacing and removing
 
-replace_sound : (c : List (List Decl)) (location : Location) (k : Content) (t u : Tree) → Proper c k → ProperIn [] t → replace_result c location k t ≡ Ok u → IsSound u
+replace_sound : (c : List (List Decl)) (location : Location) (k : Content) (t u : Tree) → Proper c k → ProperIn [] t → replace_result c location k t ≡ Ok u → IsReplicaTree u
 replace_sound c (AtElement p) k t u h g is =
     let alike = means_alike c (scope_around p t) k in
     let a = given_ok (sole_element k) words.WrongNodes (λ e. checked_tree (put_over p e t) alike) u is in
@@ -404,7 +404,7 @@ replace_sound c (AtText p i) k t u h g is =
     made_sound (change_at p (exchange_nodes i (suc i) (text_node a.0)) t) true u a.2
     (λ _. with-nodes IsProperPart [] p i (suc i) (text_node a.0) t (text_proper c (scope_at p t) a.0 (value_proper c k a.0 a.1 h)) g)
 
-remove_sound : (before after : Bool) (location : Location) (k : Content) (t u : Tree) → ProperIn [] t → remove_result before after location k t ≡ Ok u → IsSound u
+remove_sound : (before after : Bool) (location : Location) (k : Content) (t u : Tree) → ProperIn [] t → remove_result before after location k t ≡ Ok u → IsReplicaTree u
 remove_sound before after (AtElement p) k t u g is =
     let new = words.cut_element before after p t in
     let a = tested_ok (words.is_below p) words.RootTouched (tested (words.is_bare k) words.WrongNodes (tested (words.space_fits before after p t) words.NoSpace (checked_tree new true))) u is in
@@ -423,7 +423,7 @@ remove_sound before after (AtText p i) k t u g is =
 -- ---- the whole operation
 
 pub done_sound : (c : List (List Decl)) (task : PatchAction) (location : Location) (k : Content) (t u : Tree) → ((n : Name) → task ≡ words.NewAttr n → IsTyped n) → is_bound_type c task ≡ true → Proper c k → ProperIn [] t
-    → apply_action c task location k t ≡ Ok u → IsSound u
+    → apply_action c task location k t ≡ Ok u → IsReplicaTree u
 done_sound c (words.Put pos) location k t u typed known h g is = put_sound c pos (spot_path location) k t u h g is
 done_sound c (words.NewAttr n) location k t u typed known h g is = attr_sound c n (spot_path location) k t u (typed n refl) known h g is
 done_sound c words.Replace location k t u typed known h g is = replace_sound c location k t u h g is

@@ -10,8 +10,8 @@ use Rattle.xml_names.specs.declared.names.Decl.{Decl}
 use Rattle.node_select.specs.declared.selector.PatchSelector.{PatchSelector}
 use Rattle.patch_rules.specs.PatchOperations.{Location, PatchAction, Word, OperationError, Directive, Prefix, Unlocated, apply_action, given, is_bound_type, is_known, locate, plain_value, suits, task_of, tested, operation_word, apply_operation}
 use Rattle.patch_rules.specs.Selectors.{Reading}
-use Rattle.patch_rules.specs.Replay.{CopyAnswer, CopyFault, WrongTag, WrongDocument, ReplicaContents, DocumentOutcome, Now, Missing, copy_answer, documents, held_tag, is_all_mine, has_diff_name, is_in_diff_namespace, numbered, operation_count, operations_in, is_body_unchanged, then_next, unless_missing, apply_all, all_taken, by_tags, change_outcome, renewed_copy, replayed, document_taken}
-use Rattle.patch_laws.specs.Premises.{IsSound}
+use Rattle.patch_rules.specs.Replay.{CopyAnswer, CopyFault, WrongTag, WrongDocument, ReplicaContents, DocumentOutcome, Now, Missing, copy_answer, documents, held_tag, is_all_mine, has_diff_name, is_in_diff_namespace, with_operation_number, operation_count, operations_in, is_body_unchanged, then_next, unless_missing, apply_all, outcome_of_documents, outcome_by_previous_tag, change_outcome, renewed_copy, replay_outcome, outcome_of_document}
+use Rattle.patch_laws.specs.Premises.{IsReplicaTree}
 use Rattle.patch_laws.specs.ReplayLaws.{HoldsSound}
 use Rattle.patch_laws.proofs.Onward.{done_sound, given_ok, task_named, tested_ok}
 
@@ -53,7 +53,7 @@ next_ok : {A B : Type 0} (r : Result A CopyFault) (k : A → Result B CopyFault)
 next_ok (Ok x) k u h = (x, refl, h)
 next_ok (Err f) k u h = cc
 
-numbered_ok : (n : ℕ) (r : Result Tree OperationError) (x : Tree) → numbered n r ≡ Ok x → r ≡ Ok x
+numbered_ok : (n : ℕ) (r : Result Tree OperationError) (x : Tree) → with_operation_number n r ≡ Ok x → r ≡ Ok x
 numbered_ok n (Ok y) x h = let same : y ≡ x = cc in ap (λ z. Ok z) same
 numbered_ok n (Err w) x h = cc
 
@@ -83,7 +83,7 @@ answered_sound (d ∷ ds) (Some x) held new answer e g f = subst HoldsSound (ap 
 -- ---- operations, documents and a whole diff document, whatever their selectors are taken to say
 
 module _ (read : List ℕ → Option Reading) where
-  pub applied_sound : (c : List (List Decl)) (o t u : Tree) → ProperIn c o → ProperIn [] t → apply_operation read c o t ≡ Ok u → IsSound u
+  pub applied_sound : (c : List (List Decl)) (o t u : Tree) → ProperIn c o → ProperIn [] t → apply_operation read c o t ≡ Ok u → IsReplicaTree u
   applied_sound c o t u h g is =
       let here = c ++ o.decls ∷ [] in
       let pos = plain_value (codes "pos") o.attrs in
@@ -94,10 +94,10 @@ module _ (read : List ℕ → Option Reading) where
       let w = word_there (operation_word o.name.local) (λ x. task_of x pos type ws) r.0 r.2 in
       done_sound here r.0 r.1 o.content t u (λ n same. task_named w.0 pos type ws n (w.1 ∙ ap (λ x. Some x) same)) r.3 h.1 g r.4
 
-  pub all_applied_sound : (n : ℕ) (c : List (List Decl)) (os : List Tree) (t u : Tree) → AllByRecursion (ProperIn c) os → IsSound t → apply_all read n c os t ≡ Ok u → IsSound u
-  all_applied_sound n c [] t u h g is = let same : t ≡ u = cc in subst IsSound same g
+  pub all_applied_sound : (n : ℕ) (c : List (List Decl)) (os : List Tree) (t u : Tree) → AllByRecursion (ProperIn c) os → IsReplicaTree t → apply_all read n c os t ≡ Ok u → IsReplicaTree u
+  all_applied_sound n c [] t u h g is = let same : t ≡ u = cc in subst IsReplicaTree same g
   all_applied_sound n c (o ∷ os) t u h g is =
-      let a = next_ok (numbered n (apply_operation read c o t)) (apply_all read (suc n) c os) u is in
+      let a = next_ok (with_operation_number n (apply_operation read c o t)) (apply_all read (suc n) c os) u is in
       all_applied_sound (suc n) c os a.0 u h.1 (applied_sound c o t a.0 h.0 g.0 (numbered_ok n (apply_operation read c o t) a.0 a.1)) a.2
 
   changed_sound : (n : ℕ) (c : List (List Decl)) (os : List Tree) (tag : List ℕ) (held new : ReplicaContents) → AllByRecursion (ProperIn c) os → HoldsSound held → change_outcome read n c os tag held ≡ Ok (Now new) → HoldsSound new
@@ -119,7 +119,7 @@ module _ (read : List ℕ → Option Reading) where
   renewed_sound n c os None held new h g is = let same : None ≡ new = cc in subst HoldsSound same tt
   renewed_sound n c os (Some tag) held new h g is = changed_sound n c os tag held new h g is
 
-  tags_sound : (n : ℕ) (c : List (List Decl)) (os : List Tree) (previous tag : Option (List ℕ)) (held new : ReplicaContents) → AllByRecursion (ProperIn c) os → HoldsSound held → by_tags read n c os previous tag held ≡ Ok (Now new) → HoldsSound new
+  tags_sound : (n : ℕ) (c : List (List Decl)) (os : List Tree) (previous tag : Option (List ℕ)) (held new : ReplicaContents) → AllByRecursion (ProperIn c) os → HoldsSound held → outcome_by_previous_tag read n c os previous tag held ≡ Ok (Now new) → HoldsSound new
   tags_sound n c os None tag held new h g is = absurd (cc)
   tags_sound n c os (Some previous) tag held new h g is = by (option_map_or (bytes_eq previous) (held_tag held) false) is
     where
@@ -127,28 +127,28 @@ module _ (read : List ℕ → Option Reading) where
       by true e = renewed_sound n c os tag held new h g e
       by false e = absurd (cc)
 
-  taken_sound : (n : ℕ) (c : List (List Decl)) (d : Tree) (held new : ReplicaContents) → ProperIn c d → HoldsSound held → document_taken read n c d held ≡ Ok (Now new) → HoldsSound new
+  taken_sound : (n : ℕ) (c : List (List Decl)) (d : Tree) (held new : ReplicaContents) → ProperIn c d → HoldsSound held → outcome_of_document read n c d held ≡ Ok (Now new) → HoldsSound new
   taken_sound n c d held new h g is =
       let here = c ++ d.decls ∷ [] in
       tags_sound n here (operations_in c d) (plain_value (codes "previous-etag") d.attrs) (plain_value (codes "new-etag") d.attrs) held new
       (kept_proper here (is_in_diff_namespace here) (child_elements_of d) (kids_proper here d.content h.1)) g is
 
-  all_taken_sound : (n : ℕ) (c : List (List Decl)) (ds : List Tree) (held new : ReplicaContents) → AllByRecursion (ProperIn c) ds → HoldsSound held → all_taken read n c ds held ≡ Ok (Some new) → HoldsSound new
+  all_taken_sound : (n : ℕ) (c : List (List Decl)) (ds : List Tree) (held new : ReplicaContents) → AllByRecursion (ProperIn c) ds → HoldsSound held → outcome_of_documents read n c ds held ≡ Ok (Some new) → HoldsSound new
   all_taken_sound n c [] held new h g is = let same : held ≡ new = held_is held new is in subst HoldsSound same g
     where
       held_is : (x y : ReplicaContents) → ◌≡◌ {A = Result (Option ReplicaContents) CopyFault} (Ok (Some x)) (Ok (Some y)) → x ≡ y
       held_is x y e = cc
   all_taken_sound n c (d ∷ ds) held new h g is =
       let m = n + operation_count c d in
-      let a = next_ok (document_taken read n c d held) (λ now. unless_missing now (all_taken read m c ds)) (Some new) is in
+      let a = next_ok (outcome_of_document read n c d held) (λ now. unless_missing now (outcome_of_documents read m c ds)) (Some new) is in
       by a.0 a.1 a.2 (λ x s k. all_taken_sound m c ds x new h.1 s k)
     where
-      by : (now : DocumentOutcome) → document_taken read n c d held ≡ Ok now → unless_missing now (all_taken read (n + operation_count c d) c ds) ≡ Ok (Some new)
-          → ((x : ReplicaContents) → HoldsSound x → all_taken read (n + operation_count c d) c ds x ≡ Ok (Some new) → HoldsSound new) → HoldsSound new
+      by : (now : DocumentOutcome) → outcome_of_document read n c d held ≡ Ok now → unless_missing now (outcome_of_documents read (n + operation_count c d) c ds) ≡ Ok (Some new)
+          → ((x : ReplicaContents) → HoldsSound x → outcome_of_documents read (n + operation_count c d) c ds x ≡ Ok (Some new) → HoldsSound new) → HoldsSound new
       by Missing e k f = absurd (cc)
       by (Now x) e k f = f x (taken_sound n c d held x h.0 g e) k
 
-  pub replayed_sound : (is_mine : List ℕ → Bool) (notice : Tree) (held new : ReplicaContents) (answer : CopyAnswer) → ProperIn [] notice → HoldsSound held → replayed read is_mine notice held ≡ Ok (answer, new) → HoldsSound new
+  pub replayed_sound : (is_mine : List ℕ → Bool) (notice : Tree) (held new : ReplicaContents) (answer : CopyAnswer) → ProperIn [] notice → HoldsSound held → replay_outcome read is_mine notice held ≡ Ok (answer, new) → HoldsSound new
   replayed_sound is_mine notice held new answer h g is = by (is_all_mine is_mine (documents notice)) is
     where
       here : List (List Decl)
@@ -157,8 +157,8 @@ module _ (read : List ℕ → Option Reading) where
       docs : AllByRecursion (ProperIn (notice.decls ∷ [])) (documents notice)
       docs = kept_proper (notice.decls ∷ []) (has_diff_name (notice.decls ∷ []) (codes "document")) (child_elements_of notice) (kids_proper (notice.decls ∷ []) notice.content h.1)
 
-      by : (b : Bool) → cond b (then_next (all_taken read 0 (notice.decls ∷ []) (documents notice) held) (λ end. Ok (copy_answer (documents notice) held end))) (Err WrongDocument) ≡ Ok (answer, new) → HoldsSound new
+      by : (b : Bool) → cond b (then_next (outcome_of_documents read 0 (notice.decls ∷ []) (documents notice) held) (λ end. Ok (copy_answer (documents notice) held end))) (Err WrongDocument) ≡ Ok (answer, new) → HoldsSound new
       by true e =
-          let a = next_ok (all_taken read 0 (notice.decls ∷ []) (documents notice) held) (λ end. Ok (copy_answer (documents notice) held end)) (answer, new) e in
+          let a = next_ok (outcome_of_documents read 0 (notice.decls ∷ []) (documents notice) held) (λ end. Ok (copy_answer (documents notice) held end)) (answer, new) e in
           answered_sound (documents notice) a.0 held new answer a.2 g (λ x same. all_taken_sound 0 (notice.decls ∷ []) (documents notice) held x docs g (a.1 ∙ ap (λ z. Ok z) same))
       by false e = absurd (cc)

@@ -7,7 +7,7 @@ use Rattle.edit_ops.specs.Notes.{Note, tag_after}
 use Rattle.edit_ops.specs.Operations.{plain_attr as plain}
 use Rattle.patch_rules.specs.Notices.{candidate, diff_uri, gone_notice, removed_document, tags_alone, tags_notice}
 use Rattle.patch_rules.specs.Replay.{Fetch, Removed, Replays, Same}
-use Rattle.patch_rules.specs.readers.Replay.{replayed}
+use Rattle.patch_rules.specs.readers.Replay.{replay_outcome}
 use Rattle.patch_laws.specs.Premises.{around_operations}
 use Rattle.patch_laws.specs.ReplayLaws.{IsReadBack}
 use Rattle.patch_laws.proofs.ProperNotices.{AreDocuments, IsDiffPrefix-candidate, diff_proper, document_sound, no_prefixes, two_names}
@@ -17,14 +17,14 @@ use Rattle.patch_laws.proofs.ProperOperations.{IsDiffPrefix, named_ours, plain_a
 use Rattle.patch_laws.proofs.LawStatements.{read_back}
 use Rattle.patch_laws.proofs.Wholes.{bound_document, same_text}
 
-gone_read_so : (is_mine : List ℕ → Bool) (root sel : List ℕ) (tag : ℕ) (t : Tree) → is_mine sel ≡ true → replayed is_mine (gone_notice root sel tag) (Some (decimal tag, t)) ≡ Ok (Removed, None)
+gone_read_so : (is_mine : List ℕ → Bool) (root sel : List ℕ) (tag : ℕ) (t : Tree) → is_mine sel ≡ true → replay_outcome is_mine (gone_notice root sel tag) (Some (decimal tag, t)) ≡ Ok (Removed, None)
 gone_read_so is_mine root sel tag t h = rw (h, same_text (decimal tag)) refl
 
 pub gone_replayed : (is_mine : List ℕ → Bool) (root sel : List ℕ) (tag : ℕ) (t : Tree) → is_mine sel ≡ true → Replays is_mine (gone_notice root sel tag) (Some (decimal tag, t)) (Ok (Removed, None))
 gone_replayed is_mine root sel tag t h = replays is_mine (gone_notice root sel tag) (Some (decimal tag, t)) (Ok (Removed, None)) (gone_read_so is_mine root sel tag t h)
 
 tags_read_so : (is_mine : List ℕ → Bool) (root sel : List ℕ) (tag : ℕ) (t : Tree) (n : Note) (ns : List Note) → is_mine sel ≡ true
-    → replayed is_mine (tags_notice root sel tag (n ∷ ns)) (Some (decimal tag, t)) ≡ Ok (Fetch (decimal (tag_after tag (n ∷ ns))), Some (decimal tag, t))
+    → replay_outcome is_mine (tags_notice root sel tag (n ∷ ns)) (Some (decimal tag, t)) ≡ Ok (Fetch (decimal (tag_after tag (n ∷ ns))), Some (decimal tag, t))
 tags_read_so is_mine root sel tag t n ns h = rw (h, same_text (decimal tag)) refl
 
 pub tags_replayed : (is_mine : List ℕ → Bool) (root sel : List ℕ) (tag : ℕ) (t : Tree) (n : Note) (ns : List Note) → is_mine sel ≡ true

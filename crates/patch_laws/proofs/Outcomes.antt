@@ -13,7 +13,7 @@ use Rattle.xml_names.specs.declared.names.Attr.{Attr}
 use Rattle.xml_names.specs.declared.names.Decl.{Decl}
 use Rattle.patch_rules.specs.PatchOperations.{OperationError, Directive, Prefix, Unlocated, apply_operation, apply_action, given, is_bound_type, is_known, locate, operation_word, plain_value, suits, task_of, tested}
 use Rattle.patch_rules.specs.Selectors.{AreReadings, Reading}
-use Rattle.patch_rules.specs.Replay.{CopyAnswer, CopyFault, ReplicaContents, Missing, Now, Replays, DocumentOutcome, WrongDocument, WrongTag, apply_all, all_taken, by_tags, change_outcome, copy_answer, document_taken, documents, held_tag, is_all_mine, has_diff_name, is_in_diff_namespace, numbered, operation_count, operations_in, renewed_copy, replayed, is_body_unchanged, then_next, unless_missing}
+use Rattle.patch_rules.specs.Replay.{CopyAnswer, CopyFault, ReplicaContents, Missing, Now, Replays, DocumentOutcome, WrongDocument, WrongTag, apply_all, outcome_of_documents, outcome_by_previous_tag, change_outcome, copy_answer, outcome_of_document, documents, held_tag, is_all_mine, has_diff_name, is_in_diff_namespace, with_operation_number, operation_count, operations_in, renewed_copy, replay_outcome, is_body_unchanged, then_next, unless_missing}
 use Rattle.patch_rules.specs.readers.AppliedOperations.{reading_in}
 use Rattle.patch_laws.proofs.OnwardNotices.{kept_proper, kids_proper}
 use Rattle.patch_laws.proofs.SelectorAnswers.{are_readings, one_reading}
@@ -78,8 +78,8 @@ module _ (read other : List ℕ → Option Reading) (are : AreReadings read) (ot
   all_alike : (n : ℕ) (c : List (List Decl)) (os : List Tree) (t : Tree) → AllByRecursion (ProperIn c) os → apply_all read n c os t ≡ apply_all other n c os t
   all_alike n c [] t h = refl
   all_alike n c (o ∷ os) t h =
-      ap (λ r. then_next (numbered n r) (apply_all read (suc n) c os)) (applied_alike c o t h.0)
-      ∙ next_alike (numbered n (apply_operation other c o t)) (apply_all read (suc n) c os) (apply_all other (suc n) c os) (λ x. all_alike (suc n) c os x h.1)
+      ap (λ r. then_next (with_operation_number n r) (apply_all read (suc n) c os)) (applied_alike c o t h.0)
+      ∙ next_alike (with_operation_number n (apply_operation other c o t)) (apply_all read (suc n) c os) (apply_all other (suc n) c os) (λ x. all_alike (suc n) c os x h.1)
 
   changed_alike : (n : ℕ) (c : List (List Decl)) (os : List Tree) (tag : List ℕ) (held : ReplicaContents) → AllByRecursion (ProperIn c) os → change_outcome read n c os tag held ≡ change_outcome other n c os tag held
   changed_alike n c os tag None h = refl
@@ -91,26 +91,26 @@ module _ (read other : List ℕ → Option Reading) (are : AreReadings read) (ot
   renewed_alike n c os None held h = refl
   renewed_alike n c os (Some tag) held h = changed_alike n c os tag held h
 
-  tags_alike : (n : ℕ) (c : List (List Decl)) (os : List Tree) (previous new : Option (List ℕ)) (held : ReplicaContents) → AllByRecursion (ProperIn c) os → by_tags read n c os previous new held ≡ by_tags other n c os previous new held
+  tags_alike : (n : ℕ) (c : List (List Decl)) (os : List Tree) (previous new : Option (List ℕ)) (held : ReplicaContents) → AllByRecursion (ProperIn c) os → outcome_by_previous_tag read n c os previous new held ≡ outcome_by_previous_tag other n c os previous new held
   tags_alike n c os None new held h = refl
   tags_alike n c os (Some previous) new held h =
       ap (λ (r : Result DocumentOutcome CopyFault). cond (option_map_or (bytes_eq previous) (held_tag held) false) r (Err (WrongTag (held_tag held) previous))) (renewed_alike n c os new held h)
 
-  document_alike : (n : ℕ) (c : List (List Decl)) (d : Tree) (held : ReplicaContents) → ProperIn c d → document_taken read n c d held ≡ document_taken other n c d held
+  document_alike : (n : ℕ) (c : List (List Decl)) (d : Tree) (held : ReplicaContents) → ProperIn c d → outcome_of_document read n c d held ≡ outcome_of_document other n c d held
   document_alike n c d held h =
       let here = c ++ d.decls ∷ [] in
       tags_alike n here (operations_in c d) (plain_value (codes "previous-etag") d.attrs) (plain_value (codes "new-etag") d.attrs) held
       (kept_proper here (is_in_diff_namespace here) (child_elements_of d) (kids_proper here d.content h.1))
 
-  all_taken_alike : (n : ℕ) (c : List (List Decl)) (ds : List Tree) (held : ReplicaContents) → AllByRecursion (ProperIn c) ds → all_taken read n c ds held ≡ all_taken other n c ds held
+  all_taken_alike : (n : ℕ) (c : List (List Decl)) (ds : List Tree) (held : ReplicaContents) → AllByRecursion (ProperIn c) ds → outcome_of_documents read n c ds held ≡ outcome_of_documents other n c ds held
   all_taken_alike n c [] held h = refl
   all_taken_alike n c (d ∷ ds) held h =
       let m = n + operation_count c d in
-      ap (λ (r : Result DocumentOutcome CopyFault). then_next r (λ now. unless_missing now (all_taken read m c ds))) (document_alike n c d held h.0)
-      ∙ next_alike (document_taken other n c d held) (λ now. unless_missing now (all_taken read m c ds)) (λ now. unless_missing now (all_taken other m c ds))
-      (λ now. turn_alike now (all_taken read m c ds) (all_taken other m c ds) (λ x. all_taken_alike m c ds x h.1))
+      ap (λ (r : Result DocumentOutcome CopyFault). then_next r (λ now. unless_missing now (outcome_of_documents read m c ds))) (document_alike n c d held h.0)
+      ∙ next_alike (outcome_of_document other n c d held) (λ now. unless_missing now (outcome_of_documents read m c ds)) (λ now. unless_missing now (outcome_of_documents other m c ds))
+      (λ now. turn_alike now (outcome_of_documents read m c ds) (outcome_of_documents other m c ds) (λ x. all_taken_alike m c ds x h.1))
 
-  pub replayed_alike : (is_mine : List ℕ → Bool) (notice : Tree) (held : ReplicaContents) → ProperIn [] notice → replayed read is_mine notice held ≡ replayed other is_mine notice held
+  pub replayed_alike : (is_mine : List ℕ → Bool) (notice : Tree) (held : ReplicaContents) → ProperIn [] notice → replay_outcome read is_mine notice held ≡ replay_outcome other is_mine notice held
   replayed_alike is_mine notice held h =
       let here = notice.decls ∷ [] in
       ap (λ (r : Result (Option ReplicaContents) CopyFault). cond (is_all_mine is_mine (documents notice)) (then_next r (λ end. Ok (copy_answer (documents notice) held end))) (Err WrongDocument))
@@ -118,12 +118,12 @@ module _ (read other : List ℕ → Option Reading) (are : AreReadings read) (ot
 
 -- ---- the outcome of a diff document
 
-pub some_outcome : (is_mine : List ℕ → Bool) (notice : Tree) (held : ReplicaContents) → Replays is_mine notice held (replayed reading_in is_mine notice held)
+pub some_outcome : (is_mine : List ℕ → Bool) (notice : Tree) (held : ReplicaContents) → Replays is_mine notice held (replay_outcome reading_in is_mine notice held)
 some_outcome is_mine notice held = (reading_in, are_readings, refl)
 
 pub one_outcome : (is_mine : List ℕ → Bool) (notice : Tree) (held : ReplicaContents) (a b : Result (CopyAnswer × ReplicaContents) CopyFault) → ProperIn [] notice → Replays is_mine notice held a → Replays is_mine notice held b → a ≡ b
 one_outcome is_mine notice held a b h x y = x.2 ∙ replayed_alike x.0 y.0 x.1 y.1 is_mine notice held h ∙ sym y.2
 
 -- an outcome that is stated by reading from left to right
-pub replays : (is_mine : List ℕ → Bool) (notice : Tree) (held : ReplicaContents) (a : Result (CopyAnswer × ReplicaContents) CopyFault) → replayed reading_in is_mine notice held ≡ a → Replays is_mine notice held a
+pub replays : (is_mine : List ℕ → Bool) (notice : Tree) (held : ReplicaContents) (a : Result (CopyAnswer × ReplicaContents) CopyFault) → replay_outcome reading_in is_mine notice held ≡ a → Replays is_mine notice held a
 replays is_mine notice held a e = (reading_in, are_readings, sym e)

@@ -12,7 +12,7 @@ use Rattle.xml_names.specs.declared.names.Name.{Name}
 use Rattle.xml_names.specs.declared.names.Decl.{Decl}
 use Rattle.node_select.specs.StepSelection.{Selects}
 use Rattle.node_select.proofs.ListEdits.{count-cons}
-use Rattle.node_select.specs.Grammar.{names_attribute}
+use Rattle.node_select.specs.Grammar.{is_attribute_name}
 use Rattle.node_select.specs.Names.{attr_uri, is_unbound}
 use Rattle.node_select.specs.readers.Raw.{PatchAttribute, PatchElement, steps_of, unbound_from, unbound_patch_end}
 use Rattle.node_select.specs.Selection.{is_attr, SelectsAmong, selected_in}
@@ -46,7 +46,7 @@ attr_form p n = reading_of (0, (raw_steps p, PatchAttribute n))
 pub path_read : (p : List ℕ) → ArePositions p → reading_in (path_text p) ≡ Some (path_form p)
 path_read p h = ap reading_if_parsed (path_selector p h)
 
-pub attr_read : (p : List ℕ) (n : Name) → ArePositions p → IsWritten n → names_attribute n ≡ true → reading_in (attr_path_text p n) ≡ Some (attr_form p n)
+pub attr_read : (p : List ℕ) (n : Name) → ArePositions p → IsWritten n → is_attribute_name n ≡ true → reading_in (attr_path_text p n) ≡ Some (attr_form p n)
 attr_read p n h w a = ap reading_if_parsed (attr_selector p n h w a)
 
 pub path_means : (c : List (List Decl)) (p : List ℕ) → (path_form p).means c ≡ Some (record { steps = steps (bindings_in c) (unwrap_or (bound c []) []) p; end = Element })

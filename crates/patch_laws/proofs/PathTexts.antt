@@ -9,14 +9,15 @@ use Rattle.std.specs.Char.{is_ascii_digit as is_digit}
 use Rattle.xml_grammar.specs.Digits as digits
 use Rattle.xml_grammar.specs.Rules.{AllPass, number_from}
 use Rattle.xml_grammar.specs.TextReading.{Reader, head_is, read_word, read_sequence, read_valued, read_some_of}
-use Rattle.xml_grammar.specs.readers.Functions.{read_empty, read_many, read_only, read_optional, read_behind, read_whole}
+use Rattle.xml_grammar.specs.readers.Functions.{read_empty, read_many, read_only, read_optional, read_after, read_whole}
 use Rattle.xml_names.specs.Markup.{print_name}
 use Rattle.xml_names.specs.declared.names.Name.{Name}
 use Rattle.xml_tokens.specs.declared.fault_kind.FaultKind.{FaultKind}
 use Rattle.xml_tokens.specs.readers.Tokens.{read_qname}
 use Rattle.xml_tokens.proofs.ReadFronts.{Reads, AllRead, reads_before, reads_behind, reads_left, reads_many, reads_name_of, reads_right, reads_sequence, reads_sized, reads_valued, reads_word}
 use Rattle.tree_text.proofs.PrintedNames.{IsWritten, reads_qname}
-use Rattle.node_select.specs.Grammar.{names_attribute, greatest_position, position_of}
+use Rattle.node_select.specs.Grammar.{is_attribute_name, position_of}
+use Rattle.node_select.specs.declared.steps.TheConstants.{MAX_POSITION}
 use Rattle.node_select.specs.readers.SelectorValues.{first_step_of}
 use Rattle.node_select.specs.readers.Words.{at_sign, close_bracket, open_bracket, slash, star}
 use Rattle.node_select.specs.readers.Raw.{RawStep, RawPatchEnd, PatchAttribute, PatchElement, patch_end_or_element, raw_step_of, slash_width}
@@ -49,8 +50,8 @@ pass n h = subst (AllPass is_digit) (sym (written n h)) (digits_pass (digits_of 
 worth : (n : ℕ) → IsPosition n → number_from digits.decimal_digits 0 (decimal (suc n)) ≡ suc n
 worth n h = ap (number_from digits.decimal_digits 0) (written n h) ∙ digits_worth (digits_of 10 (suc n)) 0 ∙ number_digits_of 10 (suc n) (omega arith)
 
-within : (v m : ℕ) → v ≡ m → m ≤ greatest_position → cond (nat_le v greatest_position) v 0 ≡ m
-within v m e h = rw e (rw (le-leb m greatest_position h) refl)
+within : (v m : ℕ) → v ≡ m → m ≤ MAX_POSITION → cond (nat_le v MAX_POSITION) v 0 ≡ m
+within v m e h = rw e (rw (le-leb m MAX_POSITION h) refl)
 
 position : (n : ℕ) → IsPosition n → position_of (decimal (suc n)) ≡ suc n
 position n h = within (number_from digits.decimal_digits 0 (decimal (suc n))) (suc n) (worth n h) (omega arith)
@@ -157,11 +158,11 @@ whole_read : {A : Type 0} {p : Reader FaultKind A} {text : List ℕ} {a : A} →
 whole_read h = rw h.read refl
 
 from_steps : (p tail : List ℕ) (end : RawPatchEnd) → ArePositions p → EndsSteps tail
-    → Reads (read_valued patch_end_or_element (read_optional slash_follows (read_behind (read_word slash) read_patch_end))) tail end [] → read_whole read_patch_selector (path_text p ++ tail) ≡ Ok (0, (raw_steps p, end))
+    → Reads (read_valued patch_end_or_element (read_optional slash_follows (read_after (read_word slash) read_patch_end))) tail end [] → read_whole read_patch_selector (path_text p ++ tail) ≡ Ok (0, (raw_steps p, end))
 from_steps p tail end h e k =
     let none : Reads (read_valued slash_width (read_optional slash_follows (read_word slash))) (path_text p ++ tail) 0 (path_text p ++ tail) = record { read = refl } in
-    let steps = reads_sequence (λ _. read_valued patch_end_or_element (read_optional slash_follows (read_behind (read_word slash) read_patch_end))) (path_read p tail h e) k in
-    whole_read (reads_sequence (λ _. read_sequence (read_steps patch_step_follows) (λ _. read_valued patch_end_or_element (read_optional slash_follows (read_behind (read_word slash) read_patch_end)))) none steps)
+    let steps = reads_sequence (λ _. read_valued patch_end_or_element (read_optional slash_follows (read_after (read_word slash) read_patch_end))) (path_read p tail h e) k in
+    whole_read (reads_sequence (λ _. read_sequence (read_steps patch_step_follows) (λ _. read_valued patch_end_or_element (read_optional slash_follows (read_after (read_word slash) read_patch_end)))) none steps)
 
 pub path_selector : (p : List ℕ) → ArePositions p → read_whole read_patch_selector (path_text p) ≡ Ok (0, (raw_steps p, PatchElement))
 path_selector p h =
@@ -170,10 +171,10 @@ path_selector p h =
 reads_only : {A : Type 0} {p : Reader FaultKind A} {text rest : List ℕ} {a : A} (test : A → Bool) → test a ≡ true → Reads p text a rest → Reads (read_only test p) text a rest
 reads_only test t h = record { read = rw h.read (rw t refl) }
 
-reads_named : (n : Name) → IsWritten n → names_attribute n ≡ true → Reads read_attribute (64 ∷ (print_name n ++ [])) n []
-reads_named n w a = reads_behind (reads_word at_sign (print_name n ++ [])) (reads_only names_attribute a (reads_qname n [] w (refl, refl)))
+reads_named : (n : Name) → IsWritten n → is_attribute_name n ≡ true → Reads read_attribute (64 ∷ (print_name n ++ [])) n []
+reads_named n w a = reads_behind (reads_word at_sign (print_name n ++ [])) (reads_only is_attribute_name a (reads_qname n [] w (refl, refl)))
 
-pub attr_selector : (p : List ℕ) (n : Name) → ArePositions p → IsWritten n → names_attribute n ≡ true
+pub attr_selector : (p : List ℕ) (n : Name) → ArePositions p → IsWritten n → is_attribute_name n ≡ true
     → read_whole read_patch_selector (attr_path_text p n) ≡ Ok (0, (raw_steps p, PatchAttribute n))
 attr_selector p n h w a =
     let name = subst (λ (z : List ℕ). Reads read_attribute (64 ∷ z) n []) (append-nil (print_name n)) (reads_named n w a) in

@@ -15,9 +15,9 @@ use Rattle.xml_tree.specs.Tree.{Content, last, more, comment_node, Tree, of_chil
 use Rattle.xml_names.proofs.BindingWords.{bound-bindings_in}
 use Rattle.xml_tree.proofs.ScopesAlike.{bound-inner}
 use Rattle.patch_rules.specs.PatchOperations.{means_alike}
-use Rattle.patch_laws.specs.Premises.{Meets, around_operations}
+use Rattle.patch_laws.specs.Premises.{BindsAlike, around_operations}
 
--- `Meets` holds below an element's own declarations too
+-- `BindsAlike` holds below an element's own declarations too
 inner : (xml : Bool) (o x y : Option (List ℕ)) (p : List ℕ)
     → ((p ≢ [] → IsSome (cond xml (Some xml_uri) (some_text x))) → cond xml (Some xml_uri) (some_text x) ≡ cond xml (Some xml_uri) (some_text y))
     → (p ≢ [] → IsSome (cond xml (Some xml_uri) (some_text (option_or o x)))) → cond xml (Some xml_uri) (some_text (option_or o x)) ≡ cond xml (Some xml_uri) (some_text (option_or o y))
@@ -25,7 +25,7 @@ inner true o x y p f h = refl
 inner false (Some u) x y p f h = refl
 inner false None x y p f h = f h
 
-pub Meets-inner : (c d : List (List Decl)) (ds : List Decl) → Meets c d → Meets (c ++ ds ∷ []) (d ++ ds ∷ [])
+pub Meets-inner : (c d : List (List Decl)) (ds : List Decl) → BindsAlike c d → BindsAlike (c ++ ds ∷ []) (d ++ ds ∷ [])
 Meets-inner c d ds m p h =
     bound-inner c ds p ∙ inner (bytes_eq p xml_prefix) (declared_uri ds p) (declared_uri (joined c) p) (declared_uri (joined d) p) p (m p) (λ ne. subst (λ o. IsSome o) (bound-inner c ds p) (h ne))
     ∙ sym (bound-inner d ds p)
@@ -42,27 +42,27 @@ both a b h k = rw (h, k) refl
 pub same_expanded-refl : (x y : ExpandedName) → x ≡ y → same_expanded x y ≡ true
 same_expanded-refl x y e = subst (λ z. same_expanded x z ≡ true) e (both (same_uri x.uri x.uri) (bytes_eq x.local x.local) (same_uri-refl x.uri) ((bytes_eq-Decides x.local x.local).1 refl))
 
-pub element_alike : (c d : List (List Decl)) (n : Name) → Meets d c → IsNamed d n → element_name c n ≡ element_name d n
+pub element_alike : (c d : List (List Decl)) (n : Name) → BindsAlike d c → IsNamed d n → element_name c n ≡ element_name d n
 element_alike c d n m h = ap (λ o. record { uri = o; local = n.local }) (sym (m n.prefix h.known))
 
-pub attr_alike : (c d : List (List Decl)) (n : Name) → Meets d c → IsNamed d n → attr_name c n ≡ attr_name d n
+pub attr_alike : (c d : List (List Decl)) (n : Name) → BindsAlike d c → IsNamed d n → attr_name c n ≡ attr_name d n
 attr_alike c d n m h = ap (λ o. record { uri = cond (bytes_eq n.prefix []) None o; local = n.local }) (sym (m n.prefix h.known))
 
-attrs_alike : (c d : List (List Decl)) (ats : List Attr) → Meets d c → AllByRecursion (IsAttribute d) ats → list_all (λ a. same_expanded (attr_name c a.name) (attr_name d a.name)) ats ≡ true
+attrs_alike : (c d : List (List Decl)) (ats : List Attr) → BindsAlike d c → AllByRecursion (IsAttribute d) ats → list_all (λ a. same_expanded (attr_name c a.name) (attr_name d a.name)) ats ≡ true
 attrs_alike c d [] m h = refl
 attrs_alike c d (a ∷ ats) m h = both _ _ (same_expanded-refl (attr_name c a.name) (attr_name d a.name) (attr_alike c d a.name m h.0.named)) (attrs_alike c d ats m h.1)
 
 -- c is the scope at the operation, d the scope of the place
-pub means_alike-Proper : (c d : List (List Decl)) (k : Content) → Meets d c → Proper d k → means_alike c d k ≡ true
+pub means_alike-Proper : (c d : List (List Decl)) (k : Content) → BindsAlike d c → Proper d k → means_alike c d k ≡ true
 means_alike-Proper c d (last t) m h = refl
 means_alike-Proper c d (more t n ds ats k rest) m h =
-    let m' : Meets (d ++ ds ∷ []) (c ++ ds ∷ []) = Meets-inner d c ds m in
+    let m' : BindsAlike (d ++ ds ∷ []) (c ++ ds ∷ []) = Meets-inner d c ds m in
     both _ _ (same_expanded-refl (element_name (c ++ ds ∷ []) n) (element_name (d ++ ds ∷ []) n) (element_alike (c ++ ds ∷ []) (d ++ ds ∷ []) n m' h.1.named))
     (both _ _ (attrs_alike (c ++ ds ∷ []) (d ++ ds ∷ []) ats m' h.1.attributes)
     (both _ _ (means_alike-Proper (c ++ ds ∷ []) (d ++ ds ∷ []) k m' h.2) (means_alike-Proper c d rest m h.3)))
 means_alike-Proper c d (comment_node t x rest) m h = means_alike-Proper c d rest m h.2
 
-pub alone_alike : (c d : List (List Decl)) (e : Tree) → Meets d c → ProperIn d e → means_alike c d (of_children (e ∷ [])) ≡ true
+pub alone_alike : (c d : List (List Decl)) (e : Tree) → BindsAlike d c → ProperIn d e → means_alike c d (of_children (e ∷ [])) ≡ true
 alone_alike c d e m h = means_alike-Proper c d (of_children (e ∷ [])) m (tt, h.0, h.1, tt)
 
 -- ---- an operation in a diff document: the root binds one prefix, its document none, and the
@@ -76,6 +76,6 @@ told_alike false None x d p uri false ne e h is = sym e
 told_alike false None x d p uri true ne e h is =
     let same : d ≡ p = (bytes_eq-Decides d p).0 is in let some : IsSome x = h (λ z. ne (same ∙ z)) in absurd (cc)
 
-pub Meets-told : (place : List (List Decl)) (d uri : List ℕ) → d ≢ [] → Meets place (around_operations d uri ++ bindings_in place ∷ [])
+pub Meets-told : (place : List (List Decl)) (d uri : List ℕ) → d ≢ [] → BindsAlike place (around_operations d uri ++ bindings_in place ∷ [])
 Meets-told place d uri ne p h =
     told_alike (bytes_eq p xml_prefix) (declared_uri (joined (bindings_in place ∷ [])) p) (bound place p) d p uri (bytes_eq d p) ne (bound-bindings_in place p) h refl

@@ -16,7 +16,7 @@ use Rattle.xml_names.specs.declared.names.Decl.{Decl}
 use Rattle.edit_ops.specs.Notes.{AreNotesOf, Note, tag_after}
 use Rattle.patch_rules.specs.Notices.{all_at_once, candidate, declares, diff, diff_uri, document, one_by_one, operations}
 use Rattle.edit_ops.specs.Operations.{operation, plain_attr as plain}
-use Rattle.patch_laws.specs.Premises.{AreTold, around_operations}
+use Rattle.patch_laws.specs.Premises.{AreDiffableTrees, around_operations}
 use Rattle.patch_laws.proofs.FreePrefixes.{candidate-other, candidate-some}
 use Rattle.patch_laws.proofs.Numbers.{number_chars}
 use Rattle.patch_laws.proofs.Prefixes.{both}
@@ -127,12 +127,12 @@ module _ (d : List ℕ) (p : IsDiffPrefix d) where
         omega (arith, listed_low 66 ds r.1),
       )
 
-  pub proper_one_by_one : (root sel : List ℕ) (tag : ℕ) (t : Tree) (ns : List Note) → all_chars root ≡ true → all_chars sel ≡ true → AreNotesOf tag t ns → AreTold t ns
+  pub proper_one_by_one : (root sel : List ℕ) (tag : ℕ) (t : Tree) (ns : List Note) → all_chars root ≡ true → all_chars sel ≡ true → AreNotesOf tag t ns → AreDiffableTrees t ns
       → AllByRecursion (λ n. declares d n.bindings ≡ false) ns → ProperIn [] (diff d root (one_by_one d sel ns)) × (height (diff d root (one_by_one d sel ns)) ≤ 67)
   proper_one_by_one root sel tag t ns chars more h are free =
       diff_proper root (one_by_one d sel ns) chars (one_by_one_sound sel ns more (notes_sound d p tag t ns h are free))
 
-  pub proper_at_once : (root sel : List ℕ) (tag : ℕ) (t : Tree) (ns : List Note) → all_chars root ≡ true → all_chars sel ≡ true → AreNotesOf tag t ns → AreTold t ns
+  pub proper_at_once : (root sel : List ℕ) (tag : ℕ) (t : Tree) (ns : List Note) → all_chars root ≡ true → all_chars sel ≡ true → AreNotesOf tag t ns → AreDiffableTrees t ns
       → AllByRecursion (λ n. declares d n.bindings ≡ false) ns → ProperIn [] (diff d root (all_at_once d sel tag ns)) × (height (diff d root (all_at_once d sel tag ns)) ≤ 67)
   proper_at_once root sel tag t ns chars more h are free =
       diff_proper root (all_at_once d sel tag ns) chars (at_once_sound sel tag ns more (notes_sound d p tag t ns h are free))

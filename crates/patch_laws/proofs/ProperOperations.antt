@@ -28,7 +28,7 @@ use Rattle.edit_ops.specs.Notes.{AreNotesOf, Note, note_of, scope_of_place}
 use Rattle.patch_rules.specs.Notices.{declares, diff_uri, operations}
 use Rattle.edit_ops.specs.Operations.{attr_name_text, attr_path_text, operation, change_operation as told, plain_attr as plain}
 use Rattle.patch_rules.proofs.Lengths.{HasPositions, HasPositions-short, path_positions}
-use Rattle.patch_laws.specs.Premises.{ArePositions, AreTold, IsTold, around_operations}
+use Rattle.patch_laws.specs.Premises.{ArePositions, AreDiffableTrees, IsDiffableTree, around_operations}
 use Rattle.patch_laws.proofs.Changes.{first_told, name_after, name_before, tag_at, there_before, there_of}
 use Rattle.patch_laws.proofs.AttributeOps.{NameAt, as_written}
 use Rattle.patch_laws.proofs.Elements.{some_and, there_before_gap}
@@ -225,7 +225,7 @@ module _ (d : List ℕ) (p : IsDiffPrefix d) where
   abbrev pub AreSound : List Tree → Type 0
   AreSound os = AllByRecursion (λ o. ProperIn (around_operations d diff_uri) o × (height o ≤ 65)) os
 
-  note_sound : (tag : ℕ) (t : Tree) (n : Note) → Fits t n.change → n ≡ note_of tag n.next t n.change → IsTold t → IsTold (edited t n.change) → declares d n.bindings ≡ false
+  note_sound : (tag : ℕ) (t : Tree) (n : Note) → Fits t n.change → n ≡ note_of tag n.next t n.change → IsDiffableTree t → IsDiffableTree (edited t n.change) → declares d n.bindings ≡ false
       → ProperIn (around_operations d diff_uri) (operation d n) × (height (operation d n) ≤ 65)
   note_sound tag t n fits is before after free =
       let bs : n.bindings ≡ bindings_in (scope_of_place t n.change) = ap (λ (m : Note). m.bindings) is in (
@@ -234,7 +234,7 @@ module _ (d : List ℕ) (p : IsDiffPrefix d) where
         low_told t n.bindings n.change n.fresh fits after.low,
       )
 
-  pub notes_sound : (tag : ℕ) (t : Tree) (ns : List Note) → AreNotesOf tag t ns → AreTold t ns → AllByRecursion (λ n. declares d n.bindings ≡ false) ns → AreSound (operations d ns)
+  pub notes_sound : (tag : ℕ) (t : Tree) (ns : List Note) → AreNotesOf tag t ns → AreDiffableTrees t ns → AllByRecursion (λ n. declares d n.bindings ≡ false) ns → AreSound (operations d ns)
   notes_sound tag t [] h are free = tt
   notes_sound tag t (n ∷ ns) h are free =
       (note_sound tag t n h.0 h.1 are.0 (first_told d diff_uri p.some (edited t n.change) ns are.1) free.0, notes_sound n.next (edited t n.change) ns h.2 are.1 free.1)

@@ -19,12 +19,12 @@ use Rattle.xml_tree.specs.Tree.{Content, last, more, comment_node, Tree, child_e
 use Rattle.xml_names.proofs.BindingWords.{AreInOrder-bindings_in, gathered_are}
 use Rattle.xml_names.proofs.ByteOrder.{order, order_same}
 use Rattle.xml_tree.proofs.EverywhereLaws.{Everywhere-child_element}
-use Rattle.patch_laws.specs.Premises.{Meets}
+use Rattle.patch_laws.specs.Premises.{BindsAlike}
 use Rattle.patch_laws.proofs.Prefixes.{Meets-inner, attr_alike}
 
 -- ---- from one scope to another
 
-module _ (c d : List (List Decl)) (meets : Meets c d) where
+module _ (c d : List (List Decl)) (meets : BindsAlike c d) where
   pub named_onward : (n : Name) → IsNamed c n → IsNamed d n
   named_onward n h = record { prefix = h.prefix; local = h.local; known = λ ne. subst (λ o. IsSome o) (meets n.prefix h.known) (h.known ne) }
 
@@ -45,14 +45,14 @@ module _ (c d : List (List Decl)) (meets : Meets c d) where
     names = subst (λ l. IsDistinct same_expanded l) (names_onward ats h.attributes) h.names;
   }
 
-pub Proper-Meets : (c d : List (List Decl)) (k : Content) → Meets c d → Proper c k → Proper d k
+pub Proper-Meets : (c d : List (List Decl)) (k : Content) → BindsAlike c d → Proper c k → Proper d k
 Proper-Meets c d (last t) m h = h
 Proper-Meets c d (more t n ds ats k rest) m h =
     let m' = Meets-inner c d ds m in
     (h.0, tag_onward (c ++ ds ∷ []) (d ++ ds ∷ []) m' n ds ats h.1, Proper-Meets (c ++ ds ∷ []) (d ++ ds ∷ []) k m' h.2, Proper-Meets c d rest m h.3)
 Proper-Meets c d (comment_node t x rest) m h = (h.0, h.1, Proper-Meets c d rest m h.2)
 
-pub ProperIn-Meets : (c d : List (List Decl)) (e : Tree) → Meets c d → ProperIn c e → ProperIn d e
+pub ProperIn-Meets : (c d : List (List Decl)) (e : Tree) → BindsAlike c d → ProperIn c e → ProperIn d e
 ProperIn-Meets c d e m h =
     let m' = Meets-inner c d e.decls m in
     (tag_onward (c ++ e.decls ∷ []) (d ++ e.decls ∷ []) m' e.name e.decls e.attrs h.0, Proper-Meets (c ++ e.decls ∷ []) (d ++ e.decls ∷ []) e.content m' h.1)

@@ -13,8 +13,8 @@ use Rattle.edit_ops.specs.Notes.{AreNotesOf, Note, tag_after, tree_after}
 use Rattle.patch_rules.specs.Notices.{all_at_once, declares, diff, diff_uri, document, one_by_one, operations}
 use Rattle.edit_ops.specs.Operations.{operation, change_operation as told}
 use Rattle.patch_rules.specs.Replay.{ReplicaContents, Now, copy_answer, documents, is_all_mine, has_diff_name, is_in_diff_namespace, operation_count, operations_in, is_body_unchanged, then_next, unless_missing}
-use Rattle.patch_rules.specs.readers.Replay.{all_taken, replayed, document_taken}
-use Rattle.patch_laws.specs.Premises.{AreTold, around_operations}
+use Rattle.patch_rules.specs.readers.Replay.{outcome_of_documents, replay_outcome, outcome_of_document}
+use Rattle.patch_laws.specs.Premises.{AreDiffableTrees, around_operations}
 use Rattle.patch_laws.specs.ReplayLaws.{answer_for}
 use Rattle.patch_laws.proofs.Changes.{all_applied_notes, first_told}
 use Rattle.patch_laws.proofs.Prefixes.{both}
@@ -109,28 +109,28 @@ module _ (d : List ℕ) (some : d ≢ []) (other : bytes_eq d xml_prefix ≡ fal
   abbrev as_held : ℕ → Tree → ReplicaContents
   as_held tag t = Some (decimal tag, t)
 
-  taken_document : (count from to : ℕ) (sel : List ℕ) (tag : ℕ) (t : Tree) (n : Note) (ns : List Note) → AllByRecursion (λ n. declares d n.bindings ≡ false) (n ∷ ns) → AreNotesOf tag t (n ∷ ns) → AreTold t (n ∷ ns)
-      → document_taken count top (document d sel from to (operations d (n ∷ ns))) (as_held from t) ≡ Ok (Now (as_held to (tree_after t (n ∷ ns))))
+  taken_document : (count from to : ℕ) (sel : List ℕ) (tag : ℕ) (t : Tree) (n : Note) (ns : List Note) → AllByRecursion (λ n. declares d n.bindings ≡ false) (n ∷ ns) → AreNotesOf tag t (n ∷ ns) → AreDiffableTrees t (n ∷ ns)
+      → outcome_of_document count top (document d sel from to (operations d (n ∷ ns))) (as_held from t) ≡ Ok (Now (as_held to (tree_after t (n ∷ ns))))
   taken_document count from to sel tag t n ns free h told =
       rw (same_text (decimal from), document_operations sel from to (n ∷ ns) free, operations_change (around_operations d diff_uri) d (n ∷ ns))
       (ap (λ r. then_next r (λ u. Ok (Now (as_held to u)))) (all_applied_notes d diff_uri some count tag t (n ∷ ns) h told))
 
-  taken_one_by_one : (count tag : ℕ) (sel : List ℕ) (t : Tree) (ns : List Note) → AllByRecursion (λ n. declares d n.bindings ≡ false) ns → AreNotesOf tag t ns → AreTold t ns
-      → all_taken count top (one_by_one d sel ns) (as_held tag t) ≡ Ok (Some (as_held (tag_after tag ns) (tree_after t ns)))
+  taken_one_by_one : (count tag : ℕ) (sel : List ℕ) (t : Tree) (ns : List Note) → AllByRecursion (λ n. declares d n.bindings ≡ false) ns → AreNotesOf tag t ns → AreDiffableTrees t ns
+      → outcome_of_documents count top (one_by_one d sel ns) (as_held tag t) ≡ Ok (Some (as_held (tag_after tag ns) (tree_after t ns)))
   taken_one_by_one count tag sel t [] free h told = refl
   taken_one_by_one count tag sel t (n ∷ ns) free h told =
-      let first : document_taken count top (document d sel n.previous n.next (operation d n ∷ [])) (as_held tag t) ≡ Ok (Now (as_held n.next (edited t n.change))) =
-      ap (λ x. document_taken count top (document d sel x n.next (operation d n ∷ [])) (as_held tag t)) (ap (λ (m : Note). m.previous) h.1)
+      let first : outcome_of_document count top (document d sel n.previous n.next (operation d n ∷ [])) (as_held tag t) ≡ Ok (Now (as_held n.next (edited t n.change))) =
+      ap (λ x. outcome_of_document count top (document d sel x n.next (operation d n ∷ [])) (as_held tag t)) (ap (λ (m : Note). m.previous) h.1)
       ∙ taken_document count tag n.next sel tag t n [] (free.0, tt) (h.0, h.1, tt) (told.0, first_told d diff_uri some (edited t n.change) ns told.1) in
-      ap (λ r. then_next r (λ now. unless_missing now (all_taken (count + operation_count top (document d sel n.previous n.next (operation d n ∷ []))) top (one_by_one d sel ns)))) first
+      ap (λ r. then_next r (λ now. unless_missing now (outcome_of_documents (count + operation_count top (document d sel n.previous n.next (operation d n ∷ []))) top (one_by_one d sel ns)))) first
       ∙ taken_one_by_one (count + operation_count top (document d sel n.previous n.next (operation d n ∷ []))) n.next sel (edited t n.change) ns free.1 h.2 told.1
 
-  taken_at_once : (tag : ℕ) (sel : List ℕ) (t : Tree) (ns : List Note) → AllByRecursion (λ n. declares d n.bindings ≡ false) ns → AreNotesOf tag t ns → AreTold t ns
-      → all_taken 0 top (all_at_once d sel tag ns) (as_held tag t) ≡ Ok (Some (as_held (tag_after tag ns) (tree_after t ns)))
+  taken_at_once : (tag : ℕ) (sel : List ℕ) (t : Tree) (ns : List Note) → AllByRecursion (λ n. declares d n.bindings ≡ false) ns → AreNotesOf tag t ns → AreDiffableTrees t ns
+      → outcome_of_documents 0 top (all_at_once d sel tag ns) (as_held tag t) ≡ Ok (Some (as_held (tag_after tag ns) (tree_after t ns)))
   taken_at_once tag sel t [] free h told = refl
   taken_at_once tag sel t (n ∷ ns) free h told =
       let doc = document d sel tag (tag_after tag (n ∷ ns)) (operations d (n ∷ ns)) in
-      ap (λ r. then_next r (λ now. unless_missing now (all_taken (0 + operation_count top doc) top [])))
+      ap (λ r. then_next r (λ now. unless_missing now (outcome_of_documents (0 + operation_count top doc) top [])))
       (taken_document 0 tag (tag_after tag (n ∷ ns)) sel tag t n ns free h told)
 
   -- ---- diff documents
@@ -155,9 +155,9 @@ module _ (d : List ℕ) (some : d ≢ []) (other : bytes_eq d xml_prefix ≡ fal
   mine_at_once is_mine sel tag [] h = refl
   mine_at_once is_mine sel tag (n ∷ ns) h = both (is_mine sel) true h refl
 
-  by_documents : (is_mine : List ℕ → Bool) (root : List ℕ) (ds : List Tree) (held new : ReplicaContents) → documents (diff d root ds) ≡ ds → is_all_mine is_mine ds ≡ true → all_taken 0 top ds held ≡ Ok (Some new)
-      → replayed is_mine (diff d root ds) held ≡ Ok (copy_answer ds held (Some new))
-  by_documents is_mine root ds held new docs mine document_taken = rw docs (rw mine (rw document_taken refl))
+  by_documents : (is_mine : List ℕ → Bool) (root : List ℕ) (ds : List Tree) (held new : ReplicaContents) → documents (diff d root ds) ≡ ds → is_all_mine is_mine ds ≡ true → outcome_of_documents 0 top ds held ≡ Ok (Some new)
+      → replay_outcome is_mine (diff d root ds) held ≡ Ok (copy_answer ds held (Some new))
+  by_documents is_mine root ds held new docs mine outcome_of_document = rw docs (rw mine (rw outcome_of_document refl))
 
   answered_one_by_one : (sel : List ℕ) (ns : List Note) (held : ReplicaContents) (tag : ℕ) (t : Tree) → copy_answer (one_by_one d sel ns) held (Some (as_held tag t)) ≡ (answer_for ns, as_held tag t)
   answered_one_by_one sel [] held tag t = refl
@@ -167,15 +167,15 @@ module _ (d : List ℕ) (some : d ≢ []) (other : bytes_eq d xml_prefix ≡ fal
   answered_at_once sel from [] held tag t = refl
   answered_at_once sel from (n ∷ ns) held tag t = refl
 
-  pub replayed_one_by_one : (is_mine : List ℕ → Bool) (root sel : List ℕ) (tag : ℕ) (t : Tree) (ns : List Note) → is_mine sel ≡ true → AllByRecursion (λ n. declares d n.bindings ≡ false) ns → AreNotesOf tag t ns → AreTold t ns
-      → replayed is_mine (diff d root (one_by_one d sel ns)) (as_held tag t) ≡ Ok (answer_for ns, as_held (tag_after tag ns) (tree_after t ns))
+  pub replayed_one_by_one : (is_mine : List ℕ → Bool) (root sel : List ℕ) (tag : ℕ) (t : Tree) (ns : List Note) → is_mine sel ≡ true → AllByRecursion (λ n. declares d n.bindings ≡ false) ns → AreNotesOf tag t ns → AreDiffableTrees t ns
+      → replay_outcome is_mine (diff d root (one_by_one d sel ns)) (as_held tag t) ≡ Ok (answer_for ns, as_held (tag_after tag ns) (tree_after t ns))
   replayed_one_by_one is_mine root sel tag t ns mine free h told =
       by_documents is_mine root (one_by_one d sel ns) (as_held tag t) (as_held (tag_after tag ns) (tree_after t ns)) (documents_in root (one_by_one d sel ns) (keep_one_by_one sel ns))
       (mine_one_by_one is_mine sel ns mine) (taken_one_by_one 0 tag sel t ns free h told)
       ∙ ap (λ x. Ok x) (answered_one_by_one sel ns (as_held tag t) (tag_after tag ns) (tree_after t ns))
 
-  pub replayed_at_once : (is_mine : List ℕ → Bool) (root sel : List ℕ) (tag : ℕ) (t : Tree) (ns : List Note) → is_mine sel ≡ true → AllByRecursion (λ n. declares d n.bindings ≡ false) ns → AreNotesOf tag t ns → AreTold t ns
-      → replayed is_mine (diff d root (all_at_once d sel tag ns)) (as_held tag t) ≡ Ok (answer_for ns, as_held (tag_after tag ns) (tree_after t ns))
+  pub replayed_at_once : (is_mine : List ℕ → Bool) (root sel : List ℕ) (tag : ℕ) (t : Tree) (ns : List Note) → is_mine sel ≡ true → AllByRecursion (λ n. declares d n.bindings ≡ false) ns → AreNotesOf tag t ns → AreDiffableTrees t ns
+      → replay_outcome is_mine (diff d root (all_at_once d sel tag ns)) (as_held tag t) ≡ Ok (answer_for ns, as_held (tag_after tag ns) (tree_after t ns))
   replayed_at_once is_mine root sel tag t ns mine free h told =
       by_documents is_mine root (all_at_once d sel tag ns) (as_held tag t) (as_held (tag_after tag ns) (tree_after t ns)) (documents_in root (all_at_once d sel tag ns) (keep_at_once sel tag ns))
       (mine_at_once is_mine sel tag ns mine) (taken_at_once tag sel t ns free h told)

@@ -1,14 +1,14 @@
 -- The trees, change records and scopes that the laws of diff documents are about.
 use Rattle.std.specs.Prelude.{◌≡◌, ◌≢◌, ℕ, IsSome, ◌<◌, ◌≤◌, List, [], ◌∷◌, length}
 use Rattle.std.specs.List.{AllByRecursion}
-use Rattle.xml_names.specs.Limits.{max_levels}
+use Rattle.xml_names.specs.declared.limits.TheConstants.{MAX_LEVELS}
 use Rattle.xml_names.specs.Markup.{byte_len}
 use Rattle.xml_tree.specs.Print.{print}
 use Rattle.xml_tree.specs.Proper.{ProperIn}
 use Rattle.xml_names.specs.Scopes.{bound}
 use Rattle.xml_tree.specs.Tree.{Tree, height}
 use Rattle.xml_names.specs.declared.names.Decl.{Decl}
-use Rattle.node_select.specs.Grammar.{greatest_position}
+use Rattle.node_select.specs.declared.steps.TheConstants.{MAX_POSITION}
 use Rattle.edit_ops.specs.Changes.{edited}
 use Rattle.edit_ops.specs.Notes.{Note}
 
@@ -17,7 +17,7 @@ use Rattle.edit_ops.specs.Notes.{Note}
 -- the number of a child whose position, counted from 1, can be read: a position above the greatest
 -- is read as 0, which no child has
 abbrev pub IsPosition : ℕ → Type 0
-IsPosition n = n < greatest_position
+IsPosition n = n < MAX_POSITION
 
 abbrev pub ArePositions : List ℕ → Type 0
 ArePositions p = AllByRecursion IsPosition p
@@ -30,26 +30,26 @@ abbrev pub around_operations : List ℕ → List ℕ → List (List Decl)
 around_operations prefix uri = (record { prefix = prefix; uri = uri } ∷ []) ∷ [] ∷ []
 
 -- what the first scope binds, and its default, is bound alike in the second, which may bind more
-abbrev pub Meets : List (List Decl) → List (List Decl) → Type 0
-Meets c d = (p : List ℕ) → (p ≢ [] → IsSome (bound c p)) → bound c p ≡ bound d p
+abbrev pub BindsAlike : List (List Decl) → List (List Decl) → Type 0
+BindsAlike c d = (p : List ℕ) → (p ≢ [] → IsSome (bound c p)) → bound c p ≡ bound d p
 
 -- ---- trees and change records
 
 -- a tree that a replica may have: proper, and not too deep
-abbrev pub IsSound : Tree → Type 0
-IsSound t = ProperIn [] t × (height t ≤ max_levels)
+abbrev pub IsReplicaTree : Tree → Type 0
+IsReplicaTree t = ProperIn [] t × (height t ≤ MAX_LEVELS)
 
--- a tree that diff documents lead from and to: besides, its print isn't too long, so that each
--- position in it can be read
-pub record IsTold (t : Tree) : Type 0 where
+-- a tree before or after a diff document; also, its print isn't too long, so that each position in
+-- it can be read
+pub record IsDiffableTree (t : Tree) : Type 0 where
   pub proper : ProperIn [] t
-  pub low : height t ≤ max_levels
-  pub short : byte_len (print t) ≤ greatest_position
+  pub low : height t ≤ MAX_LEVELS
+  pub short : byte_len (print t) ≤ MAX_POSITION
 
 -- the tree before the change records, and the tree after each
-abbrev pub AreTold : Tree → List Note → Type 0
-AreTold t [] = IsTold t
-AreTold t (n ∷ ns) = IsTold t × AreTold (edited t n.change) ns
+abbrev pub AreDiffableTrees : Tree → List Note → Type 0
+AreDiffableTrees t [] = IsDiffableTree t
+AreDiffableTrees t (n ∷ ns) = IsDiffableTree t × AreDiffableTrees (edited t n.change) ns
 
 -- there are at most 2147483647 change records
 abbrev pub AreFew : List Note → Type 0

@@ -11,7 +11,7 @@ use Rattle.xml_tree.specs.Print.{document_print}
 use Rattle.edit_ops.specs.Notes.{Note}
 use Rattle.patch_rules.specs.Notices.{declares, most_notice_levels}
 use Rattle.patch_rules.specs.Replay.{ReplicaContents, CopyAnswer, Same, Patched, is_notice}
-use Rattle.patch_laws.specs.Premises.{IsSound}
+use Rattle.patch_laws.specs.Premises.{IsReplicaTree}
 
 -- the prefix of a diff document: not the default, not `xml`, and none that an operation of these
 -- records declares
@@ -35,4 +35,4 @@ pub record IsReadBack (notice : Tree) : Type 0 where
 -- what a replica may have: nothing, or a sound tree with its tag
 abbrev pub HoldsSound : ReplicaContents → Type 0
 HoldsSound None = Unit {0}
-HoldsSound (Some h) = IsSound h.1
+HoldsSound (Some h) = IsReplicaTree h.1

@@ -29,8 +29,9 @@ ghost use Rattle.patch_rules.specs.Notices.{operations, patching_notice, prefix_
 ghost use Rattle.patch_rules.specs.Replay.{CopyAnswer, CopyFault, Fetch, ReplicaContents, Removed};
 ghost use Rattle.patch_rules.specs.Replay.{Replays, Same};
 ghost use Rattle.patch_rules.specs.Selectors.{AreReadings, Reading};
-ghost use Rattle.patch_rules.specs.readers.Replay.{apply_all, replayed};
-ghost use Rattle.patch_laws.specs.Premises.{AreFew, ArePositions, AreTold, IsSound, IsTold, Meets};
+ghost use Rattle.patch_rules.specs.readers.Replay.{apply_all, replay_outcome};
+ghost use Rattle.patch_laws.specs.Premises.{AreFew, ArePositions, AreDiffableTrees, IsReplicaTree};
+ghost use Rattle.patch_laws.specs.Premises.{IsDiffableTree, BindsAlike};
 ghost use Rattle.patch_laws.specs.Premises.{around_operations};
 ghost use Rattle.patch_laws.specs.ReplayLaws.{HoldsSound, IsPrefixFor, IsReadBack, answer_for};
 ghost use Rattle.patch_laws.specs.SelectedNodes.{IsTakenAs, selected_by};
@@ -56,7 +57,7 @@ pub fn paths_are_selected()
         → IsSome (at p t) → selected_by c (path_text p) t ≡ Some (AtElement p) }
     ensures attribute_path { (c : List (List Decl)) (p : List ℕ) (n : Name) (t k : Tree)
         → ArePositions p → at p t ≡ Some k → ProperIn [] t → IsSome (attr_at p n t)
-        → Meets (scope_at p t) c
+        → BindsAlike (scope_at p t) c
         → (f : Attr → Bool) × (selected_by c (attr_path_text p n) t ≡ Some (AtAttr p f))
         × AllByRecursion (λ a. f a ≡ is_written_so n a) k.attrs }
 {}
@@ -65,11 +66,11 @@ pub fn paths_are_selected()
 /// change from the tree before it, and so do the operations of records in order.
 pub fn operations_make_changes()
     ensures one_change { (prefix uri : List ℕ) (previous next : ℕ) (t : Tree) (change : Change)
-        → prefix ≢ [] → Fits t change → IsTold t → IsTold (edited t change)
+        → prefix ≢ [] → Fits t change → IsDiffableTree t → IsDiffableTree (edited t change)
         → apply_operation (around_operations prefix uri)
         (operation prefix (note_of previous next t change)) t ≡ Ok (edited t change) }
     ensures all_in_order { (prefix uri : List ℕ) (count tag : ℕ) (t : Tree) (ns : List Note)
-        → prefix ≢ [] → AreNotesOf tag t ns → AreTold t ns
+        → prefix ≢ [] → AreNotesOf tag t ns → AreDiffableTrees t ns
         → apply_all count (around_operations prefix uri) (operations prefix ns) t
         ≡ Ok (tree_after t ns) }
 {}
@@ -84,11 +85,13 @@ pub fn prefixes_are_free()
 /// diff document, in either patching mode, then has the tree and the tag after them.
 pub fn notices_are_replayed()
     ensures step_by_step { (is_mine : List ℕ → Bool) (root sel : List ℕ) (tag : ℕ) (t : Tree)
-        (ns : List Note) → is_mine sel ≡ true → AreNotesOf tag t ns → AreTold t ns → AreFew ns
+        (ns : List Note) → is_mine sel ≡ true → AreNotesOf tag t ns → AreDiffableTrees t ns
+        → AreFew ns
         → Replays is_mine (patching_notice root sel tag ns) (Some (decimal tag, t))
         (Ok (answer_for ns, Some (decimal (tag_after tag ns), tree_after t ns))) }
     ensures aggregated { (is_mine : List ℕ → Bool) (root sel : List ℕ) (tag : ℕ) (t : Tree)
-        (ns : List Note) → is_mine sel ≡ true → AreNotesOf tag t ns → AreTold t ns → AreFew ns
+        (ns : List Note) → is_mine sel ≡ true → AreNotesOf tag t ns → AreDiffableTrees t ns
+        → AreFew ns
         → Replays is_mine (aggregate_notice root sel tag ns) (Some (decimal tag, t))
         (Ok (answer_for ns, Some (decimal (tag_after tag ns), tree_after t ns))) }
 {}
@@ -97,11 +100,11 @@ pub fn notices_are_replayed()
 /// Chars, is parsed as exactly that tree, which has the form of a diff document and is proper.
 pub fn notices_are_read_back()
     ensures step_by_step { (root sel : List ℕ) (tag : ℕ) (t : Tree) (ns : List Note)
-        → all_chars root ≡ true → all_chars sel ≡ true → AreNotesOf tag t ns → AreTold t ns
+        → all_chars root ≡ true → all_chars sel ≡ true → AreNotesOf tag t ns → AreDiffableTrees t ns
         → AreFew ns
         → IsReadBack (patching_notice root sel tag ns) }
     ensures aggregated { (root sel : List ℕ) (tag : ℕ) (t : Tree) (ns : List Note)
-        → all_chars root ≡ true → all_chars sel ≡ true → AreNotesOf tag t ns → AreTold t ns
+        → all_chars root ≡ true → all_chars sel ≡ true → AreNotesOf tag t ns → AreDiffableTrees t ns
         → AreFew ns
         → IsReadBack (aggregate_notice root sel tag ns) }
 {}
@@ -130,7 +133,7 @@ pub fn other_notices_are_replayed()
 /// read from left to right; and where the diff document is proper, it has no other.
 pub fn notices_have_one_outcome()
     ensures outcome_exists { (is_mine : List ℕ → Bool) (notice : Tree) (held : ReplicaContents)
-        → Replays is_mine notice held (replayed is_mine notice held) }
+        → Replays is_mine notice held (replay_outcome is_mine notice held) }
     ensures at_most_one { (is_mine : List ℕ → Bool) (notice : Tree) (held : ReplicaContents)
         (a b : Result (CopyAnswer × ReplicaContents) CopyFault)
         → ProperIn [] notice → Replays is_mine notice held a → Replays is_mine notice held b
@@ -142,7 +145,7 @@ pub fn notices_have_one_outcome()
 pub fn replicas_stay_sound()
     ensures of_one_operation { (read : List ℕ → Option Reading) (c : List (List Decl))
         (o t u : Tree) → ProperIn c o → ProperIn [] t → words.apply_operation read c o t ≡ Ok u
-        → IsSound u }
+        → IsReplicaTree u }
     ensures whole_diff { (is_mine : List ℕ → Bool) (notice : Tree) (held new : ReplicaContents)
         (answer : CopyAnswer) → ProperIn [] notice → HoldsSound held
         → Replays is_mine notice held (Ok (answer, new)) → HoldsSound new }
@@ -151,6 +154,6 @@ pub fn replicas_stay_sound()
 /// A law: what is proper in a scope is proper in another that has the first one's bindings and
 /// default namespace (Namespaces in XML 1.0, section 6).
 pub fn proper_where_names_are_bound_alike()
-    ensures stays_proper { (c d : List (List Decl)) (e : Tree) → Meets c d → ProperIn c e
+    ensures stays_proper { (c d : List (List Decl)) (e : Tree) → BindsAlike c d → ProperIn c e
         → ProperIn d e }
 {}

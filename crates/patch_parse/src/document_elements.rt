@@ -138,7 +138,7 @@ fn has_tag(document: &Element) -> bool
 
 // Whether a `document` has a `sel`.
 #[tactic(auto, using(crate::proofs::Words::words))]
-fn is_about_something(document: &Element) -> bool
+fn has_sel(document: &Element) -> bool
     ensures ok { result ≡ is_some (plain_value (codes "sel") document.now.attrs) }
 {
     has_plain(document, "sel")
@@ -148,7 +148,7 @@ fn is_about_something(document: &Element) -> bool
 fn has_names(document: &Element) -> bool
     ensures exact { result ≡ is_tagged document.now.attrs }
 {
-    is_about_something(document) && has_tag(document)
+    has_sel(document) && has_tag(document)
 }
 
 // Whether a `document` has the form of one, in the scope around it.

@@ -5,9 +5,9 @@
 #![tactic(auto)]
 
 mod document_elements;
-mod name_meanings;
+mod expanded_names;
 mod names;
-mod node_contents;
+mod operation_content;
 mod operation_error;
 mod patch_actions;
 mod patch_forms;
@@ -16,9 +16,9 @@ mod selectors;
 pub use document_elements::{
     documents, is_body_unchanged, is_notice, new_tag, operations_in, previous_tag,
 };
-pub use name_meanings::{attr_alike, has_attr, means_alike};
+pub use expanded_names::{attr_alike, has_attr, means_alike};
 pub use names::{are_known_attributes, plain_value};
-pub use node_contents::{is_bare, is_blank, sole_element, value_in};
+pub use operation_content::{is_bare, is_blank, sole_element, value_in};
 pub use operation_error::OperationError;
 pub use patch_actions::{PatchAction, Position, task_of_operation};
 pub use selectors::selector_for;

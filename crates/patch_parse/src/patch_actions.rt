@@ -2,7 +2,8 @@
 //! 4.5).
 ghost use Rattle.std.specs.Prelude.{◌≡◌, [], IfOk, option_map};
 ghost use Rattle.std.specs.Option.{option_copied};
-ghost use Rattle.patch_rules.specs.PatchOperations.{adding, cutting, name_cut, no_declaration};
+ghost use Rattle.patch_rules.specs.PatchOperations.{add_action, remove_action, name_cut};
+ghost use Rattle.patch_rules.specs.PatchOperations.{no_declaration};
 ghost use Rattle.patch_rules.specs.PatchOperations.{add_position, name_of_text, white_space_of};
 ghost use Rattle.patch_rules.specs.PatchOperations.{task_of, type_of, with_prefix, operation_word};
 ghost use Rattle.patch_rules.specs.PatchOperations.{operation_action};
@@ -172,14 +173,14 @@ fn type_of(alloc: Global, text: &Text) -> Result<Option<Name>, AllocError>
 // ---- patch actions
 
 // An addition of content, or of an attribute.
-fn adding(
+fn add_action(
     alloc: Global,
     pos: Option<&Text>,
     name: Option<&Text>,
 ) -> Result<Option<PatchAction>, AllocError>
     ensures ok { IfOk result
         (λ task. option_map task_in task
-        ≡ adding (option_copied pos.entry) (option_copied name.entry)) }
+        ≡ add_action (option_copied pos.entry) (option_copied name.entry)) }
 {
     match (pos, name) {
         (None, None) => Ok(Some(PatchAction::Put(Position::Behind))),
@@ -196,8 +197,8 @@ fn adding(
 }
 
 // A removal.
-fn cutting(ws: Option<&Text>) -> Option<PatchAction>
-    ensures exact { option_map task_in result ≡ cutting (option_copied ws.entry) }
+fn remove_action(ws: Option<&Text>) -> Option<PatchAction>
+    ensures exact { option_map task_in result ≡ remove_action (option_copied ws.entry) }
 {
     match ws {
         None => Some(PatchAction::Remove(false, false)),
@@ -226,7 +227,7 @@ fn task_of(
             if ws.is_some() {
                 return Ok(None);
             }
-            adding(alloc, pos, name)
+            add_action(alloc, pos, name)
         }
         OperationName::Exchange => {
             if pos.is_some() || name.is_some() || ws.is_some() {
@@ -238,7 +239,7 @@ fn task_of(
             if pos.is_some() || name.is_some() {
                 return Ok(None);
             }
-            Ok(cutting(ws))
+            Ok(remove_action(ws))
         }
     }
 }

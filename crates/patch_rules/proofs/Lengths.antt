@@ -1,11 +1,11 @@
 -- An element has fewer children than the print of a tree around it has bytes.
 use Rattle.std.proofs.Common.{◌≡◌, ℕ, zero, suc, ◌+◌, ◌<◌, ◌≤◌, Bool, true, false, List, [], ◌∷◌, ◌++◌, length, Option, Some, None, IsSome, option_and_then, slice_get, refl, ap, ◌∙◌, arith}
 use Rattle.std.specs.List.{AllByRecursion}
-use Rattle.xml_names.specs.Markup.{byte_len, closing, opening, print_text, print_comment}
-use Rattle.xml_tree.specs.Print.{ending, is_empty, print, print_content}
+use Rattle.xml_names.specs.Markup.{byte_len, end_tag_text, tag_front, print_text, print_comment}
+use Rattle.xml_tree.specs.Print.{rest_of_element, is_empty, print, print_content}
 use Rattle.xml_tree.specs.Tree.{Content, last, more, comment_node, Tree, tree_of, at, child_elements, child_elements_of}
-use Rattle.xml_names.proofs.PrintLengths.{byte_len-append, byte_len-opening}
-use Rattle.node_select.specs.Grammar.{greatest_position}
+use Rattle.xml_names.proofs.PrintLengths.{byte_len-append, byte_len-tag_front}
+use Rattle.node_select.specs.declared.steps.TheConstants.{MAX_POSITION}
 
 -- no element has more children than there are positions
 abbrev pub HasPositions : Tree → Type 0
@@ -15,11 +15,11 @@ HasPositions t = (p : List ℕ) (e : Tree) → at p t ≡ Some e → length (chi
 pub parts : (t : List ℕ) (e : Tree) (rest : Content) → byte_len (print_text t ++ (print e ++ print_content rest)) ≡ byte_len (print_text t) + (byte_len (print e) + byte_len (print_content rest))
 parts t e rest = byte_len-append (print_text t) (print e ++ print_content rest) ∙ ap (λ n. byte_len (print_text t) + n) (byte_len-append (print e) (print_content rest))
 
-pub opened : (e : Tree) → byte_len (print e) ≡ byte_len (opening e.name e.decls e.attrs) + byte_len (ending e.name (is_empty e.content) (print_content e.content))
-opened e = byte_len-append (opening e.name e.decls e.attrs) (ending e.name (is_empty e.content) (print_content e.content))
+pub opened : (e : Tree) → byte_len (print e) ≡ byte_len (tag_front e.name e.decls e.attrs) + byte_len (rest_of_element e.name (is_empty e.content) (print_content e.content))
+opened e = byte_len-append (tag_front e.name e.decls e.attrs) (rest_of_element e.name (is_empty e.content) (print_content e.content))
 
 some_bytes : (e : Tree) → 1 ≤ byte_len (print e)
-some_bytes e = omega (arith, opened e, byte_len-opening e.name e.decls e.attrs)
+some_bytes e = omega (arith, opened e, byte_len-tag_front e.name e.decls e.attrs)
 
 pub commented : (t x : List ℕ) (rest : Content) → byte_len (print_text t ++ (print_comment x ++ print_content rest)) ≡ byte_len (print_text t) + (byte_len (print_comment x) + byte_len (print_content rest))
 commented t x rest = byte_len-append (print_text t) (print_comment x ++ print_content rest) ∙ ap (λ n. byte_len (print_text t) + n) (byte_len-append (print_comment x) (print_content rest))
@@ -47,8 +47,8 @@ inside_shorter n true e is h = omega (arith, opened e, nothing e.content is)
     nothing (more t m ds ats c rest) z = cc
     nothing (comment_node t x rest) z = cc
 inside_shorter n false e is h =
-    let end : byte_len (ending e.name (is_empty e.content) (print_content e.content)) ≡ byte_len (62 ∷ (print_content e.content ++ closing e.name)) = ap (λ b. byte_len (ending e.name b (print_content e.content))) is in
-    omega (arith, opened e, end, byte_len-append (62 ∷ []) (print_content e.content ++ closing e.name), byte_len-append (print_content e.content) (closing e.name))
+    let end : byte_len (rest_of_element e.name (is_empty e.content) (print_content e.content)) ≡ byte_len (62 ∷ (print_content e.content ++ end_tag_text e.name)) = ap (λ b. byte_len (rest_of_element e.name b (print_content e.content))) is in
+    omega (arith, opened e, end, byte_len-append (62 ∷ []) (print_content e.content ++ end_tag_text e.name), byte_len-append (print_content e.content) (end_tag_text e.name))
 
 pub place_shorter : (p : List ℕ) (t e : Tree) → at p t ≡ Some e → byte_len (print e) ≤ byte_len (print t)
 place_shorter [] t e h = let same : t ≡ e = cc in let z : byte_len (print t) ≡ byte_len (print e) = ap (λ x. byte_len (print x)) same in omega arith
@@ -75,7 +75,7 @@ child_of : (o : Option Tree) (p : List ℕ) → IsSome (option_and_then (at p) o
 child_of None p h = cc
 child_of (Some k) p h = (k, refl, h)
 
-pub path_positions : (p : List ℕ) (t : Tree) → HasPositions t → IsSome (at p t) → AllByRecursion (λ m. m < greatest_position) p
+pub path_positions : (p : List ℕ) (t : Tree) → HasPositions t → IsSome (at p t) → AllByRecursion (λ m. m < MAX_POSITION) p
 path_positions [] t h there = tt
 path_positions (n ∷ p) t h there =
     let k = child_of (slice_get (child_elements_of t) n) p there in

@@ -4,7 +4,7 @@ use Rattle.std.specs.Prelude.{◌≡◌, ℕ, zero, suc, ◌+◌, ◌<◌, Bool,
 use Rattle.std.specs.Prelude.{List, [], ◌∷◌, ◌++◌, map, length, if◌then◌else◌}
 use Rattle.std.specs.List.{list_any}
 use Rattle.std.specs.Str.{bytes_eq}
-use Rattle.xml_names.specs.Limits.{max_levels}
+use Rattle.xml_names.specs.declared.limits.TheConstants.{MAX_LEVELS}
 use Rattle.xml_tree.specs.Tree.{Content, last, more, comment_node, Tree, tree_of, of_children}
 use Rattle.xml_names.specs.declared.names.Decl.{Decl}
 use Rattle.xml_names.specs.ExpandedNames.{name_of}
@@ -18,7 +18,7 @@ diff_uri = codes "urn:ietf:params:xml:ns:xcap-diff"
 -- the greatest height of a diff document: the levels of a document, and the root, its `document`
 -- and an operation around them
 abbrev pub most_notice_levels : ℕ
-most_notice_levels = max_levels + 3
+most_notice_levels = MAX_LEVELS + 3
 
 -- ---- the prefix of that namespace
 

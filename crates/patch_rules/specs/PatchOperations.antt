@@ -19,7 +19,7 @@ use Rattle.xml_names.specs.declared.names.Name.{Name}
 use Rattle.xml_names.specs.declared.names.Decl.{Decl}
 use Rattle.xml_names.specs.declared.names.Attr.{Attr}
 use Rattle.xml_tree.specs.declared.tree.Node.{Node}
-use Rattle.xml_names.specs.Limits.{max_levels}
+use Rattle.xml_names.specs.declared.limits.TheConstants.{MAX_LEVELS}
 use Rattle.xml_tokens.specs.Tokens.{is_other}
 use Rattle.node_select.specs.Names.{prefix_uri}
 use Rattle.node_select.specs.Selection.{is_attr, selected_in}
@@ -132,22 +132,22 @@ pub data PatchAction : Type 0 where
   Remove : Bool → Bool → PatchAction
 
 -- an `add`, by `pos` and `type`, of which at most one is there
-abbrev pub adding : Option (List ℕ) → Option (List ℕ) → Option PatchAction
-adding None None = Some (Put Behind)
-adding (Some pos) None = option_map Put (add_position pos)
-adding None (Some type) = option_map NewAttr (type_of type)
-adding (Some pos) (Some type) = None
+abbrev pub add_action : Option (List ℕ) → Option (List ℕ) → Option PatchAction
+add_action None None = Some (Put Behind)
+add_action (Some pos) None = option_map Put (add_position pos)
+add_action None (Some type) = option_map NewAttr (type_of type)
+add_action (Some pos) (Some type) = None
 
-abbrev pub cutting : Option (List ℕ) → Option PatchAction
-cutting None = Some (Remove false false)
-cutting (Some ws) = option_map (λ s. Remove s.0 s.1) (white_space_of ws)
+abbrev pub remove_action : Option (List ℕ) → Option PatchAction
+remove_action None = Some (Remove false false)
+remove_action (Some ws) = option_map (λ s. Remove s.0 s.1) (white_space_of ws)
 
 -- each word takes its own attributes and no others
 abbrev pub task_of : Word → Option (List ℕ) → Option (List ℕ) → Option (List ℕ) → Option PatchAction
-task_of Add pos type ws = if is_some ws then None else adding pos type
+task_of Add pos type ws = if is_some ws then None else add_action pos type
 task_of Exchange pos type ws =
     if is_some pos || (is_some type || is_some ws) then None else Some Replace
-task_of Cut pos type ws = if is_some pos || is_some type then None else cutting ws
+task_of Cut pos type ws = if is_some pos || is_some type then None else remove_action ws
 
 -- an `add` selects an element, and so does a `remove` that removes white space; the text of a
 -- selector alone decides what it ends in, whether or not its prefixes are bound
@@ -306,7 +306,7 @@ scope_of_put After p t = scope_around p t
 -- ---- the remaining tests, in order, and the result; c is the scope at the operation
 
 abbrev pub within_depth : Tree → Bool
-within_depth t = nat_le (height t) max_levels
+within_depth t = nat_le (height t) MAX_LEVELS
 
 abbrev pub is_off_root : Position → List ℕ → Bool
 is_off_root Before [] = false

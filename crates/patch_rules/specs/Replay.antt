@@ -83,9 +83,9 @@ pub data CopyFault : Type 0 where
 -- ---- operations in order
 
 -- the first operation that is wrong, by its number; n operations come before these
-abbrev pub numbered : {A : Type 0} → ℕ → Result A OperationError → Result A CopyFault
-numbered n (Ok x) = Ok x
-numbered n (Err w) = Err (AtOperation (suc n) w)
+abbrev pub with_operation_number : {A : Type 0} → ℕ → Result A OperationError → Result A CopyFault
+with_operation_number n (Ok x) = Ok x
+with_operation_number n (Err w) = Err (AtOperation (suc n) w)
 
 abbrev pub then_next : {A B : Type 0} → Result A CopyFault → (A → Result B CopyFault)
     → Result B CopyFault
@@ -142,7 +142,7 @@ module _ (read : List ℕ → Option Reading) where
   abbrev pub apply_all : ℕ → List (List Decl) → List Tree → Tree → Result Tree CopyFault
   apply_all n c [] t = Ok t
   apply_all n c (o ∷ os) t =
-      then_next (numbered n (apply_operation read c o t)) (apply_all (suc n) c os)
+      then_next (with_operation_number n (apply_operation read c o t)) (apply_all (suc n) c os)
 
   -- the document with the new tag: by its operations, with the same body, or unknown
   abbrev pub change_outcome : ℕ → List (List Decl) → List Tree → List ℕ → ReplicaContents
@@ -161,33 +161,33 @@ module _ (read : List ℕ → Option Reading) where
   renewed_copy n c os (Some tag) held = change_outcome n c os tag held
 
   -- the previous tag is the replica's; without it the change is unknown
-  abbrev pub by_tags : ℕ → List (List Decl) → List Tree → Option (List ℕ) → Option (List ℕ)
-      → ReplicaContents → Result DocumentOutcome CopyFault
-  by_tags n c os None new held = Ok Missing
-  by_tags n c os (Some previous) new held =
+  abbrev pub outcome_by_previous_tag : ℕ → List (List Decl) → List Tree → Option (List ℕ)
+      → Option (List ℕ) → ReplicaContents → Result DocumentOutcome CopyFault
+  outcome_by_previous_tag n c os None new held = Ok Missing
+  outcome_by_previous_tag n c os (Some previous) new held =
       if option_map_or (bytes_eq previous) (held_tag held) false then renewed_copy n c os new held
       else Err (WrongTag (held_tag held) previous)
 
-  abbrev pub document_taken : ℕ → List (List Decl) → Tree → ReplicaContents
+  abbrev pub outcome_of_document : ℕ → List (List Decl) → Tree → ReplicaContents
       → Result DocumentOutcome CopyFault
-  document_taken n c d held =
-      by_tags n (c ++ d.decls ∷ []) (operations_in c d)
+  outcome_of_document n c d held =
+      outcome_by_previous_tag n (c ++ d.decls ∷ []) (operations_in c d)
       (plain_value (codes "previous-etag") d.attrs) (plain_value (codes "new-etag") d.attrs) held
 
-  abbrev pub all_taken : ℕ → List (List Decl) → List Tree → ReplicaContents
+  abbrev pub outcome_of_documents : ℕ → List (List Decl) → List Tree → ReplicaContents
       → Result (Option ReplicaContents) CopyFault
-  all_taken n c [] held = Ok (Some held)
-  all_taken n c (d ∷ ds) held =
-      then_next (document_taken n c d held) (λ now.
-      unless_missing now (all_taken (n + operation_count c d) c ds))
+  outcome_of_documents n c [] held = Ok (Some held)
+  outcome_of_documents n c (d ∷ ds) held =
+      then_next (outcome_of_document n c d held) (λ now.
+      unless_missing now (outcome_of_documents (n + operation_count c d) c ds))
 
   -- the answer and the replica afterwards, or the first fault; `is_mine` decides whether a printed
   -- name is the name of the replica's document
-  abbrev pub replayed : (List ℕ → Bool) → Tree → ReplicaContents
+  abbrev pub replay_outcome : (List ℕ → Bool) → Tree → ReplicaContents
       → Result (CopyAnswer × ReplicaContents) CopyFault
-  replayed is_mine notice held =
+  replay_outcome is_mine notice held =
       if is_all_mine is_mine (documents notice)
-      then then_next (all_taken 0 (notice.decls ∷ []) (documents notice) held) (λ end.
+      then then_next (outcome_of_documents 0 (notice.decls ∷ []) (documents notice) held) (λ end.
       Ok (copy_answer (documents notice) held end))
       else Err WrongDocument
 
@@ -196,4 +196,4 @@ abbrev pub Replays : (List ℕ → Bool) → Tree → ReplicaContents
     → Result (CopyAnswer × ReplicaContents) CopyFault → Type 0
 Replays is_mine notice held outcome =
     (read : List ℕ → Option Reading) × AreReadings read
-    × (outcome ≡ replayed read is_mine notice held)
+    × (outcome ≡ replay_outcome read is_mine notice held)

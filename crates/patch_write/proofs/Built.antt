@@ -8,22 +8,22 @@ use Rattle.edit_ops.specs.Operations.{plain_attr as plain}
 use Rattle.patch_rules.specs.Notices.{all_at_once, diff, diff_uri, document, operations, prefix_for, tags_alone}
 use Rattle.patch_rules.specs.inner.Lists.{is_none, with_all}
 use Rattle.patch_write.specs.Modes.{notice_of}
-use Rattle.patch_write.specs.inner.Modes.{documents_of, told_notes}
+use Rattle.patch_write.specs.inner.Modes.{documents_of, reported_notes}
 use Rattle.xcap_uri.specs.declared.target.Mode.{Mode}
 use Rattle.xcap_uri.specs.declared.target.Mode.TheVariants.{NoPatching, XcapPatching, Aggregate}
 use Rattle.patch_write.proofs.ElementLists.{all-listed}
 
 -- ---- whole diff documents
 
-by_mode : (mode : Mode) (root sel : List ℕ) (from : ℕ) (ns : List Note) → diff (prefix_for (told_notes mode ns)) root (documents_of mode (prefix_for (told_notes mode ns)) sel from ns) ≡ notice_of mode root sel from ns
+by_mode : (mode : Mode) (root sel : List ℕ) (from : ℕ) (ns : List Note) → diff (prefix_for (reported_notes mode ns)) root (documents_of mode (prefix_for (reported_notes mode ns)) sel from ns) ≡ notice_of mode root sel from ns
 by_mode NoPatching root sel from ns = refl
 by_mode XcapPatching root sel from ns = refl
 by_mode Aggregate root sel from ns = refl
 
-pub notice_is : (mode : Mode) (prefix name root sel : List ℕ) (from : ℕ) (told ns : List Note) (notice all : Tree) → told ≡ told_notes mode ns → prefix ≡ prefix_for told → name ≡ sel → notice ≡ diff prefix root []
+pub notice_is : (mode : Mode) (prefix name root sel : List ℕ) (from : ℕ) (told ns : List Note) (notice all : Tree) → told ≡ reported_notes mode ns → prefix ≡ prefix_for told → name ≡ sel → notice ≡ diff prefix root []
     → all ≡ with_all (documents_of mode prefix name from ns) notice → all ≡ notice_of mode root sel from ns
 notice_is mode prefix name root sel from told ns notice all is_told is_prefix is_sel is_notice put =
-    let first : prefix ≡ prefix_for (told_notes mode ns) = is_prefix ∙ ap prefix_for is_told in
+    let first : prefix ≡ prefix_for (reported_notes mode ns) = is_prefix ∙ ap prefix_for is_told in
     put ∙ ap (with_all (documents_of mode prefix name from ns)) is_notice
     ∙ all-listed (in_diff prefix (codes "xcap-diff")) (record { prefix = prefix; uri = diff_uri } ∷ []) (plain (codes "xcap-root") (root ++ codes "/") ∷ []) (documents_of mode prefix name from ns)
     ∙ (λ i. diff (first i) root (documents_of mode (first i) (is_sel i) from ns)) ∙ by_mode mode root sel from ns

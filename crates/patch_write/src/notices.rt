@@ -13,7 +13,7 @@ ghost use Rattle.patch_rules.specs.Notices.{all_at_once, candidate, diff, docume
 ghost use Rattle.patch_rules.specs.Notices.{one_by_one, operations, prefix_for, removed_document};
 ghost use Rattle.patch_rules.specs.Notices.{tags_alone};
 ghost use Rattle.patch_write.specs.Modes.{notice_of};
-ghost use Rattle.patch_write.specs.inner.Modes.{documents_of, told_notes};
+ghost use Rattle.patch_write.specs.inner.Modes.{documents_of, reported_notes};
 ghost use Rattle.patch_rules.specs.inner.Lists.{is_none, with_all};
 
 use crate::operations::operation;
@@ -291,7 +291,7 @@ fn push_documents(
 // The change records whose operations a diff document in this mode has.
 fn sent_records(mode: Mode, notes: Notes<'_>) -> Notes<'_>
     ensures mode_records { all_notes result.older.now result.newer.now
-        ≡ told_notes mode (all_notes notes.entry.older.now notes.entry.newer.now) }
+        ≡ reported_notes mode (all_notes notes.entry.older.now notes.entry.newer.now) }
 {
     match mode {
         Mode::NoPatching => Notes {

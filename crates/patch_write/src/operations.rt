@@ -100,7 +100,7 @@ fn bare(
 
 // The element of an operation, with those declarations and a selector.
 #[tactic(auto, using(crate::proofs::Words::words))]
-fn beginning(
+fn operation_element(
     alloc: Global,
     prefix: &Prefix,
     bindings: &[Decl],
@@ -148,7 +148,7 @@ fn placed_at(
         (sel_attr sel ∷ plain_attr (codes "pos") (chars pos.now) ∷ []) (last [])) }
 {
     let pos = Text::from(alloc, pos)?;
-    let mut made = beginning(alloc, prefix, bindings, "add", sel)?;
+    let mut made = operation_element(alloc, prefix, bindings, "add", sel)?;
     push_plain(alloc, &mut made, "pos", pos)?;
     Ok(made)
 }
@@ -188,7 +188,7 @@ fn replacement(
         (change.Replace at.now element.now)) }
 {
     let sel = print_path(alloc, at)?;
-    let mut made = beginning(alloc, prefix, bindings, "replace", sel)?;
+    let mut made = operation_element(alloc, prefix, bindings, "replace", sel)?;
     push_copy(alloc, &mut made, element)?;
     Ok(made)
 }
@@ -205,11 +205,11 @@ fn removal(
         (λ made. made ≡ change_operation prefix.now bindings.now false (change.Remove at.now)) }
 {
     let sel = print_path(alloc, at)?;
-    beginning(alloc, prefix, bindings, "remove", sel)
+    operation_element(alloc, prefix, bindings, "remove", sel)
 }
 
 // A change of an attribute: it is added where it is new, else replaced.
-fn writing(
+fn attribute_operation(
     alloc: Global,
     prefix: &Prefix,
     bindings: &[Decl],
@@ -242,7 +242,7 @@ fn added_at(
 {
     let sel = print_path(alloc, at)?;
     let kind = name_text(alloc, name)?;
-    let mut made = beginning(alloc, prefix, bindings, "add", sel)?;
+    let mut made = operation_element(alloc, prefix, bindings, "add", sel)?;
     push_plain(alloc, &mut made, "type", kind)?;
     Ok(made)
 }
@@ -265,7 +265,7 @@ fn written_at(
         return added_at(alloc, prefix, bindings, at, name);
     }
     let sel = attribute_text(alloc, at, name)?;
-    beginning(alloc, prefix, bindings, "replace", sel)
+    operation_element(alloc, prefix, bindings, "replace", sel)
 }
 
 // The removal of an attribute.
@@ -282,7 +282,7 @@ fn attribute_removal(
         (change.DropAttr at.now name.now)) }
 {
     let sel = attribute_text(alloc, at, name)?;
-    beginning(alloc, prefix, bindings, "remove", sel)
+    operation_element(alloc, prefix, bindings, "remove", sel)
 }
 
 // The operation of a change. A change of a whole document has none: an empty `remove` is returned
@@ -308,7 +308,7 @@ fn change_operation(
         Change::Replace { at, element } => replacement(alloc, prefix, bindings, at, element),
         Change::Remove { at } => removal(alloc, prefix, bindings, at),
         Change::SetAttr { at, name, value } => {
-            writing(alloc, prefix, bindings, fresh, at, name, value)
+            attribute_operation(alloc, prefix, bindings, fresh, at, name, value)
         }
         Change::DropAttr { at, name } => attribute_removal(alloc, prefix, bindings, at, name),
         Change::RemoveDocument => bare(alloc, prefix, bindings, "remove"),

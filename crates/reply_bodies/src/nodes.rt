@@ -2,7 +2,7 @@
 ghost use Rattle.std.specs.Prelude.{◌≡◌, ◌≤◌, [], Some, IfOk, is_some, option_map};
 ghost use Rattle.std.specs.List.{find};
 ghost use Rattle.std.specs.Option.{option_copied};
-ghost use Rattle.xml_names.specs.Limits.{max_levels};
+ghost use Rattle.xml_names.specs.declared.limits.TheConstants.{MAX_LEVELS};
 ghost use Rattle.xml_tree.specs.Print.{print};
 ghost use Rattle.xml_names.specs.Scopes.{bindings_in};
 ghost use Rattle.xml_tree.specs.Tree.{at, height, last, tree_of};
@@ -175,7 +175,7 @@ pub fn found_text(
     root: &Element,
     selector: &Selector,
 ) -> Result<Option<Bytes>, NoMemory>
-    requires { height root.now ≤ max_levels }
+    requires { height root.now ≤ MAX_LEVELS }
     ensures ok { IfOk result (λ text. text ≡ encoded (found_text root.now selector.now)) }
 {
     let Some(path) = select(alloc, root, selector) else {

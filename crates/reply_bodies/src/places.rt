@@ -1,6 +1,6 @@
 //! Whether a node that is put has a place (RFC 4825, section 8.2.1).
 ghost use Rattle.std.specs.Prelude.{◌≡◌, ◌≤◌};
-ghost use Rattle.xml_names.specs.Limits.{max_levels};
+ghost use Rattle.xml_names.specs.declared.limits.TheConstants.{MAX_LEVELS};
 ghost use Rattle.xml_tree.specs.Tree.{height};
 ghost use Rattle.reply_bodies.specs.Places.{attribute_has_place, but_last, element_has_place};
 ghost use Rattle.reply_bodies.specs.Places.{has_place};
@@ -22,7 +22,7 @@ fn but_last(steps: &[Step]) -> &[Step]
 
 // Whether steps select an element.
 fn selects(alloc: Global, root: &Element, steps: &[Step]) -> bool
-    requires { height root.now ≤ max_levels }
+    requires { height root.now ≤ MAX_LEVELS }
     ensures exact { result ≡ attribute_has_place steps.now root.now }
 {
     select_steps(alloc, root, steps).is_some()
@@ -31,7 +31,7 @@ fn selects(alloc: Global, root: &Element, steps: &[Step]) -> bool
 // Whether an element that these steps select has a place: it exists, or its parent does, or it
 // would be the root.
 fn element_has_place(alloc: Global, root: &Element, steps: &[Step]) -> bool
-    requires { height root.now ≤ max_levels }
+    requires { height root.now ≤ MAX_LEVELS }
     ensures exact { result ≡ element_has_place steps.now root.now }
 {
     match steps {
@@ -46,7 +46,7 @@ fn element_has_place(alloc: Global, root: &Element, steps: &[Step]) -> bool
 /// list of bindings has none. Allocates only for indexes of declarations; the result is the same
 /// without them.
 pub fn has_place(alloc: Global, root: &Element, selector: &Selector) -> bool
-    requires { height root.now ≤ max_levels }
+    requires { height root.now ≤ MAX_LEVELS }
     ensures exact { result ≡ has_place selector.now root.now }
 {
     let steps = selector.steps.as_slice();

@@ -134,7 +134,7 @@ impl HeadBuffer {
 
     // Appends the Content-Type field (RFC 9110, section 8.3).
     #[tactic(auto, unfolding(crate::specs::ReplyHeads::media_line))]
-    fn push_media_line(&mut self, media: MediaType)
+    fn push_content_type(&mut self, media: MediaType)
         requires { length self.old ≤ 330 }
         ensures appends_bytes { self.new ≡ self.old ++ media_line media }
         ensures byte_limit { length self.new ≤ length self.old + 46 }
@@ -151,7 +151,7 @@ impl HeadBuffer {
         ensures byte_limit { length self.new ≤ length self.old + 46 }
     {
         if let Some(media) = media {
-            self.push_media_line(media);
+            self.push_content_type(media);
         }
     }
 

@@ -6,7 +6,7 @@ use Rattle.std.proofs.lemmas.Bool.Decides.{nat_tests}
 use Rattle.request_checks.specs.declared.entity_tags.EntityTag.{EntityTag}
 use Rattle.request_checks.specs.Tags.{AreAll, IsPart, SpellsTags, tag_text, comma_joined, is_tag_byte, ListPart as Part, is_ows_byte as is_blank}
 use Rattle.request_checks.specs.readers.Fields.{Place, Before, Letter, Slash, Inside, Behind, opaque_front, tags_from, with_tags, entity_tag as tag_of}
-use Rattle.request_checks.proofs.Fronts.{before-blanks, behind-blanks, inside-closed, front-closed}
+use Rattle.request_checks.proofs.Fronts.{before-blanks, behind-blanks, inside-after_closing_quote, front-after_closing_quote}
 
 -- a part as it is written
 abbrev part_text : Part → List ℕ
@@ -18,9 +18,9 @@ rest_text ps = flat_map (λ t. 44 ∷ t) (map part_text ps)
 
 -- ---- what is spelled is read
 
-rest-both : (ps : List Part) → tags_from Before (rest_text ps) ≡ tags_from Behind (rest_text ps)
-rest-both [] = refl
-rest-both (p ∷ ps) = refl
+rest-both_conditions : (ps : List Part) → tags_from Before (rest_text ps) ≡ tags_from Behind (rest_text ps)
+rest-both_conditions [] = refl
+rest-both_conditions (p ∷ ps) = refl
 
 with-none : (o : Option (List EntityTag)) → with_tags [] o ≡ o
 with-none None = refl
@@ -29,19 +29,19 @@ with-none (Some ts) = refl
 tag-read : (weak : Bool) (o s : List ℕ) → AreAll is_tag_byte o → tags_from Before (tag_text (tag_of weak o) ++ s) ≡ with_tags (tag_of weak o ∷ []) (tags_from Behind s)
 tag-read true o s h =
     ap (λ r. with_tags (tag_of true (opaque_front r) ∷ []) (tags_from Inside r)) (append_assoc o (34 ∷ []) s)
-    ∙ ap (λ q. with_tags (tag_of true q ∷ []) (tags_from Inside (o ++ 34 ∷ s))) (front-closed o s h)
-    ∙ ap (λ m. with_tags (tag_of true o ∷ []) m) (inside-closed o s h)
+    ∙ ap (λ q. with_tags (tag_of true q ∷ []) (tags_from Inside (o ++ 34 ∷ s))) (front-after_closing_quote o s h)
+    ∙ ap (λ m. with_tags (tag_of true o ∷ []) m) (inside-after_closing_quote o s h)
 tag-read false o s h =
     ap (λ r. with_tags (tag_of false (opaque_front r) ∷ []) (tags_from Inside r)) (append_assoc o (34 ∷ []) s)
-    ∙ ap (λ q. with_tags (tag_of false q ∷ []) (tags_from Inside (o ++ 34 ∷ s))) (front-closed o s h)
-    ∙ ap (λ m. with_tags (tag_of false o ∷ []) m) (inside-closed o s h)
+    ∙ ap (λ q. with_tags (tag_of false q ∷ []) (tags_from Inside (o ++ 34 ∷ s))) (front-after_closing_quote o s h)
+    ∙ ap (λ m. with_tags (tag_of false o ∷ []) m) (inside-after_closing_quote o s h)
 
 part-read : (before : List ℕ) (tag : Option EntityTag) (behind : List ℕ) (ps : List Part) → AreAll is_blank before → IfSome tag (λ t. AreAll is_tag_byte t.opaque) → AreAll is_blank behind → tags_from Before ((before ++ (option_map_or tag_text tag [] ++ behind)) ++ rest_text ps) ≡ with_tags (option_to_list tag) (tags_from Behind (rest_text ps))
 part-read before None behind ps a t b =
     ap (λ s. tags_from Before s) (append_assoc before behind (rest_text ps))
     ∙ before-blanks before (behind ++ rest_text ps) a
     ∙ before-blanks behind (rest_text ps) b
-    ∙ rest-both ps
+    ∙ rest-both_conditions ps
     ∙ sym (with-none (tags_from Behind (rest_text ps)))
 part-read before (Some tag) behind ps a t b =
     ap (λ s. tags_from Before s) (append_assoc before (tag_text tag ++ behind) (rest_text ps))
@@ -211,14 +211,14 @@ strong-whole : (cs : List ℕ) (ts : List EntityTag) → with_tags (tag_of false
 strong-whole cs ts h by =
     let g = gained (tag_of false (opaque_front cs)) (tags_from Inside cs) ts h in
     let q = by g.others g.read in
-    let same : opaque_front cs ≡ q.opaque = ap (λ s. opaque_front s) q.spelled ∙ front-closed q.opaque q.rest q.lawful in
+    let same : opaque_front cs ≡ q.opaque = ap (λ s. opaque_front s) q.spelled ∙ front-after_closing_quote q.opaque q.rest q.lawful in
     tag-whole (tag_of false q.opaque) (34 ∷ cs) q.rest ts g.others (ap (λ s. 34 ∷ s) q.spelled ∙ strong-text q.opaque q.rest) (g.gained ∙ ap (λ o. tag_of false o ∷ g.others) same) q.lawful q.tail
 
 weak-slash : (cs : List ℕ) (ts : List EntityTag) → with_tags (tag_of true (opaque_front cs) ∷ []) (tags_from Inside cs) ≡ Some ts → Sound Inside cs → Weak [] (34 ∷ cs) ts
 weak-slash cs ts h by =
     let g = gained (tag_of true (opaque_front cs)) (tags_from Inside cs) ts h in
     let q = by g.others g.read in
-    let same : opaque_front cs ≡ q.opaque = ap (λ s. opaque_front s) q.spelled ∙ front-closed q.opaque q.rest q.lawful in
+    let same : opaque_front cs ≡ q.opaque = ap (λ s. opaque_front s) q.spelled ∙ front-after_closing_quote q.opaque q.rest q.lawful in
     record {
       opaque = q.opaque;
       others = g.others;

@@ -16,7 +16,7 @@ use Rattle.xml_names.proofs.ByteOrder.{next, width, of_one, of_two, of_three, of
 -- what a test of each byte means
 are_ascii : (word : List ℕ) → list_all is_ascii word ≡ true → IsAscii word
 are_ascii [] h = IsAscii-nil
-are_ascii (b ∷ bs) h = let both = and_parts (is_ascii b) (list_all is_ascii bs) h in IsAscii-cons b bs (ltb-true b 128 both.0) (are_ascii bs both.1)
+are_ascii (b ∷ bs) h = let both_conditions = and_parts (is_ascii b) (list_all is_ascii bs) h in IsAscii-cons b bs (ltb-true b 128 both_conditions.0) (are_ascii bs both_conditions.1)
 
 -- bytes that are not ASCII are unchanged
 stays : (c : ℕ) → 128 ≤ c → to_ascii_lowercase c ≡ c

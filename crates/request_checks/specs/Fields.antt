@@ -17,14 +17,15 @@ pub record Preconditions : Type 0 where
 
 -- a field whose lines have these values says this: If-Match = "*" / #entity-tag, with at least one
 -- tag; the lines are joined by commas
-abbrev pub Says : List (List ℕ) → FieldValue → Type 0
-Says lines Missing = lines ≡ []
-Says lines Star = comma_joined lines ≡ codes "*"
-Says lines (Tags tags) = (lines ≢ []) × SpellsTags (comma_joined lines) tags × (tags ≢ [])
+abbrev pub HasFieldValue : List (List ℕ) → FieldValue → Type 0
+HasFieldValue lines Missing = lines ≡ []
+HasFieldValue lines Star = comma_joined lines ≡ codes "*"
+HasFieldValue lines (Tags tags) = (lines ≢ []) × SpellsTags (comma_joined lines) tags × (tags ≢ [])
 
 -- both fields say this
 abbrev pub SayBoth : List (List ℕ) → List (List ℕ) → Preconditions → Type 0
-SayBoth if_match if_none_match c = Says if_match c.if_match × Says if_none_match c.if_none_match
+SayBoth if_match if_none_match c = HasFieldValue if_match c.if_match
+    × HasFieldValue if_none_match c.if_none_match
 
 -- the reading of the lines of both fields: what they say, or None where there is nothing that both
 -- say

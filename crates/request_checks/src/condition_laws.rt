@@ -1,12 +1,13 @@
 //! The fields have one reading by the grammar, and it is the computed one.
 ghost use Rattle.std.specs.Prelude.{◌≡◌, ◌↔◌, ℕ, List, Option, Some};
-ghost use Rattle.request_checks.specs.Fields.{ConditionsAnswer, FieldValue, Preconditions, Says};
+ghost use Rattle.request_checks.specs.Fields.{ConditionsAnswer, FieldValue, Preconditions};
+ghost use Rattle.request_checks.specs.Fields.{HasFieldValue};
 ghost use Rattle.request_checks.specs.readers.Fields.{field_value};
 
 /// A law: the lines of a field say exactly what is computed from them, and nothing else.
 pub fn fields_have_one_reading()
     ensures exact { (lines : List (List ℕ)) (value : FieldValue)
-        → Says lines value ↔ (field_value lines ≡ Some value) }
+        → HasFieldValue lines value ↔ (field_value lines ≡ Some value) }
 {}
 
 /// A law: the lines of the two fields have exactly one reading by the grammar.

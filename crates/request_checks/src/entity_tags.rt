@@ -3,8 +3,9 @@ ghost use Rattle.std.specs.Prelude.{◌≡◌, ◌≤◌, ◌<◌, ◌++◌, ◌
 ghost use Rattle.std.specs.Prelude.{IsErrOf, MatchOption};
 ghost use Rattle.std.specs.List.{prefix_len};
 ghost use Rattle.request_checks.specs.Tags.{is_tag_byte, is_ows_byte};
-ghost use Rattle.request_checks.specs.readers.Fields.{Before, Behind, behind_blanks, IsTrimmed};
-ghost use Rattle.request_checks.specs.readers.Fields.{behind_byte, closed, opaque_front, first_tag};
+ghost use Rattle.request_checks.specs.readers.Fields.{Before, Behind, after_blanks, IsTrimmed};
+ghost use Rattle.request_checks.specs.readers.Fields.{after_byte, after_closing_quote};
+ghost use Rattle.request_checks.specs.readers.Fields.{opaque_front, first_tag};
 ghost use Rattle.request_checks.specs.readers.Fields.{tags_from, with_tags, entity_tag};
 
 use crate::{ConditionFault, NoMemory};
@@ -42,8 +43,8 @@ pub fn is_tag_byte(byte: u8) -> bool
     byte == 0x21 || (byte >= 0x23 && byte <= 0x7e) || byte >= 0x80
 }
 
-fn behind_blanks(mut text: &[u8]) -> &[u8]
-    ensures exact { result.now ≡ behind_blanks text.now }
+fn after_blanks(mut text: &[u8]) -> &[u8]
+    ensures exact { result.now ≡ after_blanks text.now }
     ensures rest_shrinks { length result.now ≤ length text.now }
 {
     'blanks: while let [first, rest @ ..] = text
@@ -66,9 +67,9 @@ fn opaque_len(text: &[u8]) -> usize
     text.len()
 }
 
-fn behind_quote(text: &[u8]) -> Option<&[u8]>
-    ensures after_quote { MatchOption result (behind_byte 34 text.now ≡ None)
-        (λ rest. (behind_byte 34 text.now ≡ Some rest.now) × (length rest.now ≤ length text.now)) }
+fn strip_quote(text: &[u8]) -> Option<&[u8]>
+    ensures after_quote { MatchOption result (after_byte 34 text.now ≡ None)
+        (λ rest. (after_byte 34 text.now ≡ Some rest.now) × (length rest.now ≤ length text.now)) }
 {
     match text {
         [b'"', rest @ ..] => Some(rest),
@@ -76,9 +77,9 @@ fn behind_quote(text: &[u8]) -> Option<&[u8]>
     }
 }
 
-fn behind_comma(text: &[u8]) -> Option<&[u8]>
-    ensures after_comma { MatchOption result (behind_byte 44 text.now ≡ None)
-        (λ rest. (behind_byte 44 text.now ≡ Some rest.now) × (length rest.now < length text.now)) }
+fn strip_comma(text: &[u8]) -> Option<&[u8]>
+    ensures after_comma { MatchOption result (after_byte 44 text.now ≡ None)
+        (λ rest. (after_byte 44 text.now ≡ Some rest.now) × (length rest.now < length text.now)) }
 {
     match text {
         [b',', rest @ ..] => Some(rest),
@@ -88,13 +89,14 @@ fn behind_comma(text: &[u8]) -> Option<&[u8]>
 
 // The tag whose opening quote was just passed, if its bytes are allowed and a quote closes it.
 fn scan_quoted_tag(weak: bool, text: &[u8]) -> Option<TagScan<'_>>
-    ensures quoted_tag { MatchOption result (closed text.now ≡ None)
+    ensures quoted_tag { MatchOption result (after_closing_quote text.now ≡ None)
         (λ f. (f.weak ≡ weak) × (f.opaque.now ≡ opaque_front text.now)
-        × (closed text.now ≡ Some f.rest.now) × (length f.rest.now ≤ length text.now)) }
+        × (after_closing_quote text.now ≡ Some f.rest.now)
+        × (length f.rest.now ≤ length text.now)) }
 {
     let len = opaque_len(text);
     let opaque = &text[..len];
-    let rest = behind_quote(&text[len..])?;
+    let rest = strip_quote(&text[len..])?;
     Some(TagScan { weak, opaque, rest })
 }
 
@@ -137,12 +139,12 @@ fn read_part<'a>(
     ensures no_leading_blank { IfOk result (λ rest. IsTrimmed rest.now) }
     ensures rest_shrinks { IfOk result (λ rest. length rest.now ≤ length text.now) }
 {
-    let text = behind_blanks(text);
+    let text = after_blanks(text);
     match first_tag(text) {
         None => Ok(text),
         Some(front) => {
             push_etag(alloc, tags, front.weak, front.opaque)?;
-            Ok(behind_blanks(front.rest))
+            Ok(after_blanks(front.rest))
         }
     }
 }
@@ -164,7 +166,7 @@ pub(crate) fn read_tags(alloc: Global, text: &[u8]) -> Result<Vec<EntityTag>, Co
         if rest.is_empty() {
             return Ok(tags);
         }
-        match behind_comma(rest) {
+        match strip_comma(rest) {
             Some(more) => rest = more,
             None => return Err(ConditionFault::BadCondition),
         }

@@ -18,17 +18,17 @@ use Rattle.edit_ops.specs.declared.change.Change.{Change}
 use Rattle.edit_ops.specs.Notes.{Note, note_of}
 use Rattle.store_core.specs.declared.refusal.StoreRefusal.{StoreRefusal}
 use Rattle.store_core.specs.declared.refusal.StoreRefusal.TheVariants.{ServiceTaken, TooLarge, TooMany, StoreFull}
-use Rattle.store_core.specs.State.{Document, State, created, renewed}
+use Rattle.store_core.specs.State.{Document, State, created, document_after}
 use Rattle.store_core.specs.Contents.{StoredDocument, Represents, stored_of, StoreContents as Content, stock_of as content_of}
 use Rattle.store_core.specs.ValidStates.{AreDistinct, IsSoundFor, IsValidState, addresses, addresses_in}
 use Rattle.doc_names.specs.Usages.{usage_of}
 use Rattle.store_core.specs.Queries.{Asks, AsksAct, MayBeFor}
-use Rattle.store_core.specs.DocumentChanges.{Act, Makes, Edits, Removes, act_of, after_act, against, against_number, against_tree, answered, changing, content_after, document_in, stored_name, note_for, only_if, other_addresses, other_lengths, taken, without_document}
+use Rattle.store_core.specs.DocumentChanges.{Act, Makes, Edits, Removes, act_of, after_act, refusal_of, refusal_of_number, refusal_of_tree, refusal_or, change_result, content_after, document_in, stored_name, note_for, only_if, other_addresses, other_lengths, first_taken_address, without_document}
 use Rattle.store_core.specs.AcceptableChanges.{Suits, SuitsAct}
 use Rattle.store_core.proofs.DistinctItems.{apart-cut, none-filtered, one-exchanged, one-filtered}
 use Rattle.store_core.proofs.KeptAfter.{round}
 use Rattle.doc_names.proofs.SameIds.{id_exact}
-use Rattle.store_core.proofs.Services.{apart-mix, none-mapped, none-taken, own-apart}
+use Rattle.store_core.proofs.Services.{apart-mix, none-mapped, none-first_taken_address, own-apart}
 use Rattle.store_core.proofs.StateContents.{map-filtered}
 
 -- ---- what passes the tests
@@ -53,10 +53,10 @@ pub record Passes (c : Content) (id : DocId) (is_new : Bool) (t : Tree) : Type 0
   pub few : (is_new && nat_le 1000 (length c.documents)) ≡ false
   pub room : other_lengths c id + document_len t ≤ 33554432
 
-pub passes : (c : Content) (id : DocId) (is_new : Bool) (t : Tree) → against_tree c id is_new t ≡ None → Passes c id is_new t
+pub passes : (c : Content) (id : DocId) (is_new : Bool) (t : Tree) → refusal_of_tree c id is_new t ≡ None → Passes c id is_new t
 passes c id is_new t h =
     let told : Clash → StoreRefusal = λ clash. ServiceTaken clash in
-    let first : Option StoreRefusal = option_map told (taken (other_addresses c id) (addresses_in id.auid t)) in
+    let first : Option StoreRefusal = option_map told (first_taken_address (other_addresses c id) (addresses_in id.auid t)) in
     let second : Option StoreRefusal = only_if (nat_lt 262144 (document_len t)) (TooLarge (min (document_len t) 18446744073709551615)) in
     let third : Option StoreRefusal = only_if (is_new && nat_le 1000 (length c.documents)) TooMany in
     let fourth : Option StoreRefusal = only_if (nat_lt 33554432 (other_lengths c id + document_len t)) (StoreFull (other_lengths c id + document_len t)) in
@@ -64,7 +64,7 @@ passes c id is_new t h =
     let b = both-none second (or_else third fourth) a.1 in
     let d = both-none third fourth b.1 in
     record {
-      services = none-taken (other_addresses c id) (addresses_in id.auid t) (none-mapped told (taken (other_addresses c id) (addresses_in id.auid t)) a.0);
+      services = none-first_taken_address (other_addresses c id) (addresses_in id.auid t) (none-mapped told (first_taken_address (other_addresses c id) (addresses_in id.auid t)) a.0);
       short = not-more 262144 (document_len t) (not-so (nat_lt 262144 (document_len t)) (TooLarge (min (document_len t) 18446744073709551615)) b.0);
       few = not-so (is_new && nat_le 1000 (length c.documents)) TooMany d.0;
       room = not-more 33554432 (other_lengths c id + document_len t) (not-so (nat_lt 33554432 (other_lengths c id + document_len t)) (StoreFull (other_lengths c id + document_len t)) d.1);
@@ -143,7 +143,7 @@ few-made m d h = omega (arith, h, length-map m.documents stored_of, length-appen
 room-made : (ds : List Document) (d : Document) (n : ℕ) → n ≡ sum_by length_of ds → n + length_of d ≤ 33554432 → sum_by length_of (ds ++ d ∷ []) ≤ 33554432
 room-made ds d n e h = omega (arith, e, h, sum_by-append length_of ds (d ∷ []), sum-first length_of d [])
 
-suited-made : (m : State) (id : DocId) (change : Change) (root : Tree) → IsValidState m → AsksAct (content_of m) id change (Makes root) → against_tree (content_of m) id true root ≡ None → Suited m id change (Makes root)
+suited-made : (m : State) (id : DocId) (change : Change) (root : Tree) → IsValidState m → AsksAct (content_of m) id change (Makes root) → refusal_of_tree (content_of m) id true root ≡ None → Suited m id change (Makes root)
 suited-made m id change root k a h =
     let p = passes (content_of m) id true root h in
     let new = created id m.next root in
@@ -163,13 +163,13 @@ suited-made m id change root k a h =
     }
 
 suited-edited : (m : State) (id : DocId) (change : Change) → IsValidState m → (o : Option Document) → find (λ e. same_id id e.id) m.documents ≡ o
-    → IsSomeAnd (option_map stored_of o) (λ h. Fits h.tree change × MayBeFor (usage_of h.id.auid) (edited h.tree change)) → against (content_of m) id change (option_map stored_of o) Edits ≡ None → Suited m id change Edits
+    → IsSomeAnd (option_map stored_of o) (λ h. Fits h.tree change × MayBeFor (usage_of h.id.auid) (edited h.tree change)) → refusal_of (content_of m) id change (option_map stored_of o) Edits ≡ None → Suited m id change Edits
 suited-edited m id change k None e a h = absurd a
 suited-edited m id change k (Some d) e a h =
     let r = round m id d k e in
     let t = edited d.now.tree change in
-    let p = passes (content_of m) id false t (both-none (against_tree (content_of m) id false t) (against_number (content_of m)) h).0 in
-    let update_entry : Document → Document = λ e. renewed m.next e (note_of e.now.tag m.next e.now.tree change) in
+    let p = passes (content_of m) id false t (both-none (refusal_of_tree (content_of m) id false t) (refusal_of_number (content_of m)) h).0 in
+    let update_entry : Document → Document = λ e. document_after m.next e (note_of e.now.tag m.next e.now.tree change) in
     let docs : (after_act m id change Edits).documents ≡ r.before ++ update_entry d ∷ r.behind =
     ap (λ (ds : List Document). map (λ e. cond (same_id id e.id) (update_entry e) e) ds) r.parts
     ∙ one-exchanged (λ (e : Document). same_id id e.id) update_entry r.before r.behind d r.none-before r.passes r.none-behind in
@@ -214,31 +214,31 @@ suited-removed m id change k (Some d) e a =
           omega (arith, k.room, ap (λ (ds : List Document). sum_by length_of ds) r.parts, ap (λ (ds : List Document). sum_by length_of ds) others, sum-put length_of r.before d r.behind);
     }
 
-suited : (m : State) (id : DocId) (change : Change) (act : Act) → IsValidState m → AsksAct (content_of m) id change act → against (content_of m) id change (document_in stored_name (map stored_of m.documents) id) act ≡ None → Suited m id change act
-suited m id change (Makes root) k a h = suited-made m id change root k a (both-none (against_tree (content_of m) id true root) (against_number (content_of m)) h).0
+suited : (m : State) (id : DocId) (change : Change) (act : Act) → IsValidState m → AsksAct (content_of m) id change act → refusal_of (content_of m) id change (document_in stored_name (map stored_of m.documents) id) act ≡ None → Suited m id change act
+suited m id change (Makes root) k a h = suited-made m id change root k a (both-none (refusal_of_tree (content_of m) id true root) (refusal_of_number (content_of m)) h).0
 suited m id change Edits k a h =
     let o = find (λ (e : Document). same_id id e.id) m.documents in
     let found = find-map stored_of (λ (h : StoredDocument). same_id id h.id) m.documents in
     suited-edited m id change k o refl
     (subst (λ (x : Option StoredDocument). IsSomeAnd x (λ h. Fits h.tree change × MayBeFor (usage_of h.id.auid) (edited h.tree change))) found a)
-    (subst (λ (x : Option StoredDocument). against (content_of m) id change x Edits ≡ None) found h)
+    (subst (λ (x : Option StoredDocument). refusal_of (content_of m) id change x Edits ≡ None) found h)
 suited m id change Removes k a h =
     let o = find (λ (e : Document). same_id id e.id) m.documents in
     suited-removed m id change k o refl (subst (λ (x : Option StoredDocument). IsSome x) (find-map stored_of (λ (h : StoredDocument). same_id id h.id) m.documents) a)
 
 -- ---- what the store returns
 
-pub not-refused : (o : Option StoreRefusal) (note : Note) (next : Content) (x : Note × Content) → answered o note next ≡ Ok x → o ≡ None
+pub not-refused : (o : Option StoreRefusal) (note : Note) (next : Content) (x : Note × Content) → refusal_or o note next ≡ Ok x → o ≡ None
 not-refused None note next x h = refl
 not-refused (Some refusal) note next x h = cc
 
-suits-of : (m : State) (id : DocId) (change : Change) → IsValidState m → Asks (content_of m) id change → (x : Note × Content) → changing (content_of m) id change ≡ Ok x → Suits m id change
+suits-of : (m : State) (id : DocId) (change : Change) → IsValidState m → Asks (content_of m) id change → (x : Note × Content) → change_result (content_of m) id change ≡ Ok x → Suits m id change
 suits-of m id change k a x h =
     let found = document_in stored_name (map stored_of m.documents) id in
-    let s = suited m id change (act_of change) k a (not-refused (against (content_of m) id change found (act_of change)) (note_for (content_of m) id change found) (content_after (content_of m) id change) x h) in
+    let s = suited m id change (act_of change) k a (not-refused (refusal_of (content_of m) id change found (act_of change)) (note_for (content_of m) id change found) (content_after (content_of m) id change) x h) in
     record { act = s.suits; services = s.services; few = s.few; room = s.room }
 
-pub accepted-suits : (c : Content) (m : State) (id : DocId) (change : Change) (x : Note × Content) → Represents c m → IsValidState m → Asks c id change → changing c id change ≡ Ok x → Suits m id change
+pub accepted-suits : (c : Content) (m : State) (id : DocId) (change : Change) (x : Note × Content) → Represents c m → IsValidState m → Asks c id change → change_result c id change ≡ Ok x → Suits m id change
 accepted-suits c m id change x s k a h =
     let e : c ≡ content_of m = s in
-    suits-of m id change k (subst (λ (d : Content). Asks d id change) e a) x (subst (λ (d : Content). changing d id change ≡ Ok x) e h)
+    suits-of m id change k (subst (λ (d : Content). Asks d id change) e a) x (subst (λ (d : Content). change_result d id change ≡ Ok x) e h)

@@ -11,7 +11,7 @@ use Rattle.usage_docs.specs.declared.keys.Clash.{Clash}
 use Rattle.usage_docs.specs.declared.schema_table.Key.TheVariants.{Uri}
 use Rattle.store_core.specs.declared.refusal.StoreRefusal.{StoreRefusal}
 use Rattle.store_core.specs.ValidStates.{AreDistinct}
-use Rattle.store_core.specs.DocumentChanges.{only_if, taken}
+use Rattle.store_core.specs.DocumentChanges.{only_if, first_taken_address}
 use Rattle.store_core.proofs.DistinctItems.{each-append, each-right, apart-behind, apart-cut}
 
 module _ {X : Type 0} where
@@ -42,8 +42,8 @@ unlike-each others [] h = tt
 unlike-each others (uri ∷ uris) h = (unlike-all uri others h.0, unlike-each others uris h.1)
 
 -- where no address of the document is another's, the test finds none
-pub nothing-taken : (others own : List (List ℕ)) → AllByRecursion (λ uri. AllByRecursion (λ o. uri ≢ o) others) own → taken others own ≡ None
-nothing-taken others own h =
+pub nothing-first_taken_address : (others own : List (List ℕ)) → AllByRecursion (λ uri. AllByRecursion (λ o. uri ≢ o) others) own → first_taken_address others own ≡ None
+nothing-first_taken_address others own h =
     let test : List ℕ → Bool = λ uri. is_member bytes_eq others uri in
     let clash : ℕ → Clash = λ i. record { path = i ∷ []; key = Uri } in
     ap (λ (i : Option ℕ). option_map clash i) (position_from-zero test own ∙ no-place test 0 own (unlike-each others own h))

@@ -18,26 +18,26 @@ use Rattle.edit_ops.specs.declared.change.Change.{Change}
 use Rattle.edit_ops.specs.Notes.{note_of}
 use Rattle.store_core.specs.declared.refusal.StoreRefusal.{StoreRefusal}
 use Rattle.store_core.specs.declared.refusal.StoreRefusal.TheVariants.{ServiceTaken, TooLarge, TooMany, StoreFull, NoNumber}
-use Rattle.store_core.specs.State.{Document, State, created, renewed}
+use Rattle.store_core.specs.State.{Document, State, created, document_after}
 use Rattle.store_core.specs.Contents.{StoredDocument, Represents, stored_of, StoreContents as Content, stock_of as content_of}
 use Rattle.store_core.specs.ValidStates.{AreDistinct, IsSoundFor, IsValidState, addresses, addresses_in}
 use Rattle.doc_names.specs.Usages.{usage_of}
-use Rattle.store_core.specs.DocumentChanges.{Act, Makes, Edits, Removes, act_of, after_act, against, against_number, against_tree, answered, changing, content_after, document_in, stored_name, note_for, only_if, other_addresses, other_lengths, taken}
+use Rattle.store_core.specs.DocumentChanges.{Act, Makes, Edits, Removes, act_of, after_act, refusal_of, refusal_of_number, refusal_of_tree, refusal_or, change_result, content_after, document_in, stored_name, note_for, only_if, other_addresses, other_lengths, first_taken_address}
 use Rattle.store_core.specs.AcceptableChanges.{Suits, SuitsAct}
 use Rattle.store_core.proofs.DistinctItems.{none-filtered, one-exchanged, one-filtered}
 use Rattle.store_core.proofs.KeptAfter.{round}
 use Rattle.doc_names.proofs.SameIds.{id_exact}
 use Rattle.store_core.proofs.AcceptedChanges.{uris_of, length_of, rest, rest-addresses, rest-lengths, sum-put, sum-first, find-map, not_found_refusal}
-use Rattle.store_core.proofs.AdmissionLemmas.{apart-unmix, neither, no-more, not-told, not-yet, nothing-taken}
+use Rattle.store_core.proofs.AdmissionLemmas.{apart-unmix, neither, no-more, not-told, not-yet, nothing-first_taken_address}
 
-admits-tree : (c : Content) (id : DocId) (is_new : Bool) (t : Tree) → AllByRecursion (λ uri. AllByRecursion (λ o. uri ≢ o) (other_addresses c id)) (addresses_in id.auid t) → document_len t ≤ 262144 → (is_new && nat_le 1000 (length c.documents)) ≡ false → other_lengths c id + document_len t ≤ 33554432 → against_tree c id is_new t ≡ None
+admits-tree : (c : Content) (id : DocId) (is_new : Bool) (t : Tree) → AllByRecursion (λ uri. AllByRecursion (λ o. uri ≢ o) (other_addresses c id)) (addresses_in id.auid t) → document_len t ≤ 262144 → (is_new && nat_le 1000 (length c.documents)) ≡ false → other_lengths c id + document_len t ≤ 33554432 → refusal_of_tree c id is_new t ≡ None
 admits-tree c id is_new t services short few room =
     let told : Clash → StoreRefusal = λ clash. ServiceTaken clash in
-    let first : Option StoreRefusal = option_map told (taken (other_addresses c id) (addresses_in id.auid t)) in
+    let first : Option StoreRefusal = option_map told (first_taken_address (other_addresses c id) (addresses_in id.auid t)) in
     let second : Option StoreRefusal = only_if (nat_lt 262144 (document_len t)) (TooLarge (min (document_len t) 18446744073709551615)) in
     let third : Option StoreRefusal = only_if (is_new && nat_le 1000 (length c.documents)) TooMany in
     let fourth : Option StoreRefusal = only_if (nat_lt 33554432 (other_lengths c id + document_len t)) (StoreFull (other_lengths c id + document_len t)) in
-    neither first (or_else second (or_else third fourth)) (ap (λ (o : Option Clash). option_map told o) (nothing-taken (other_addresses c id) (addresses_in id.auid t) services))
+    neither first (or_else second (or_else third fourth)) (ap (λ (o : Option Clash). option_map told o) (nothing-first_taken_address (other_addresses c id) (addresses_in id.auid t) services))
     (neither second (or_else third fourth) (not-told (nat_lt 262144 (document_len t)) (TooLarge (min (document_len t) 18446744073709551615)) (no-more 262144 (document_len t) short))
     (neither third fourth (not-told (is_new && nat_le 1000 (length c.documents)) TooMany few)
     (not-told (nat_lt 33554432 (other_lengths c id + document_len t)) (StoreFull (other_lengths c id + document_len t)) (no-more 33554432 (other_lengths c id + document_len t) room))))
@@ -45,7 +45,7 @@ admits-tree c id is_new t services short few room =
 under : (n : ℕ) → n < 18446744073709551616 → nat_le 18446744073709551616 n ≡ false
 under n h = grind (arith, nat_tests)
 
-has-number : (c : Content) → c.next < 18446744073709551616 → against_number c ≡ None
+has-number : (c : Content) → c.next < 18446744073709551616 → refusal_of_number c ≡ None
 has-number c h = not-told (nat_le 18446744073709551616 c.next) NoNumber (under c.next h)
 
 short-of : (usage : Option Usage) (t : Tree) → IsSoundFor usage t → document_len t ≤ 262144
@@ -59,7 +59,7 @@ room-before : (ds : List Document) (d : Document) (n : ℕ) → n ≡ sum_by len
 room-before ds d n e h = omega (arith, e, h, sum_by-append length_of ds (d ∷ []), sum-first length_of d [])
 
 admits-made : (m : State) (id : DocId) (change : Change) (root : Tree) → SuitsAct m id change (Makes root) → AreDistinct (addresses (after_act m id change (Makes root)).documents) → length (after_act m id change (Makes root)).documents ≤ 1000
-    → sum_by (λ d. document_len d.now.tree) (after_act m id change (Makes root)).documents ≤ 33554432 → against_tree (content_of m) id true root ≡ None
+    → sum_by (λ d. document_len d.now.tree) (after_act m id change (Makes root)).documents ≤ 33554432 → refusal_of_tree (content_of m) id true root ≡ None
 admits-made m id change root s services few room =
     let new = created id m.next root in
     let all : rest m id ≡ m.documents = none-filtered (λ (e : Document). same_id id e.id) m.documents (not_found_refusal (λ (e : Document). same_id id e.id) m.documents s.0) in
@@ -73,12 +73,12 @@ admits-made m id change root s services few room =
 
 admits-edited : (m : State) (id : DocId) (change : Change) → IsValidState m → (o : Option Document) → find (λ e. same_id id e.id) m.documents ≡ o
     → IsSomeAnd o (λ d. Fits d.now.tree change × IsSoundFor (usage_of d.id.auid) (edited d.now.tree change)) → AreDistinct (addresses (after_act m id change Edits).documents)
-    → sum_by (λ d. document_len d.now.tree) (after_act m id change Edits).documents ≤ 33554432 → m.next < 18446744073709551616 → against (content_of m) id change (option_map stored_of o) Edits ≡ None
+    → sum_by (λ d. document_len d.now.tree) (after_act m id change Edits).documents ≤ 33554432 → m.next < 18446744073709551616 → refusal_of (content_of m) id change (option_map stored_of o) Edits ≡ None
 admits-edited m id change k None e s services room number = absurd s
 admits-edited m id change k (Some d) e s services room number =
     let r = round m id d k e in
     let t = edited d.now.tree change in
-    let update_entry : Document → Document = λ e. renewed m.next e (note_of e.now.tag m.next e.now.tree change) in
+    let update_entry : Document → Document = λ e. document_after m.next e (note_of e.now.tag m.next e.now.tree change) in
     let docs : (after_act m id change Edits).documents ≡ r.before ++ update_entry d ∷ r.behind =
     ap (λ (ds : List Document). map (λ e. cond (same_id id e.id) (update_entry e) e) ds) r.parts
     ∙ one-exchanged (λ (e : Document). same_id id e.id) update_entry r.before r.behind d r.none-before r.passes r.none-behind in
@@ -91,25 +91,25 @@ admits-edited m id change k (Some d) e s services room number =
     subst (λ (xs : List (List ℕ)). AllByRecursion (λ uri. AllByRecursion (λ o. uri ≢ o) xs) own)
     (sym (rest-addresses m id ∙ ap (λ (ds : List Document). addresses ds) others ∙ flat_map-append uris_of r.before r.behind))
     (apart-unmix (flat_map uris_of r.before) own (flat_map uris_of r.behind) (subst (λ (xs : List (List ℕ)). AreDistinct xs) (ap (λ (ds : List Document). addresses ds) docs ∙ flat_map-append uris_of r.before (update_entry d ∷ r.behind)) services)) in
-    neither (against_tree (content_of m) id false t) (against_number (content_of m))
+    neither (refusal_of_tree (content_of m) id false t) (refusal_of_number (content_of m))
     (admits-tree (content_of m) id false t (subst (λ (i : DocId). AllByRecursion (λ uri. AllByRecursion (λ o. uri ≢ o) (other_addresses (content_of m) id)) (addresses_in i.auid t)) same apart)
     (short-of (usage_of d.id.auid) t s.1) refl
     (omega (arith, room, rest-lengths m id, ap (λ (ds : List Document). sum_by length_of ds) others, ap (λ (ds : List Document). sum_by length_of ds) docs, sum-put length_of r.before (update_entry d) r.behind)))
     (has-number (content_of m) number)
 
 admits : (m : State) (id : DocId) (change : Change) (act : Act) → IsValidState m → SuitsAct m id change act → AreDistinct (addresses (after_act m id change act).documents) → length (after_act m id change act).documents ≤ 1000
-    → sum_by (λ d. document_len d.now.tree) (after_act m id change act).documents ≤ 33554432 → m.next < 18446744073709551616 → against (content_of m) id change (document_in stored_name (map stored_of m.documents) id) act ≡ None
+    → sum_by (λ d. document_len d.now.tree) (after_act m id change act).documents ≤ 33554432 → m.next < 18446744073709551616 → refusal_of (content_of m) id change (document_in stored_name (map stored_of m.documents) id) act ≡ None
 admits m id change (Makes root) k s services few room number =
-    neither (against_tree (content_of m) id true root) (against_number (content_of m)) (admits-made m id change root s services few room) (has-number (content_of m) number)
+    neither (refusal_of_tree (content_of m) id true root) (refusal_of_number (content_of m)) (admits-made m id change root s services few room) (has-number (content_of m) number)
 admits m id change Edits k s services few room number =
     let o = find (λ (e : Document). same_id id e.id) m.documents in
-    subst (λ (x : Option StoredDocument). against (content_of m) id change x Edits ≡ None) (sym (find-map stored_of (λ (h : StoredDocument). same_id id h.id) m.documents)) (admits-edited m id change k o refl s services room number)
+    subst (λ (x : Option StoredDocument). refusal_of (content_of m) id change x Edits ≡ None) (sym (find-map stored_of (λ (h : StoredDocument). same_id id h.id) m.documents)) (admits-edited m id change k o refl s services room number)
 admits m id change Removes k s services few room number = has-number (content_of m) number
 
 pub suiting-made : (c : Content) (m : State) (id : DocId) (change : Change) → Represents c m → IsValidState m → Suits m id change → m.next < 18446744073709551616
-    → changing c id change ≡ Ok (note_for c id change (document_in stored_name c.documents id), content_after c id change)
+    → change_result c id change ≡ Ok (note_for c id change (document_in stored_name c.documents id), content_after c id change)
 suiting-made c m id change s k t number =
     let found = document_in stored_name c.documents id in
-    let h : against c id change found (act_of change) ≡ None =
-    subst (λ (d : Content). against d id change (document_in stored_name d.documents id) (act_of change) ≡ None) (sym s) (admits m id change (act_of change) k t.act t.services t.few t.room number) in
-    ap (λ (o : Option StoreRefusal). answered o (note_for c id change found) (content_after c id change)) h
+    let h : refusal_of c id change found (act_of change) ≡ None =
+    subst (λ (d : Content). refusal_of d id change (document_in stored_name d.documents id) (act_of change) ≡ None) (sym s) (admits m id change (act_of change) k t.act t.services t.few t.room number) in
+    ap (λ (o : Option StoreRefusal). refusal_or o (note_for c id change found) (content_after c id change)) h

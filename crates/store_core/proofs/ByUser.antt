@@ -9,7 +9,7 @@ use Rattle.std.specs.Ordering.{is_lt, ordering_reverse}
 use Rattle.std.specs.declared.cmp.Ordering.{Ordering}
 use Rattle.std.specs.declared.cmp.Ordering.TheVariants.{Less, Equal, Greater}
 use Rattle.xml_tree.specs.Tree.{Tree}
-use Rattle.store_core.specs.Indexes.{AreByUser, AreIndexTrees, indexed}
+use Rattle.store_core.specs.Indexes.{AreByUser, AreIndexTrees, index_entry}
 use Rattle.store_core.proofs.InOrder.{Pair, cmp, each-placed, in_order, placed, put, turned}
 use Rattle.store_core.proofs.SortLemmas.{Rises, from-lower, one-order, rises-sorted, sorted-rises, tied}
 use Rattle.store_core.specs.Contents.{StoreContents as Content}
@@ -83,11 +83,11 @@ one-by-user ds xs ys a b =
     one-order less is-order xs ys (rises-sorted less is-order xs a.rises) (rises-sorted less is-order ys b.rises) (λ x. a.keeps x ∙ sym (b.keeps x))
 
 abbrev pub index_trees : Content → List Tree
-index_trees c = map (λ (d : Pair). d.1) (in_order (filter_map indexed c.documents))
+index_trees c = map (λ (d : Pair). d.1) (in_order (filter_map index_entry c.documents))
 
 pub some-index-trees : (c : Content) → AreIndexTrees c (index_trees c)
-some-index-trees c = (in_order (filter_map indexed c.documents), by-user (filter_map indexed c.documents), refl)
+some-index-trees c = (in_order (filter_map index_entry c.documents), by-user (filter_map index_entry c.documents), refl)
 
 pub one-index-trees : (c : Content) (ts us : List Tree) → AreIndexTrees c ts → AreIndexTrees c us → ts ≡ us
 one-index-trees c ts us a b =
-    a.2 ∙ ap (map (λ (d : Pair). d.1)) (one-by-user (filter_map indexed c.documents) a.0 b.0 a.1 b.1) ∙ sym b.2
+    a.2 ∙ ap (map (λ (d : Pair). d.1)) (one-by-user (filter_map index_entry c.documents) a.0 b.0 a.1 b.1) ∙ sym b.2

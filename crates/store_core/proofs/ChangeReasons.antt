@@ -22,8 +22,8 @@ use Rattle.store_core.specs.declared.refusal.StoreRefusal.{StoreRefusal}
 use Rattle.store_core.specs.declared.refusal.StoreRefusal.TheVariants.{ServiceTaken, TooLarge, TooMany, StoreFull}
 use Rattle.store_core.specs.Contents.{StoredDocument, StoreContents as Content}
 use Rattle.store_core.specs.ValidStates.{AreDistinct, addresses_in}
-use Rattle.store_core.specs.DocumentChanges.{against_tree, answered, document_in, stored_name, only_if, other_addresses, other_lengths, taken, without_document}
-use Rattle.store_core.specs.inner.StoreMemory.{IsStoring, content_in, stored_in, holder, is_others, len_in, number_in, registered, uris_in}
+use Rattle.store_core.specs.DocumentChanges.{refusal_of_tree, refusal_or, document_in, stored_name, only_if, other_addresses, other_lengths, first_taken_address, without_document}
+use Rattle.store_core.specs.inner.StoreMemory.{IsStoring, content_in, stored_in, holder, is_others, len_in, number_in, registered_number, uris_in}
 use Rattle.store_core.specs.PreparedChanges.{total_of}
 use Rattle.store_core.proofs.AcceptedChanges.{sum-mapped, sum-put}
 use Rattle.store_core.proofs.DistinctItems.{each-append, each-left, each-right, each-weaker, apart-behind, none-filtered, one-filtered}
@@ -67,7 +67,7 @@ cut-step None n full others false e =
 -- where a registry says of each address whether another document has it
 found-so : (c : Content) (id : DocId) (is_new : Bool) (t : Tree) (test : List ℕ → Bool) (full : Bool) (others : ℕ) → ((uri : List ℕ) → is_member bytes_eq (other_addresses c id) uri ≡ test uri)
     → full ≡ (is_new && nat_le 1000 (length c.documents)) → others ≡ other_lengths c id
-    → refused_for (position test (addresses_in id.auid t)) (min (document_len t) 18446744073709551615) full others ≡ against_tree c id is_new t
+    → refused_for (position test (addresses_in id.auid t)) (min (document_len t) 18446744073709551615) full others ≡ refusal_of_tree c id is_new t
 found-so c id is_new t test full others tests fullness lengths =
     let own = addresses_in id.auid t in
     let clash : ℕ → Clash = λ i. record { path = i ∷ []; key = Uri } in
@@ -78,8 +78,8 @@ found-so c id is_new t test full others tests fullness lengths =
     (or_else (only_if (nat_lt 262144 n) (TooLarge (min n 18446744073709551615))) (or_else (only_if f TooMany) (only_if (nat_lt 33554432 (o + n)) (StoreFull (o + n))))) in
     cut-step (position test own) n full others (nat_lt 262144 n) refl
     ∙ ap (λ (p : List ℕ → Bool). rest (option_map clash (position p own)) full others) (sym same)
-    ∙ ap (λ (f : Bool). rest (taken (other_addresses c id) own) f others) fullness
-    ∙ ap (λ (o : ℕ). rest (taken (other_addresses c id) own) (is_new && nat_le 1000 (length c.documents)) o) lengths
+    ∙ ap (λ (f : Bool). rest (first_taken_address (other_addresses c id) own) f others) fullness
+    ∙ ap (λ (o : ℕ). rest (first_taken_address (other_addresses c id) own) (is_new && nat_le 1000 (length c.documents)) o) lengths
 
 -- the other documents, by their entries
 abbrev others-of : List Row → DocId → List Row
@@ -105,10 +105,10 @@ all-others [] = tt
 all-others (e ∷ es) = (refl, all-others es)
 
 pub against-new : (es : List Row) (rs : List (List ℕ × ℕ)) (last total : ℕ) (id : DocId) (t : Tree) → IsStoring es rs last total → lookup (same_id id) es ≡ None
-    → refused_for (position (λ uri. is_others None (registered rs uri)) (addresses_in id.auid t)) (min (document_len t) 18446744073709551615) (nat_le 1000 (length es)) total ≡ against_tree (content_in es last) id true t
+    → refused_for (position (λ uri. is_others None (registered_number rs uri)) (addresses_in id.auid t)) (min (document_len t) 18446744073709551615) (nat_le 1000 (length es)) total ≡ refusal_of_tree (content_in es last) id true t
 against-new es rs last total id t s missing =
     let all : others-of es id ≡ es = none-filtered (λ (e : Row). same_id id e.0) es (none-found (same_id id) es missing) in
-    found-so (content_in es last) id true t (λ uri. is_others None (registered rs uri)) (nat_le 1000 (length es)) total
+    found-so (content_in es last) id true t (λ uri. is_others None (registered_number rs uri)) (nat_le 1000 (length es)) total
     (λ uri. ap (λ (us : List (List ℕ)). is_member bytes_eq us uri) (other-uris es last id ∙ ap (flat_map uris_in) all) ∙ sym (others-hold uris_in number_in None es uri (all-others es)) ∙ ap (λ (o : Option ℕ). is_others None o) (sym (s.addresses uri)))
     (ap (λ (n : ℕ). nat_le 1000 n) (sym (length-map es stored_in)))
     (s.sum ∙ sym (other-lens es last id ∙ ap (sum_by len_in) all))
@@ -136,8 +136,8 @@ total-without es rs last total id v s found =
     omega (arith, s.sum, ap (sum_by len_in) r.parts, sum-put len_in r.before (id, v) r.behind, ap (sum_by len_in) (others-round es id v r))
 
 module _ (es : List Row) (rs : List (List ℕ × ℕ)) (last total : ℕ) (id : DocId) (v : Entry) (s : IsStoring es rs last total) (found : lookup (same_id id) es ≡ Some v) where
-  abbrev is-taken : List ℕ → Bool
-  is-taken uri = is_others (Some v.created) (registered rs uri)
+  abbrev is-first_taken_address : List ℕ → Bool
+  is-first_taken_address uri = is_others (Some v.created) (registered_number rs uri)
 
   abbrev round : Around es id v
   round = around-of es rs last total id v s found
@@ -148,13 +148,13 @@ module _ (es : List Row) (rs : List (List ℕ × ℕ)) (last total : ℕ) (id : 
   others-numbered : AllByRecursion (λ e. is_others (Some v.created) (Some (number_in e)) ≡ true) (round.before ++ round.behind)
   others-numbered = numbers-apart es (id, v) round.before round.behind round.parts s.numbers
 
-  held-round : (uri : List ℕ) → holder (round.before ++ (id, v) ∷ round.behind) uri ≡ registered rs uri
+  held-round : (uri : List ℕ) → holder (round.before ++ (id, v) ∷ round.behind) uri ≡ registered_number rs uri
   held-round uri = ap (λ (ds : List Row). holder ds uri) (sym round.parts) ∙ sym (s.addresses uri)
 
   pub against-held : (t : Tree)
-      → refused_for (position is-taken (addresses_in id.auid t)) (min (document_len t) 18446744073709551615) false (total - document_len v.tree.root) ≡ against_tree (content_in es last) id false t
+      → refused_for (position is-first_taken_address (addresses_in id.auid t)) (min (document_len t) 18446744073709551615) false (total - document_len v.tree.root) ≡ refusal_of_tree (content_in es last) id false t
   against-held t =
-      found-so (content_in es last) id false t is-taken false (total - document_len v.tree.root)
+      found-so (content_in es last) id false t is-first_taken_address false (total - document_len v.tree.root)
       (λ uri.
       ap (λ (us : List (List ℕ)). is_member bytes_eq us uri) (other-uris es last id ∙ ap (flat_map uris_in) (others-round es id v round))
       ∙ sym (others-hold-beside uris_in number_in round.before round.behind (id, v) uri apart-round others-numbered)
@@ -163,20 +163,20 @@ module _ (es : List Row) (rs : List (List ℕ × ℕ)) (last total : ℕ) (id : 
       (omega (arith, total-without es rs last total id v s found, other-lens es last id))
 
   -- no address of the document is another document's
-  own-untaken : AllByRecursion (λ uri. is-taken uri ≡ false) (addresses_in id.auid v.tree.root)
+  own-untaken : AllByRecursion (λ uri. is-first_taken_address uri ≡ false) (addresses_in id.auid v.tree.root)
   own-untaken =
-      each-weaker (λ (uri : List ℕ). is_others (Some v.created) (holder (round.before ++ (id, v) ∷ round.behind) uri) ≡ false) (λ (uri : List ℕ). is-taken uri ≡ false)
+      each-weaker (λ (uri : List ℕ). is_others (Some v.created) (holder (round.before ++ (id, v) ∷ round.behind) uri) ≡ false) (λ (uri : List ℕ). is-first_taken_address uri ≡ false)
       (λ uri h. ap (λ (o : Option ℕ). is_others (Some v.created) o) (sym (held-round uri)) ∙ h)
       (addresses_in id.auid v.tree.root) (own-free uris_in number_in round.before round.behind (id, v) apart-round others-numbered)
 
   -- so where it replaces some, the first taken one is among the added ones
-  pub first-taken : (t : Tree) (place : ℕ) (leaves enters : List (List ℕ)) → AreExchanged place (addresses_in id.auid v.tree.root) leaves enters (addresses_in id.auid t)
-      → option_map (λ i. max place i) (position is-taken enters) ≡ position is-taken (addresses_in id.auid t)
-  first-taken t place leaves enters x =
-      let none = subst (λ (us : List (List ℕ)). AllByRecursion (λ uri. is-taken uri ≡ false) us) x.was own-untaken in
-      let P : List ℕ → Type 0 = λ uri. is-taken uri ≡ false in
-      sym (ap (position is-taken) x.becomes
-      ∙ first-among is-taken place x.before enters x.behind (each-left P x.before (leaves ++ x.behind) none) (each-right P leaves x.behind (each-right P x.before (leaves ++ x.behind) none)) x.come)
+  pub first-first_taken_address : (t : Tree) (place : ℕ) (leaves enters : List (List ℕ)) → AreExchanged place (addresses_in id.auid v.tree.root) leaves enters (addresses_in id.auid t)
+      → option_map (λ i. max place i) (position is-first_taken_address enters) ≡ position is-first_taken_address (addresses_in id.auid t)
+  first-first_taken_address t place leaves enters x =
+      let none = subst (λ (us : List (List ℕ)). AllByRecursion (λ uri. is-first_taken_address uri ≡ false) us) x.was own-untaken in
+      let P : List ℕ → Type 0 = λ uri. is-first_taken_address uri ≡ false in
+      sym (ap (position is-first_taken_address) x.becomes
+      ∙ first-among is-first_taken_address place x.before enters x.behind (each-left P x.before (leaves ++ x.behind) none) (each-right P leaves x.behind (each-right P x.before (leaves ++ x.behind) none)) x.come)
 
 -- ---- what a store finds about a tree, and about the other documents
 
@@ -185,14 +185,14 @@ total-small es rs last total s = omega (arith, s.sum, (known-of es rs last total
 
 module _ (es : List Row) (rs : List (List ℕ × ℕ)) (last total : ℕ) (room : Room) (s : Stored) (doc : DocId) (seen : (let x : Stored = record { content = content_in es last; room = room } in x) ≡ s) (storing : IsStoring es rs last total) where
   pub new-answer : (t : Tree) (uris : List (List ℕ)) (place : Option ℕ) (len : ℕ) → document_in stored_name s.content.documents doc ≡ None → uris ≡ addresses_in doc.auid t
-      → place ≡ position (λ uri. is_others None (registered rs uri)) uris → len ≡ min (document_len t) 18446744073709551615 → refused_for place len (nat_le 1000 (length es)) total ≡ against_tree s.content doc true t
+      → place ≡ position (λ uri. is_others None (registered_number rs uri)) uris → len ≡ min (document_len t) 18446744073709551615 → refused_for place len (nat_le 1000 (length es)) total ≡ refusal_of_tree s.content doc true t
   new-answer t uris place len missing own at counted =
       let absent = absent-entry es rs last total doc storing (subst (λ (x : Stored). document_in stored_name x.content.documents doc ≡ None) (sym seen) missing) in
-      let test : List ℕ → Bool = λ uri. is_others None (registered rs uri) in
+      let test : List ℕ → Bool = λ uri. is_others None (registered_number rs uri) in
       ap (λ (o : Option ℕ). refused_for o len (nat_le 1000 (length es)) total) (at ∙ ap (λ (us : List (List ℕ)). position test us) own)
       ∙ ap (λ (n : ℕ). refused_for (position test (addresses_in doc.auid t)) n (nat_le 1000 (length es)) total) counted
       ∙ against-new es rs last total doc t storing absent
-      ∙ ap (λ (x : Stored). against_tree x.content doc true t) seen
+      ∙ ap (λ (x : Stored). refusal_of_tree x.content doc true t) seen
 
   module _ (v : Entry) (found : Some v ≡ lookup (same_id doc) es) where
     len-here : v.len ≡ document_len v.tree.root
@@ -205,16 +205,16 @@ module _ (es : List Row) (rs : List (List ℕ × ℕ)) (last total : ℕ) (room 
 
     pub edit-answer : (h : StoredDocument) (t : Tree) (leaves uris : List (List ℕ)) (first len : ℕ) (place : Option ℕ) → document_in stored_name s.content.documents doc ≡ Some h
         → AreExchanged first (addresses_in doc.auid h.tree) leaves uris (addresses_in doc.auid t)
-        → place ≡ option_map (λ i. max first i) (position (λ uri. is_others (Some v.created) (registered rs uri)) uris)
-        → len ≡ min (document_len t) 18446744073709551615 → refused_for place len false (total - v.len) ≡ against_tree s.content doc false t
+        → place ≡ option_map (λ i. max first i) (position (λ uri. is_others (Some v.created) (registered_number rs uri)) uris)
+        → len ≡ min (document_len t) 18446744073709551615 → refused_for place len false (total - v.len) ≡ refusal_of_tree s.content doc false t
     edit-answer h t leaves uris first len place is exchanged at counted =
-        let test : List ℕ → Bool = λ uri. is_others (Some v.created) (registered rs uri) in
+        let test : List ℕ → Bool = λ uri. is_others (Some v.created) (registered_number rs uri) in
         let here = subst (λ (x : Tree). AreExchanged first (addresses_in doc.auid x) leaves uris (addresses_in doc.auid t)) (held-tree h is) exchanged in
-        ap (λ (o : Option ℕ). refused_for o len false (total - v.len)) (at ∙ first-taken es rs last total doc v storing (sym found) t first leaves uris here)
+        ap (λ (o : Option ℕ). refused_for o len false (total - v.len)) (at ∙ first-first_taken_address es rs last total doc v storing (sym found) t first leaves uris here)
         ∙ ap (λ (n : ℕ). refused_for (position test (addresses_in doc.auid t)) n false (total - v.len)) counted
         ∙ ap (λ (n : ℕ). refused_for (position test (addresses_in doc.auid t)) (min (document_len t) 18446744073709551615) false (total - n)) len-here
         ∙ against-held es rs last total doc v storing (sym found) t
-        ∙ ap (λ (x : Stored). against_tree x.content doc false t) seen
+        ∙ ap (λ (x : Stored). refusal_of_tree x.content doc false t) seen
 
     pub held-as : IsHeldAs s.content doc v
     held-as =
@@ -239,11 +239,11 @@ module _ (es : List Row) (rs : List (List ℕ × ℕ)) (last total : ℕ) (room 
 
 -- ---- what is returned
 
-pub refused-first : (a b : Option StoreRefusal) (e : StoreRefusal) (note : Note) (next : Content) → a ≡ Some e → answered (or_else a b) note next ≡ Err e
-refused-first a b e note next h = ap (λ (o : Option StoreRefusal). answered (or_else o b) note next) h
+pub refused-first : (a b : Option StoreRefusal) (e : StoreRefusal) (note : Note) (next : Content) → a ≡ Some e → refusal_or (or_else a b) note next ≡ Err e
+refused-first a b e note next h = ap (λ (o : Option StoreRefusal). refusal_or (or_else o b) note next) h
 
-pub refused-last : (a b : Option StoreRefusal) (e : StoreRefusal) (note : Note) (next : Content) → a ≡ None → b ≡ Some e → answered (or_else a b) note next ≡ Err e
-refused-last a b e note next h g = ap (λ (o : Option StoreRefusal). answered (or_else o b) note next) h ∙ ap (λ (o : Option StoreRefusal). answered o note next) g
+pub refused-last : (a b : Option StoreRefusal) (e : StoreRefusal) (note : Note) (next : Content) → a ≡ None → b ≡ Some e → refusal_or (or_else a b) note next ≡ Err e
+refused-last a b e note next h g = ap (λ (o : Option StoreRefusal). refusal_or (or_else o b) note next) h ∙ ap (λ (o : Option StoreRefusal). refusal_or o note next) g
 
-pub not-refused-at-all : (a b : Option StoreRefusal) (note : Note) (next : Content) → a ≡ None → b ≡ None → answered (or_else a b) note next ≡ Ok (note, next)
-not-refused-at-all a b note next h g = ap (λ (o : Option StoreRefusal). answered (or_else o b) note next) h ∙ ap (λ (o : Option StoreRefusal). answered o note next) g
+pub not-refused-at-all : (a b : Option StoreRefusal) (note : Note) (next : Content) → a ≡ None → b ≡ None → refusal_or (or_else a b) note next ≡ Ok (note, next)
+not-refused-at-all a b note next h g = ap (λ (o : Option StoreRefusal). refusal_or (or_else o b) note next) h ∙ ap (λ (o : Option StoreRefusal). refusal_or o note next) g

@@ -24,7 +24,7 @@ use Rattle.store_core.specs.Contents.{StoredDocument, Represents, StoreContents 
 use Rattle.store_core.specs.ValidStates.{AreDistinct, IsSoundFor, IsValidState, addresses_in}
 use Rattle.store_core.specs.TreeChanges.{IsStagedIn}
 use Rattle.store_core.specs.DocumentChanges.{Act, Edits, after, act_of, content_after, content_after_act, document_in, held_after, stored_name, with_document}
-use Rattle.store_core.specs.inner.StoreMemory.{IsRenewed, IsStoring, content_in, exchanged, stored_in, holder, len_in, number_in, registered, trees_in, uris_in}
+use Rattle.store_core.specs.inner.StoreMemory.{IsRenewed, IsStoring, content_in, exchanged, stored_in, holder, len_in, number_in, registered_number, trees_in, uris_in}
 use Rattle.store_core.specs.PreparedChanges.{HasTree, IsPlanned, IsStepOf, Readied, total_of}
 use Rattle.store_core.proofs.AcceptedChanges.{find-map, sum-first, sum-mapped, sum-put}
 use Rattle.store_core.proofs.DistinctItems.{apart-cut, apart-put, each-append, each-cut, each-left, each-right, each-weaker, one-exchanged, one-filtered}
@@ -37,7 +37,7 @@ use Rattle.store_core.proofs.Entries.{Around, Known, around, each-mapped, known,
 use Rattle.store_core.proofs.Holders.{held-apart, held-exchanged, held-less}
 use Rattle.store_core.proofs.SharedTrees.{found-tree}
 use Rattle.store_core.specs.StoreViews.{Room, Stored}
-use Rattle.store_core.specs.inner.ChangePlans.{Stepped, Steppable}
+use Rattle.store_core.specs.inner.ChangePlans.{Steppable, TakesStep}
 
 abbrev Row : Type 0
 Row = DocId × Entry
@@ -107,7 +107,7 @@ made-content es last p key entry number step =
 
 made-stored : (es : List Row) (rs : List (List ℕ × ℕ)) (last total : ℕ) (p : Readied) (key : DocId) (entry : Entry) (rows : List (List ℕ × ℕ))
     → IsStoring es rs last total → IsPlanned (content_in es last) p → IsStepOf (content_in es last) p (Make key entry)
-    → ((uri : List ℕ) → registered rows uri ≡ exchanged p.leaves p.enters entry.created (registered rs uri) uri)
+    → ((uri : List ℕ) → registered_number rows uri ≡ exchanged p.leaves p.enters entry.created (registered_number rs uri) uri)
     → IsStoring (es ++ (p.doc, entry) ∷ []) rows p.note.next p.total
 made-stored es rs last total p key entry rows s planned step reg =
     let c = content_in es last in
@@ -120,8 +120,8 @@ made-stored es rs last total p key entry rows s planned step reg =
       kept = kept;
       addresses = λ uri.
           reg uri
-          ∙ ap (λ (us : List (List ℕ)). exchanged us p.enters entry.created (registered rs uri) uri) step.3
-          ∙ ap (λ (us : List (List ℕ)). exchanged [] us entry.created (registered rs uri) uri) step.4
+          ∙ ap (λ (us : List (List ℕ)). exchanged us p.enters entry.created (registered_number rs uri) uri) step.3
+          ∙ ap (λ (us : List (List ℕ)). exchanged [] us entry.created (registered_number rs uri) uri) step.4
           ∙ ap (λ (o : Option ℕ). exchanged [] (uris_in row) entry.created o uri) (s.addresses uri ∙ ap (λ (ds : List Row). holder ds uri) (sym (append-nil es)))
           ∙ held-apart uris_in number_in es [] row uri apart;
       numbers =
@@ -173,7 +173,7 @@ renewed-content es last p v w len kept h r number edits same changed note new =
 
 renewed-stored : (es : List Row) (rs : List (List ℕ × ℕ)) (last total : ℕ) (p : Readied) (staged : StagedTree) (kept : Note) (len : ℕ) (v w : Entry) (rows : List (List ℕ × ℕ))
     → IsStoring es rs last total → IsPlanned (content_in es last) p → IsStepOf (content_in es last) p (Edit staged kept len) → lookup (same_id p.doc) es ≡ Some v → IsRenewed v p.note.next kept len w
-    → ((uri : List ℕ) → registered rows uri ≡ exchanged p.leaves p.enters w.created (registered rs uri) uri)
+    → ((uri : List ℕ) → registered_number rows uri ≡ exchanged p.leaves p.enters w.created (registered_number rs uri) uri)
     → (content_in (map (λ e. cond (same_id p.doc e.0) (e.0, w) e) es) p.note.next ≡ content_after (content_in es last) p.doc p.note.change)
     × IsStoring (map (λ e. cond (same_id p.doc e.0) (e.0, w) e) es) rows p.note.next p.total
 renewed-stored es rs last total p staged kept len v w rows s planned step found new reg =
@@ -230,7 +230,7 @@ ended-content es last p number step =
 
 ended-stored : (es : List Row) (rs : List (List ℕ × ℕ)) (last total : ℕ) (p : Readied) (v : Entry) (created : ℕ) (rows : List (List ℕ × ℕ))
     → IsStoring es rs last total → IsPlanned (content_in es last) p → IsStepOf (content_in es last) p End → lookup (same_id p.doc) es ≡ Some v
-    → ((uri : List ℕ) → registered rows uri ≡ exchanged p.leaves p.enters created (registered rs uri) uri)
+    → ((uri : List ℕ) → registered_number rows uri ≡ exchanged p.leaves p.enters created (registered_number rs uri) uri)
     → IsStoring (filter (λ e. not (same_id p.doc e.0)) es) rows p.note.next p.total
 ended-stored es rs last total p v created rows s planned step found reg =
     let r = around-of es rs last total p.doc v s found in
@@ -251,8 +251,8 @@ ended-stored es rs last total p v created rows s planned step found reg =
       kept = subst (λ (ds : List Row). (m : State) × Represents (content_in ds p.note.next) m × IsValidState m) all next;
       addresses = λ uri.
           reg uri
-          ∙ ap (λ (us : List (List ℕ)). exchanged us p.enters created (registered rs uri) uri) leaves
-          ∙ ap (λ (us : List (List ℕ)). exchanged (uris_in old) us created (registered rs uri) uri) step.4
+          ∙ ap (λ (us : List (List ℕ)). exchanged us p.enters created (registered_number rs uri) uri) leaves
+          ∙ ap (λ (us : List (List ℕ)). exchanged (uris_in old) us created (registered_number rs uri) uri) step.4
           ∙ ap (λ (o : Option ℕ). cond (is_member bytes_eq (uris_in old) uri) None o) (s.addresses uri ∙ ap (λ (ds : List Row). holder ds uri) r.parts)
           ∙ held-less uris_in number_in r.before r.behind old uri before-apart;
       numbers = subst (λ (ns : List ℕ). AreDistinct ns) (sym (map-append number_in r.before r.behind)) (apart-cut (map number_in r.before) (number_in old ∷ []) (map number_in r.behind) numbers);
@@ -284,20 +284,20 @@ no-entry es last room s doc seen none h =
     nothing-there (document_in stored_name (map stored_in es) doc) (missing-held es doc (sym none)) (subst (λ (x : Stored). IsSome (document_in stored_name x.content.documents doc)) (sym seen) h)
 
 pub stored : (es : List Row) (rs : List (List ℕ × ℕ)) (last total : ℕ) (p : Readied) (step : Step) (created : ℕ) (next : List Row) (rows : List (List ℕ × ℕ))
-    → IsStoring es rs last total → IsPlanned (content_in es last) p → IsStepOf (content_in es last) p step → Stepped es p.doc p.note.next step created next
-    → ((uri : List ℕ) → registered rows uri ≡ exchanged p.leaves p.enters created (registered rs uri) uri)
+    → IsStoring es rs last total → IsPlanned (content_in es last) p → IsStepOf (content_in es last) p step → TakesStep (record { entries = es; doc = p.doc; number = p.note.next }) step created next
+    → ((uri : List ℕ) → registered_number rows uri ≡ exchanged p.leaves p.enters created (registered_number rs uri) uri)
     → (content_in next p.note.next ≡ content_after (content_in es last) p.doc p.note.change) × IsStoring next rows p.note.next p.total
 stored es rs last total p (Make key entry) created next rows s planned step stepped reg =
     let behind : next ≡ es ++ (p.doc, entry) ∷ [] = stepped.0 ∙ ap (λ (d : DocId). es ++ (d, entry) ∷ []) step.6 in
-    let registered-as = λ (uri : List ℕ). reg uri ∙ ap (λ (n : ℕ). exchanged p.leaves p.enters n (registered rs uri) uri) stepped.1 in (
+    let registered_number-as = λ (uri : List ℕ). reg uri ∙ ap (λ (n : ℕ). exchanged p.leaves p.enters n (registered_number rs uri) uri) stepped.1 in (
       ap (λ (ds : List Row). content_in ds p.note.next) behind ∙ made-content es last p key entry planned.number step,
-      subst (λ (ds : List Row). IsStoring ds rows p.note.next p.total) (sym behind) (made-stored es rs last total p key entry rows s planned step registered-as),
+      subst (λ (ds : List Row). IsStoring ds rows p.note.next p.total) (sym behind) (made-stored es rs last total p key entry rows s planned step registered_number-as),
     )
 stored es rs last total p (Edit staged kept len) created next rows s planned step stepped reg =
     let v = stepped.0 in
     let w = stepped.1 in
-    let registered-as = λ (uri : List ℕ). reg uri ∙ ap (λ (n : ℕ). exchanged p.leaves p.enters n (registered rs uri) uri) stepped.5 in
-    let made = renewed-stored es rs last total p staged kept len v w rows s planned step stepped.2 stepped.3 registered-as in (
+    let registered_number-as = λ (uri : List ℕ). reg uri ∙ ap (λ (n : ℕ). exchanged p.leaves p.enters n (registered_number rs uri) uri) stepped.5 in
+    let made = renewed-stored es rs last total p staged kept len v w rows s planned step stepped.2 stepped.3 registered_number-as in (
       ap (λ (ds : List Row). content_in ds p.note.next) stepped.4 ∙ made.0,
       subst (λ (ds : List Row). IsStoring ds rows p.note.next p.total) (sym stepped.4) made.1,
     )

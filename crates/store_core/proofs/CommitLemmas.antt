@@ -7,11 +7,11 @@ use Rattle.doc_names.specs.Equality.{same_id}
 use Rattle.doc_names.specs.declared.doc_id.DocId.{DocId}
 use Rattle.store_core.specs.declared.entry.Entry.{Entry}
 use Rattle.store_core.specs.DocumentChanges.{content_after}
-use Rattle.store_core.specs.inner.StoreMemory.{IsStoring, content_in, exchanged, registered, trees_in}
+use Rattle.store_core.specs.inner.StoreMemory.{IsStoring, content_in, exchanged, registered_number, trees_in}
 use Rattle.store_core.specs.PreparedChanges.{HasTree, IsReady, Readied}
 use Rattle.store_core.proofs.ChangeSteps.{steppable, stored}
 use Rattle.store_core.specs.StoreViews.{Room, Stored}
-use Rattle.store_core.specs.inner.ChangePlans.{Stepped, Steppable}
+use Rattle.store_core.specs.inner.ChangePlans.{Steppable, TakesStep}
 
 module _ (es : List (DocId × Entry)) (rs : List (List ℕ × ℕ)) (last total : ℕ) (room : Room) (s : Stored) (p q : Readied)
     (seen : (let x : Stored = record { content = content_in es last; room = room } in x) ≡ s) (same : p ≡ q) (storing : IsStoring es rs last total) (ready : IsReady s q) where
@@ -25,18 +25,18 @@ module _ (es : List (DocId × Entry)) (rs : List (List ℕ × ℕ)) (last total 
   may-step shown =
       steppable es rs last total p p.step storing ready-here.planned ready-here.planned.step (subst (λ (trees : List (DocId × Bool)). HasTree p.step (lookup (same_id p.doc) trees)) shown ready-here.tree)
 
-  module _ (left rows : List (List ℕ × ℕ)) (next : List (DocId × Entry)) (created number : ℕ) (leaves enters : List (List ℕ)) (numbered : number ≡ p.note.next) (stepped : Stepped es p.doc number p.step created next)
+  module _ (left rows : List (List ℕ × ℕ)) (next : List (DocId × Entry)) (created number : ℕ) (leaves enters : List (List ℕ)) (numbered : number ≡ p.note.next) (stepped : TakesStep (record { entries = es; doc = p.doc; number = number }) p.step created next)
       (removed_addresses : leaves ≡ p.leaves) (added_addresses : enters ≡ p.enters)
-      (took : (uri : List ℕ) → registered left uri ≡ cond (is_member bytes_eq leaves uri) None (registered rs uri)) (gave : (uri : List ℕ) → registered rows uri ≡ cond (is_member bytes_eq enters uri) (Some created) (registered left uri)) where
-    exchanges : (uri : List ℕ) → registered rows uri ≡ exchanged p.leaves p.enters created (registered rs uri) uri
+      (took : (uri : List ℕ) → registered_number left uri ≡ cond (is_member bytes_eq leaves uri) None (registered_number rs uri)) (gave : (uri : List ℕ) → registered_number rows uri ≡ cond (is_member bytes_eq enters uri) (Some created) (registered_number left uri)) where
+    exchanges : (uri : List ℕ) → registered_number rows uri ≡ exchanged p.leaves p.enters created (registered_number rs uri) uri
     exchanges uri =
         gave uri
         ∙ ap (λ (o : Option ℕ). cond (is_member bytes_eq enters uri) (Some created) o) (took uri)
-        ∙ ap (λ (us : List (List ℕ)). cond (is_member bytes_eq enters uri) (Some created) (cond (is_member bytes_eq us uri) None (registered rs uri))) removed_addresses
-        ∙ ap (λ (us : List (List ℕ)). cond (is_member bytes_eq us uri) (Some created) (cond (is_member bytes_eq p.leaves uri) None (registered rs uri))) added_addresses
+        ∙ ap (λ (us : List (List ℕ)). cond (is_member bytes_eq enters uri) (Some created) (cond (is_member bytes_eq us uri) None (registered_number rs uri))) removed_addresses
+        ∙ ap (λ (us : List (List ℕ)). cond (is_member bytes_eq us uri) (Some created) (cond (is_member bytes_eq p.leaves uri) None (registered_number rs uri))) added_addresses
 
-    stepped-so : Stepped es p.doc p.note.next p.step created next
-    stepped-so = subst (λ (n : ℕ). Stepped es p.doc n p.step created next) numbered stepped
+    stepped-so : TakesStep (record { entries = es; doc = p.doc; number = p.note.next }) p.step created next
+    stepped-so = subst (λ (n : ℕ). TakesStep (record { entries = es; doc = p.doc; number = n }) p.step created next) numbered stepped
 
     pub still-storing : IsStoring next rows number p.total
     still-storing =

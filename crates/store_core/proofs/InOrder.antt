@@ -8,7 +8,7 @@ use Rattle.std.specs.Ordering.{is_eq, match_ordering, nat_cmp, ordering_reverse}
 use Rattle.std.specs.declared.cmp.Ordering.{Ordering}
 use Rattle.std.specs.declared.cmp.Ordering.TheVariants.{Less, Equal, Greater}
 use Rattle.xml_tree.specs.Tree.{Tree}
-use Rattle.store_core.specs.inner.ServiceListing.{entered}
+use Rattle.store_core.specs.inner.ServiceListing.{with_entries}
 
 abbrev pub Pair : Type 0
 Pair = List ℕ × Tree
@@ -138,19 +138,19 @@ apart-placed : (d : Pair) (ds made : List Pair) → AllByRecursion (Other d) ds 
 apart-placed d [] made a b = tt
 apart-placed d (x ∷ ds) made a b = (each-placed (Other x) d made (other-turned d x a.0) b.0, apart-placed d ds made a.1 b.1)
 
-entered-onto : (made ds : List Pair) → NamesApart ds → Apart ds made → entered made ds ≡ onto made ds
-entered-onto made [] n a = refl
-entered-onto made (d ∷ ds) n a =
-    ap (λ (ys : List Pair). entered ys ds) (enters d made a.0)
-    ∙ entered-onto (placed d made) ds n.1 (apart-placed d ds made n.0 a.1)
+with_entries-onto : (made ds : List Pair) → NamesApart ds → Apart ds made → with_entries made ds ≡ onto made ds
+with_entries-onto made [] n a = refl
+with_entries-onto made (d ∷ ds) n a =
+    ap (λ (ys : List Pair). with_entries ys ds) (enters d made a.0)
+    ∙ with_entries-onto (placed d made) ds n.1 (apart-placed d ds made n.0 a.1)
     ∙ onto-placed d made ds n.0
 
 apart-none : (ds : List Pair) → Apart ds []
 apart-none [] = tt
 apart-none (d ∷ ds) = (tt, apart-none ds)
 
-pub entered-in-order : (ds : List Pair) → NamesApart ds → entered [] ds ≡ in_order ds
-entered-in-order ds n = entered-onto [] ds n (apart-none ds) ∙ onto-none ds
+pub with_entries-in-order : (ds : List Pair) → NamesApart ds → with_entries [] ds ≡ in_order ds
+with_entries-in-order ds n = with_entries-onto [] ds n (apart-none ds) ∙ onto-none ds
 
 pub each-in-order : (P : Pair → Type 0) (ds : List Pair) → AllByRecursion P ds → AllByRecursion P (in_order ds)
 each-in-order P [] a = tt

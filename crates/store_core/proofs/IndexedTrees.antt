@@ -17,12 +17,12 @@ use Rattle.doc_names.specs.declared.doc_id.Home.{Home}
 use Rattle.doc_names.specs.declared.doc_id.Home.TheVariants.{Global, User}
 use Rattle.doc_names.specs.declared.doc_id.DocId.{DocId}
 use Rattle.store_core.specs.declared.entry.Entry.{Entry}
-use Rattle.store_core.specs.Indexes.{AreIndexTrees, index, indexed, indexed_by}
+use Rattle.store_core.specs.Indexes.{AreIndexTrees, index, index_entry, indexed_by}
 use Rattle.store_core.specs.ValidStates.{AreDistinct}
-use Rattle.store_core.specs.inner.ServiceListing.{entered, listed, pairs_in}
+use Rattle.store_core.specs.inner.ServiceListing.{with_entries, index_entries, pairs_in}
 use Rattle.store_core.specs.inner.StoreMemory.{IsStoring, content_in, stored_in, name_in}
 use Rattle.store_core.proofs.ByUser.{index_trees, some-index-trees}
-use Rattle.store_core.proofs.InOrder.{NamesApart, Other, each-in-order, entered-in-order, equal-texts, in_order}
+use Rattle.store_core.proofs.InOrder.{NamesApart, Other, each-in-order, with_entries-in-order, equal-texts, in_order}
 use Rattle.store_core.proofs.ChangeSteps.{known-of}
 use Rattle.store_core.specs.StoreViews.{Room, Stored}
 
@@ -40,33 +40,33 @@ of-user xui = record { auid = RlsServices; home = User xui; name = index }
 abbrev id-of : Auid → Home → List ℕ → DocId
 id-of auid home name = record { auid = auid; home = home; name = name }
 
-listed-id : (auid : Auid) (home : Home) (name : List ℕ) (t : Tree) (x : Pair) (b : Bool) → bytes_eq name index ≡ b → indexed_by auid b home t ≡ Some x → id-of auid home name ≡ of-user x.0
-listed-id ResourceLists home name t x b e h = cc
-listed-id RlsServices home name t x false e h = cc
-listed-id RlsServices Global name t x true e h = cc
-listed-id RlsServices (User xui) name t x true e h =
+index_entries-id : (auid : Auid) (home : Home) (name : List ℕ) (t : Tree) (x : Pair) (b : Bool) → bytes_eq name index ≡ b → indexed_by auid b home t ≡ Some x → id-of auid home name ≡ of-user x.0
+index_entries-id ResourceLists home name t x b e h = cc
+index_entries-id RlsServices home name t x false e h = cc
+index_entries-id RlsServices Global name t x true e h = cc
+index_entries-id RlsServices (User xui) name t x true e h =
     ap (λ (n : List ℕ). id-of RlsServices (User xui) n) ((bytes_eq-Decides name index).0 e)
     ∙ ap (λ (p : Pair). of-user p.0) (same_Some {A = Pair} (xui, t) x h)
-listed-id XcapCaps home name t x b e h = cc
+index_entries-id XcapCaps home name t x b e h = cc
 
-row-id : (e : Row) (x : Pair) → indexed (stored_in e) ≡ Some x → e.0 ≡ of-user x.0
-row-id e x h = listed-id e.0.auid e.0.home e.0.name e.1.tree.root x (bytes_eq e.0.name index) refl h
+row-id : (e : Row) (x : Pair) → index_entry (stored_in e) ≡ Some x → e.0 ≡ of-user x.0
+row-id e x h = index_entries-id e.0.auid e.0.home e.0.name e.1.tree.root x (bytes_eq e.0.name index) refl h
 
-others-step : (id : DocId) (x : Pair) (e : Row) (ys : List Pair) (o : Option Pair) → id ≡ of-user x.0 → id ≢ e.0 → indexed (stored_in e) ≡ o → AllByRecursion (Other x) ys → AllByRecursion (Other x) (cons_option o ys)
+others-step : (id : DocId) (x : Pair) (e : Row) (ys : List Pair) (o : Option Pair) → id ≡ of-user x.0 → id ≢ e.0 → index_entry (stored_in e) ≡ o → AllByRecursion (Other x) ys → AllByRecursion (Other x) (cons_option o ys)
 others-step id x e ys None same apart h by = by
 others-step id x e ys (Some y) same apart h by = (λ (equal : slice_cmp nat_cmp x.0 y.0 ≡ Equal). apart (same ∙ ap (λ (xui : List ℕ). of-user xui) (equal-texts x.0 y.0 equal) ∙ sym (row-id e y h)), by)
 
-others : (id : DocId) (x : Pair) (es : List Row) → id ≡ of-user x.0 → AllByRecursion (λ y. id ≢ y) (map name_in es) → AllByRecursion (Other x) (listed es)
+others : (id : DocId) (x : Pair) (es : List Row) → id ≡ of-user x.0 → AllByRecursion (λ y. id ≢ y) (map name_in es) → AllByRecursion (Other x) (index_entries es)
 others id x [] same a = tt
-others id x (e ∷ es) same a = others-step id x e (listed es) (indexed (stored_in e)) same a.0 refl (others id x es same a.1)
+others id x (e ∷ es) same a = others-step id x e (index_entries es) (index_entry (stored_in e)) same a.0 refl (others id x es same a.1)
 
-apart-step : (e : Row) (es : List Row) (o : Option Pair) → indexed (stored_in e) ≡ o → AllByRecursion (λ y. e.0 ≢ y) (map name_in es) → NamesApart (listed es) → NamesApart (cons_option o (listed es))
+apart-step : (e : Row) (es : List Row) (o : Option Pair) → index_entry (stored_in e) ≡ o → AllByRecursion (λ y. e.0 ≢ y) (map name_in es) → NamesApart (index_entries es) → NamesApart (cons_option o (index_entries es))
 apart-step e es None h a by = by
 apart-step e es (Some x) h a by = (others e.0 x es (row-id e x h) a, by)
 
-users-apart : (es : List Row) → AreDistinct (map name_in es) → NamesApart (listed es)
+users-apart : (es : List Row) → AreDistinct (map name_in es) → NamesApart (index_entries es)
 users-apart [] a = tt
-users-apart (e ∷ es) a = apart-step e es (indexed (stored_in e)) refl a.0 (users-apart es a.1)
+users-apart (e ∷ es) a = apart-step e es (index_entry (stored_in e)) refl a.0 (users-apart es a.1)
 
 -- ---- their trees have at most `MAX_LEVELS` levels
 
@@ -76,20 +76,20 @@ IsWithinLevels x = height x.1 ≤ 64
 abbrev IsLowRow : Row → Type 0
 IsLowRow e = height e.1.tree.root ≤ 64
 
-listed-tree : (auid : Auid) (home : Home) (b : Bool) (t : Tree) (x : Pair) → indexed_by auid b home t ≡ Some x → t ≡ x.1
-listed-tree ResourceLists home b t x h = cc
-listed-tree RlsServices home false t x h = cc
-listed-tree RlsServices Global true t x h = cc
-listed-tree RlsServices (User xui) true t x h = ap (λ (p : Pair). p.1) (same_Some {A = Pair} (xui, t) x h)
-listed-tree XcapCaps home b t x h = cc
+index_entries-tree : (auid : Auid) (home : Home) (b : Bool) (t : Tree) (x : Pair) → indexed_by auid b home t ≡ Some x → t ≡ x.1
+index_entries-tree ResourceLists home b t x h = cc
+index_entries-tree RlsServices home false t x h = cc
+index_entries-tree RlsServices Global true t x h = cc
+index_entries-tree RlsServices (User xui) true t x h = ap (λ (p : Pair). p.1) (same_Some {A = Pair} (xui, t) x h)
+index_entries-tree XcapCaps home b t x h = cc
 
-low-step : (e : Row) (ds : List Pair) (o : Option Pair) → indexed (stored_in e) ≡ o → IsLowRow e → AllByRecursion IsWithinLevels ds → AllByRecursion IsWithinLevels (cons_option o ds)
+low-step : (e : Row) (ds : List Pair) (o : Option Pair) → index_entry (stored_in e) ≡ o → IsLowRow e → AllByRecursion IsWithinLevels ds → AllByRecursion IsWithinLevels (cons_option o ds)
 low-step e ds None h low by = by
-low-step e ds (Some x) h low by = (subst (λ (t : Tree). height t ≤ 64) (listed-tree e.0.auid e.0.home (bytes_eq e.0.name index) e.1.tree.root x h) low, by)
+low-step e ds (Some x) h low by = (subst (λ (t : Tree). height t ≤ 64) (index_entries-tree e.0.auid e.0.home (bytes_eq e.0.name index) e.1.tree.root x h) low, by)
 
-low-listed : (es : List Row) → AllByRecursion IsLowRow es → AllByRecursion IsWithinLevels (listed es)
-low-listed [] a = tt
-low-listed (e ∷ es) a = low-step e (listed es) (indexed (stored_in e)) refl a.0 (low-listed es a.1)
+low-index_entries : (es : List Row) → AllByRecursion IsLowRow es → AllByRecursion IsWithinLevels (index_entries es)
+low-index_entries [] a = tt
+low-index_entries (e ∷ es) a = low-step e (index_entries es) (index_entry (stored_in e)) refl a.0 (low-index_entries es a.1)
 
 -- the borrowed trees have these values, so they have no more levels
 first-same : (t u : Tree) (ts us : List Tree) → t ∷ ts ≡ u ∷ us → (t ≡ u) × (ts ≡ us)
@@ -128,21 +128,21 @@ trees-in-pairs (e ∷ es) = ap (λ (ts : List Tree). e.1.now ∷ ts) (trees-in-p
 
 module _ (es : List Row) (rs : List (List ℕ × ℕ)) (last total : ℕ) (storing : IsStoring es rs last total) where
   -- the entries of such a map for a store's documents are in order
-  pub listed-in-order : entered [] (listed es) ≡ in_order (listed es)
-  listed-in-order = entered-in-order (listed es) (users-apart es (known-of es rs last total storing).names)
+  pub index_entries-in-order : with_entries [] (index_entries es) ≡ in_order (index_entries es)
+  index_entries-in-order = with_entries-in-order (index_entries es) (users-apart es (known-of es rs last total storing).names)
 
-  pub low-in-order : AllByRecursion IsWithinLevels (in_order (listed es))
-  low-in-order = each-in-order IsWithinLevels (listed es) (low-listed es (known-of es rs last total storing).low)
+  pub low-in-order : AllByRecursion IsWithinLevels (in_order (index_entries es))
+  low-in-order = each-in-order IsWithinLevels (index_entries es) (low-index_entries es (known-of es rs last total storing).low)
 
-  module _ (made : List (Bor (List ℕ) × Bor Tree)) (all : pairs_in made ≡ entered [] (listed es)) (trees : List (Bor Tree)) (shown : trees ≡ values_of made) where
-    trees-in-order : map (λ (t : Bor Tree). t.now) trees ≡ map (λ (d : Pair). d.1) (in_order (listed es))
+  module _ (made : List (Bor (List ℕ) × Bor Tree)) (all : pairs_in made ≡ with_entries [] (index_entries es)) (trees : List (Bor Tree)) (shown : trees ≡ values_of made) where
+    trees-in-order : map (λ (t : Bor Tree). t.now) trees ≡ map (λ (d : Pair). d.1) (in_order (index_entries es))
     trees-in-order =
-        ap (map (λ (t : Bor Tree). t.now)) shown ∙ trees-in-pairs made ∙ ap (map (λ (d : Pair). d.1)) (all ∙ listed-in-order)
+        ap (map (λ (t : Bor Tree). t.now)) shown ∙ trees-in-pairs made ∙ ap (map (λ (d : Pair). d.1)) (all ∙ index_entries-in-order)
 
     -- so they are those that the index lists
-    pub trees-listed : (room : Room) (s : Stored) → (let x : Stored = record { content = content_in es last; room = room } in x) ≡ s → AreIndexTrees s.content (map (λ (t : Bor Tree). t.now) trees)
-    trees-listed room s seen =
+    pub trees-index_entries : (room : Room) (s : Stored) → (let x : Stored = record { content = content_in es last; room = room } in x) ≡ s → AreIndexTrees s.content (map (λ (t : Bor Tree). t.now) trees)
+    trees-index_entries room s seen =
         subst (AreIndexTrees s.content) (sym (trees-in-order ∙ ap (λ (x : Stored). index_trees x.content) seen)) (some-index-trees s.content)
 
     pub trees-low : All (λ (t : Bor Tree). height t.now ≤ 64) trees
-    trees-low = All-from_recursion (λ (t : Bor Tree). height t.now ≤ 64) trees (low-shown trees (in_order (listed es)) trees-in-order low-in-order)
+    trees-low = All-from_recursion (λ (t : Bor Tree). height t.now ≤ 64) trees (low-shown trees (in_order (index_entries es)) trees-in-order low-in-order)

@@ -11,7 +11,7 @@ use Rattle.doc_names.specs.declared.doc_id.DocId.{DocId}
 use Rattle.edit_ops.specs.Changes.{Fits, edited}
 use Rattle.edit_ops.specs.declared.change.Change.{Change}
 use Rattle.edit_ops.specs.Notes.{note_of}
-use Rattle.store_core.specs.State.{Document, State, Version, versions, renewed, created, first_state}
+use Rattle.store_core.specs.State.{Document, State, Version, versions, document_after, created, first_state}
 use Rattle.store_core.specs.ValidStates.{AreDistinct, IsKept, IsSoundFor, IsUserDocument, IsValidState, addresses}
 use Rattle.doc_names.specs.Usages.{usage_of}
 use Rattle.store_core.specs.DocumentChanges.{Act, Makes, Edits, Removes, act_of, after, after_act}
@@ -56,8 +56,8 @@ kept-created id n root s r u h =
       follows = refl;
     }
 
-kept-renewed : (n : ℕ) (d : Document) (change : Change) → 1 ≤ n → IsKept n d → Fits d.now.tree change → IsSoundFor (usage_of d.id.auid) (edited d.now.tree change) → IsKept (n + 1) (renewed n d (note_of d.now.tag n d.now.tree change))
-kept-renewed n d change s k fits h =
+kept-document_after : (n : ℕ) (d : Document) (change : Change) → 1 ≤ n → IsKept n d → Fits d.now.tree change → IsSoundFor (usage_of d.id.auid) (edited d.now.tree change) → IsKept (n + 1) (document_after n d (note_of d.now.tag n d.now.tree change))
+kept-document_after n d change s k fits h =
     record {
       readable = k.readable;
       users = k.users;
@@ -172,7 +172,7 @@ kept-edited m id change k s services few room =
     let f = found-and m id (λ d. Fits d.now.tree change × IsSoundFor (usage_of d.id.auid) (edited d.now.tree change)) (find (λ e. same_id id e.id) m.documents) refl s in
     let d = f.document in
     let r = round m id d k f.found in
-    let update_entry : Document → Document = λ e. renewed m.next e (note_of e.now.tag m.next e.now.tree change) in
+    let update_entry : Document → Document = λ e. document_after m.next e (note_of e.now.tag m.next e.now.tree change) in
     let docs : (after_act m id change Edits).documents ≡ r.before ++ update_entry d ∷ r.behind =
     ap (λ (ds : List Document). map (λ e. cond (same_id id e.id) (update_entry e) e) ds) r.parts
     ∙ one-exchanged (λ (e : Document). same_id id e.id) update_entry r.before r.behind d r.none-before r.passes r.none-behind in
@@ -181,7 +181,7 @@ kept-edited m id change k s services few room =
       documents =
           subst (λ (ds : List Document). AllByRecursion (IsKept (m.next + 1)) ds) (sym docs)
           (each-append (IsKept (m.next + 1)) r.before (update_entry d ∷ r.behind) (kept-all-later m.next r.before r.kept-before)
-          (kept-renewed m.next d change k.started r.kept f.holds.0 f.holds.1, kept-all-later m.next r.behind r.kept-behind));
+          (kept-document_after m.next d change k.started r.kept f.holds.0 f.holds.1, kept-all-later m.next r.behind r.kept-behind));
       names = subst (λ (xs : List DocId). AreDistinct xs) (sym (ap (map name_of) docs ∙ map-append name_of r.before (update_entry d ∷ r.behind))) r.names;
       tags =
           subst (λ (xs : List ℕ). AreDistinct xs) (sym (ap (flat_map tags_of) docs ∙ flat_map-append tags_of r.before (update_entry d ∷ r.behind)))

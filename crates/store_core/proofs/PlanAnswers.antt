@@ -20,9 +20,9 @@ use Rattle.store_core.specs.declared.step.Step.TheVariants.{Make, Edit, End}
 use Rattle.store_core.specs.Contents.{StoredDocument, StoreContents as Content}
 use Rattle.store_core.specs.ValidStates.{IsSoundFor, addresses_in}
 use Rattle.store_core.specs.Queries.{Asks, MayBeFor}
-use Rattle.store_core.specs.DocumentChanges.{Act, Edits, act_of, against, against_number, against_tree, answered, changing, content_after, document_in, stored_name, note_for, other_lengths}
+use Rattle.store_core.specs.DocumentChanges.{Act, Edits, act_of, refusal_of, refusal_of_number, refusal_of_tree, refusal_or, change_result, content_after, document_in, stored_name, note_for, other_lengths}
 use Rattle.store_core.specs.TreeChanges.{IsStagedIn, is_within}
-use Rattle.store_core.specs.inner.UnsharedTrees.{IsOwn}
+use Rattle.store_core.specs.inner.UnsharedTrees.{IsUnshared}
 use Rattle.store_core.specs.PreparedChanges.{Exchanges, HasTree, IsPlanned, IsReady, IsStepOf, Readied, total_of}
 use Rattle.store_core.proofs.AcceptedChanges.{passes, not_found_refusal}
 use Rattle.store_core.proofs.DistinctItems.{none-filtered}
@@ -36,7 +36,7 @@ use Rattle.store_core.specs.inner.ChangePlans.{IsHeldAs, IsNewOutline, IsNoted, 
 
 -- ---- any change
 
-pub plans-refused : (c : Content) (doc : DocId) (change : Change) (e : StoreRefusal) → changing c doc change ≡ Err e → Plans c doc change (Err e)
+pub plans-refused : (c : Content) (doc : DocId) (change : Change) (e : StoreRefusal) → change_result c doc change ≡ Err e → Plans c doc change (Err e)
 unfolding Plans
 plans-refused c doc change e h = h
 
@@ -48,7 +48,7 @@ pub plan-of : (c : Content) (doc : DocId) (change : Change) (p : Readied) → Pl
 unfolding Plans
 plan-of c doc change p h = h
 
-pub reason-of : (c : Content) (doc : DocId) (change : Change) (e : StoreRefusal) → Plans c doc change (Err e) → changing c doc change ≡ Err e
+pub reason-of : (c : Content) (doc : DocId) (change : Change) (e : StoreRefusal) → Plans c doc change (Err e) → change_result c doc change ≡ Err e
 unfolding Plans
 reason-of c doc change e h = h
 
@@ -70,22 +70,22 @@ some-held o h e = rw e refl
 
 -- ---- a creation
 
-pub creation-refused : (c : Content) (doc : DocId) (root : Tree) (e : StoreRefusal) → against_tree c doc true root ≡ Some e → Plans c doc (CreateDocument root) (Err e)
+pub creation-refused : (c : Content) (doc : DocId) (root : Tree) (e : StoreRefusal) → refusal_of_tree c doc true root ≡ Some e → Plans c doc (CreateDocument root) (Err e)
 creation-refused c doc root e h =
     let change = CreateDocument root in
-    plans-refused c doc change e (refused-first (against_tree c doc true root) (against_number c) e (note_for c doc change (document_in stored_name c.documents doc)) (content_after c doc change) h)
+    plans-refused c doc change e (refused-first (refusal_of_tree c doc true root) (refusal_of_number c) e (note_for c doc change (document_in stored_name c.documents doc)) (content_after c doc change) h)
 
-pub creation-unnumbered : (c : Content) (doc : DocId) (root : Tree) (e : StoreRefusal) → against_tree c doc true root ≡ None → against_number c ≡ Some e → Plans c doc (CreateDocument root) (Err e)
+pub creation-unnumbered : (c : Content) (doc : DocId) (root : Tree) (e : StoreRefusal) → refusal_of_tree c doc true root ≡ None → refusal_of_number c ≡ Some e → Plans c doc (CreateDocument root) (Err e)
 creation-unnumbered c doc root e h g =
     let change = CreateDocument root in
-    plans-refused c doc change e (refused-last (against_tree c doc true root) (against_number c) e (note_for c doc change (document_in stored_name c.documents doc)) (content_after c doc change) h g)
+    plans-refused c doc change e (refused-last (refusal_of_tree c doc true root) (refusal_of_number c) e (note_for c doc change (document_in stored_name c.documents doc)) (content_after c doc change) h g)
 
 other-lengths-new : (c : Content) (doc : DocId) → document_in stored_name c.documents doc ≡ None → other_lengths c doc ≡ total_of c
 other-lengths-new c doc missing =
     let q : StoredDocument → Bool = λ h. same_id doc h.id in
     ap (λ (hs : List StoredDocument). sum_by (λ (h : StoredDocument). document_len h.tree) hs) (none-filtered q c.documents (not_found_refusal q c.documents missing))
 
-pub creation-room : (c : Content) (doc : DocId) (root : Tree) → document_in stored_name c.documents doc ≡ None → against_tree c doc true root ≡ None → (total_of c + document_len root ≤ 33554432) × (document_len root ≤ 262144)
+pub creation-room : (c : Content) (doc : DocId) (root : Tree) → document_in stored_name c.documents doc ≡ None → refusal_of_tree c doc true root ≡ None → (total_of c + document_len root ≤ 33554432) × (document_len root ≤ 262144)
 creation-room c doc root missing h =
     let p = passes c doc true root h in
     (omega (arith, p.room, other-lengths-new c doc missing), p.short)
@@ -101,7 +101,7 @@ creation-planned c doc root o asks outlined =
     plans-made c doc change p refl refl (record {
       asks = asks;
       made =
-          not-refused-at-all (against_tree c doc true root) (against_number c) (note_for c doc change found) (content_after c doc change) outlined.free outlined.numbered
+          not-refused-at-all (refusal_of_tree c doc true root) (refusal_of_number c) (note_for c doc change found) (content_after c doc change) outlined.free outlined.numbered
           ∙ ap (λ (n : Note). let x : Note × Content = (n, content_after c doc change) in let r : Result (Note × Content) StoreRefusal = Ok x in r) noted;
       number = outlined.number;
       step = (asks.0, refl, ap (λ (n : ℕ). entry_of n root) outlined.number, outlined.leaves, outlined.enters, outlined.total, refl);
@@ -109,29 +109,29 @@ creation-planned c doc root o asks outlined =
 
 -- ---- an edit
 
-edit-changing : (c : Content) (doc : DocId) (change : Change) (h : StoredDocument) → act_of change ≡ Edits → document_in stored_name c.documents doc ≡ Some h
-    → changing c doc change ≡ answered (or_else (against_tree c doc false (edited h.tree change)) (against_number c)) (note_of h.tag c.next h.tree change) (content_after c doc change)
-edit-changing c doc change h edits found =
-    ap (λ (o : Option StoredDocument). answered (against c doc change o (act_of change)) (note_for c doc change o) (content_after c doc change)) found
-    ∙ ap (λ (act : Act). answered (against c doc change (Some h) act) (note_of h.tag c.next h.tree change) (content_after c doc change)) edits
+edit-change_result : (c : Content) (doc : DocId) (change : Change) (h : StoredDocument) → act_of change ≡ Edits → document_in stored_name c.documents doc ≡ Some h
+    → change_result c doc change ≡ refusal_or (or_else (refusal_of_tree c doc false (edited h.tree change)) (refusal_of_number c)) (note_of h.tag c.next h.tree change) (content_after c doc change)
+edit-change_result c doc change h edits found =
+    ap (λ (o : Option StoredDocument). refusal_or (refusal_of c doc change o (act_of change)) (note_for c doc change o) (content_after c doc change)) found
+    ∙ ap (λ (act : Act). refusal_or (refusal_of c doc change (Some h) act) (note_of h.tag c.next h.tree change) (content_after c doc change)) edits
 
 pub edit-refused : (c : Content) (doc : DocId) (change : Change) (h : StoredDocument) (t : Tree) (e : StoreRefusal) → act_of change ≡ Edits → document_in stored_name c.documents doc ≡ Some h → t ≡ edited h.tree change
-    → against_tree c doc false t ≡ Some e → Plans c doc change (Err e)
+    → refusal_of_tree c doc false t ≡ Some e → Plans c doc change (Err e)
 edit-refused c doc change h t e edits found tree g =
     let note = note_of h.tag c.next h.tree change in
     plans-refused c doc change e
-    (edit-changing c doc change h edits found
-    ∙ refused-first (against_tree c doc false (edited h.tree change)) (against_number c) e note (content_after c doc change) (ap (λ (x : Tree). against_tree c doc false x) (sym tree) ∙ g))
+    (edit-change_result c doc change h edits found
+    ∙ refused-first (refusal_of_tree c doc false (edited h.tree change)) (refusal_of_number c) e note (content_after c doc change) (ap (λ (x : Tree). refusal_of_tree c doc false x) (sym tree) ∙ g))
 
 pub edit-unnumbered : (c : Content) (doc : DocId) (change : Change) (h : StoredDocument) (t : Tree) (e : StoreRefusal) → act_of change ≡ Edits → document_in stored_name c.documents doc ≡ Some h → t ≡ edited h.tree change
-    → against_tree c doc false t ≡ None → against_number c ≡ Some e → Plans c doc change (Err e)
+    → refusal_of_tree c doc false t ≡ None → refusal_of_number c ≡ Some e → Plans c doc change (Err e)
 edit-unnumbered c doc change h t e edits found tree g n =
     let note = note_of h.tag c.next h.tree change in
     plans-refused c doc change e
-    (edit-changing c doc change h edits found
-    ∙ refused-last (against_tree c doc false (edited h.tree change)) (against_number c) e note (content_after c doc change) (ap (λ (x : Tree). against_tree c doc false x) (sym tree) ∙ g) n)
+    (edit-change_result c doc change h edits found
+    ∙ refused-last (refusal_of_tree c doc false (edited h.tree change)) (refusal_of_number c) e note (content_after c doc change) (ap (λ (x : Tree). refusal_of_tree c doc false x) (sym tree) ∙ g) n)
 
-pub edit-room : (c : Content) (doc : DocId) (t : Tree) → against_tree c doc false t ≡ None → (other_lengths c doc + document_len t ≤ 33554432) × (document_len t ≤ 262144)
+pub edit-room : (c : Content) (doc : DocId) (t : Tree) → refusal_of_tree c doc false t ≡ None → (other_lengths c doc + document_len t ≤ 33554432) × (document_len t ≤ 262144)
 edit-room c doc t h = let p = passes c doc false t h in (p.room, p.short)
 
 -- which of its addresses are replaced
@@ -167,16 +167,16 @@ edit-planned c doc change v o p asks edits held outlined noted =
     noted.2 ∙ ap (λ (t : ℕ). note_of t o.number v.tree.root change) (sym held.3) ∙ ap (λ (t : Tree). note_of h.tag o.number t change) tree ∙ ap (λ (n : ℕ). note_of h.tag n h.tree change) outlined.number in
     let same : change ≡ note.change = sym (ap (λ (n : Note). n.change) full) in
     let after : edited v.tree.root change ≡ edited h.tree note.change = ap (λ (t : Tree). edited t change) tree ∙ ap (λ (x : Change). edited h.tree x) same in
-    let made : changing c doc change ≡ Ok (note, content_after c doc change) =
-    edit-changing c doc change h edits held.1
-    ∙ not-refused-at-all (against_tree c doc false (edited h.tree change)) (against_number c) (note_of h.tag c.next h.tree change) (content_after c doc change)
-    (ap (λ (t : Tree). against_tree c doc false (edited t change)) (sym tree) ∙ outlined.free) outlined.numbered
+    let made : change_result c doc change ≡ Ok (note, content_after c doc change) =
+    edit-change_result c doc change h edits held.1
+    ∙ not-refused-at-all (refusal_of_tree c doc false (edited h.tree change)) (refusal_of_number c) (note_of h.tag c.next h.tree change) (content_after c doc change)
+    (ap (λ (t : Tree). refusal_of_tree c doc false (edited t change)) (sym tree) ∙ outlined.free) outlined.numbered
     ∙ ap (λ (n : Note). let x : Note × Content = (n, content_after c doc change) in let r : Result (Note × Content) StoreRefusal = Ok x in r) (sym full) in
     let memory : IsStagedIn h.tree note.change staged = subst (λ (t : Tree). IsStagedIn t note.change staged) tree noted.3.1 in
     subst (λ (x : Readied). Plans c doc change (Ok x)) (sym (noted.4 ∙ ap with-step noted.3.2))
     (plans-made c doc change (with-step (Edit staged note o.len)) refl (sym same) (record {
       asks = subst (λ (x : Change). Asks c doc x) same asks;
-      made = subst (λ (x : Change). changing c doc x ≡ Ok (note, content_after c doc x)) same made;
+      made = subst (λ (x : Change). change_result c doc x ≡ Ok (note, content_after c doc x)) same made;
       number = ap (λ (n : Note). n.next) full;
       step = (
         h,
@@ -198,12 +198,12 @@ edit-planned c doc change v o p asks edits held outlined noted =
 
 -- ---- a removal
 
-pub removal-unnumbered : (c : Content) (doc : DocId) (e : StoreRefusal) → against_number c ≡ Some e → Plans c doc RemoveDocument (Err e)
+pub removal-unnumbered : (c : Content) (doc : DocId) (e : StoreRefusal) → refusal_of_number c ≡ Some e → Plans c doc RemoveDocument (Err e)
 removal-unnumbered c doc e h =
     let note = note_for c doc RemoveDocument (document_in stored_name c.documents doc) in
-    plans-refused c doc RemoveDocument e (ap (λ (o : Option StoreRefusal). answered o note (content_after c doc RemoveDocument)) h)
+    plans-refused c doc RemoveDocument e (ap (λ (o : Option StoreRefusal). refusal_or o note (content_after c doc RemoveDocument)) h)
 
-pub removal-planned : (c : Content) (doc : DocId) (h : StoredDocument) (tag number total : ℕ) (leaves : List (List ℕ)) → Asks c doc RemoveDocument → document_in stored_name c.documents doc ≡ Some h → against_number c ≡ None → number ≡ c.next
+pub removal-planned : (c : Content) (doc : DocId) (h : StoredDocument) (tag number total : ℕ) (leaves : List (List ℕ)) → Asks c doc RemoveDocument → document_in stored_name c.documents doc ≡ Some h → refusal_of_number c ≡ None → number ≡ c.next
     → h.tag ≡ tag → leaves ≡ addresses_in doc.auid h.tree → total + document_len h.tree ≡ total_of c
     → Plans c doc RemoveDocument (Ok (record { doc = doc; note = record { previous = tag; next = number; bindings = []; change = RemoveDocument; fresh = false }; step = End; leaves = leaves; enters = []; total = total }))
 removal-planned c doc h tag number total leaves asks found free numbered tagged left sum =
@@ -215,7 +215,7 @@ removal-planned c doc h tag number total leaves asks found free numbered tagged 
     plans-made c doc RemoveDocument p refl refl (record {
       asks = asks;
       made =
-          ap (λ (o : Option StoreRefusal). answered o (note_for c doc RemoveDocument found_at) (content_after c doc RemoveDocument)) free
+          ap (λ (o : Option StoreRefusal). refusal_or o (note_for c doc RemoveDocument found_at) (content_after c doc RemoveDocument)) free
           ∙ ap (λ (n : Note). let x : Note × Content = (n, content_after c doc RemoveDocument) in let r : Result (Note × Content) StoreRefusal = Ok x in r) noted;
       number = numbered;
       step = (h, found, refl, left, refl, sum);
@@ -224,21 +224,21 @@ removal-planned c doc h tag number total leaves asks found free numbered tagged 
 -- ---- a planned change, once its memory is reserved
 
 pub prepared-ok : (c : Content) (doc : DocId) (change : Change) (p : Readied) → Plans c doc change (Ok p)
-    → (p.doc ≡ doc) × (changing c doc change ≡ Ok (p.note, content_after c doc change)) × (p.note.change ≡ change)
+    → (p.doc ≡ doc) × (change_result c doc change ≡ Ok (p.note, content_after c doc change)) × (p.note.change ≡ change)
 prepared-ok c doc change p h =
     let r = plan-of c doc change p h in
-    let made : changing c p.doc change ≡ Ok (p.note, content_after c p.doc change) = subst (λ (x : Change). changing c p.doc x ≡ Ok (p.note, content_after c p.doc x)) r.1 r.2.made in
-    (r.0, subst (λ (d : DocId). changing c d change ≡ Ok (p.note, content_after c d change)) r.0 made, r.1)
+    let made : change_result c p.doc change ≡ Ok (p.note, content_after c p.doc change) = subst (λ (x : Change). change_result c p.doc x ≡ Ok (p.note, content_after c p.doc x)) r.1 r.2.made in
+    (r.0, subst (λ (d : DocId). change_result c d change ≡ Ok (p.note, content_after c d change)) r.0 made, r.1)
 
 -- only an edit within the root is made in place
-has-tree : (c : Content) (p : Readied) (step : Step) (trees : List (DocId × Bool)) → IsStepOf c p step → (is_within p.note.change ≡ true → IsOwn trees p.doc) → HasTree step (lookup (same_id p.doc) trees)
+has-tree : (c : Content) (p : Readied) (step : Step) (trees : List (DocId × Bool)) → IsStepOf c p step → (is_within p.note.change ≡ true → IsUnshared trees p.doc) → HasTree step (lookup (same_id p.doc) trees)
 has-tree c p (Make key entry) trees h own = tt
 has-tree c p (Edit (Whole root) kept len) trees h own = λ b is. tt
 has-tree c p (Edit (InPlace staged) kept len) trees h own = own h.3.1
 has-tree c p End trees h own = tt
 
 pub prepared-ready : (s t : Stored) (doc : DocId) (change : Change) (p : Readied) → Plans s.content doc change (Ok p) → t.content ≡ s.content → 1 ≤ t.room.documents → length p.enters ≤ t.room.services
-    → (is_within p.note.change ≡ true → IsOwn t.room.trees p.doc) → IsReady t p
+    → (is_within p.note.change ≡ true → IsUnshared t.room.trees p.doc) → IsReady t p
 prepared-ready s t doc change p h same document services own =
     let plan = plan-of s.content doc change p h in
     record {

@@ -24,7 +24,7 @@ use Rattle.doc_names.specs.declared.doc_id.Auid.TheVariants.{ResourceLists, RlsS
 use Rattle.store_core.specs.ValidStates.{AreDistinct, addresses_in}
 use Rattle.doc_names.specs.Usages.{usage_of}
 use Rattle.store_core.specs.Queries.{MayBeFor}
-use Rattle.store_core.specs.DocumentChanges.{taken}
+use Rattle.store_core.specs.DocumentChanges.{first_taken_address}
 use Rattle.store_core.proofs.DistinctItems.{each-append, each-left, each-right, apart-put}
 
 -- ---- lists
@@ -69,8 +69,8 @@ none-mapped f None h = refl
 none-mapped f (Some x) h = cc
 
 -- where the test finds none, no address of the document is another's
-pub none-taken : (others own : List (List ℕ)) → taken others own ≡ None → AllByRecursion (λ uri. AllByRecursion (λ o. uri ≢ o) others) own
-none-taken others own h =
+pub none-first_taken_address : (others own : List (List ℕ)) → first_taken_address others own ≡ None → AllByRecursion (λ uri. AllByRecursion (λ o. uri ≢ o) others) own
+none-first_taken_address others own h =
     let clash : ℕ → Clash = λ i. record { path = i ∷ []; key = Uri } in
     let test : List ℕ → Bool = λ uri. is_member bytes_eq others uri in
     own-apart-others others own (none-at test 0 own (sym (position_from-zero test own) ∙ none-mapped clash (position test own) h))

@@ -11,8 +11,8 @@ use Rattle.doc_names.specs.declared.doc_id.DocId.{DocId}
 use Rattle.store_core.specs.declared.entry.Entry.{Entry}
 use Rattle.store_core.specs.Contents.{StoredDocument, StoreContents as Content}
 use Rattle.store_core.specs.ValidStates.{AreDistinct}
-use Rattle.store_core.specs.inner.UnsharedTrees.{IsOwn}
-use Rattle.store_core.specs.inner.StoreMemory.{IsStoring, all_as_own, as_own, content_in, stored_in, holder, len_in, number_in, trees_in, uris_in}
+use Rattle.store_core.specs.inner.UnsharedTrees.{IsUnshared}
+use Rattle.store_core.specs.inner.StoreMemory.{IsStoring, all_as_unshared, as_unshared, content_in, stored_in, holder, len_in, number_in, trees_in, uris_in}
 use Rattle.store_core.proofs.AcceptedChanges.{sum-mapped}
 use Rattle.store_core.proofs.Entries.{each-mapped, each-unmapped, mapped}
 use Rattle.store_core.proofs.DocumentMaps.{looked-up, same-set}
@@ -24,7 +24,7 @@ abbrev is_own : Entry → Bool
 is_own v = v.tree.own
 
 abbrev own_row : Row → Row
-own_row e = (e.0, as_own e.1)
+own_row e = (e.0, as_unshared e.1)
 
 -- ---- look-ups
 
@@ -62,26 +62,26 @@ module _ (q : DocId → Bool) where
   set-found [] v w found = cc
   set-found (e ∷ es) v w found = set-step e es v w (q e.0) refl found (set-found es v w)
 
-  own-step : (e : Row) (es : List Row) (w : Entry) (b : Bool) → all_as_own (set_value q es w) ≡ set_value q (all_as_own es) (as_own w)
-      → all_as_own (cond b ((e.0, w) ∷ es) (e ∷ set_value q es w)) ≡ cond b ((e.0, as_own w) ∷ all_as_own es) (own_row e ∷ set_value q (all_as_own es) (as_own w))
+  own-step : (e : Row) (es : List Row) (w : Entry) (b : Bool) → all_as_unshared (set_value q es w) ≡ set_value q (all_as_unshared es) (as_unshared w)
+      → all_as_unshared (cond b ((e.0, w) ∷ es) (e ∷ set_value q es w)) ≡ cond b ((e.0, as_unshared w) ∷ all_as_unshared es) (own_row e ∷ set_value q (all_as_unshared es) (as_unshared w))
   own-step e es w true by = refl
   own-step e es w false by = ap (λ (xs : List Row). own_row e ∷ xs) by
 
-  own-set : (es : List Row) (w : Entry) → all_as_own (set_value q es w) ≡ set_value q (all_as_own es) (as_own w)
+  own-set : (es : List Row) (w : Entry) → all_as_unshared (set_value q es w) ≡ set_value q (all_as_unshared es) (as_unshared w)
   own-set [] w = refl
   own-set (e ∷ es) w = own-step e es w (q e.0) (own-set es w)
 
 module _ (doc : DocId) (es next : List Row) (v w : Entry) (written : next ≡ set_value (eq-value.it doc) es w) (there : Some v ≡ lookup (eq-value.it doc) es) where
   -- what is written differs at most in whether the tree is shared
-  pub same-written : as_own w ≡ as_own v → all_as_own next ≡ all_as_own es
+  pub same-written : as_unshared w ≡ as_unshared v → all_as_unshared next ≡ all_as_unshared es
   same-written same =
       let q = eq-value.it doc in
-      ap (λ (xs : List Row). all_as_own xs) written
+      ap (λ (xs : List Row). all_as_unshared xs) written
       ∙ own-set q es w
-      ∙ ap (λ (x : Entry). set_value q (all_as_own es) x) same
-      ∙ same-set q (all_as_own es) (as_own v) (read-found as_own q es v (sym there))
+      ∙ ap (λ (x : Entry). set_value q (all_as_unshared es) x) same
+      ∙ same-set q (all_as_unshared es) (as_unshared v) (read-found as_unshared q es v (sym there))
 
-  pub own-written : w.tree.own ≡ true → IsOwn (trees_in next) doc
+  pub own-written : w.tree.own ≡ true → IsUnshared (trees_in next) doc
   own-written own = λ b found.
       let q = eq-value.it doc in
       let here : lookup (same_id doc) next ≡ Some w =
@@ -89,7 +89,7 @@ module _ (doc : DocId) (es next : List Row) (v w : Entry) (written : next ≡ se
       same_Some b w.tree.own (sym found ∙ found-tree next doc w here) ∙ own
 
 -- the tree of a document that isn't stored
-pub own-missing : (doc : DocId) (es : List Row) → None ≡ lookup (eq-value.it doc) es → IsOwn (trees_in es) doc
+pub own-missing : (doc : DocId) (es : List Row) → None ≡ lookup (eq-value.it doc) es → IsUnshared (trees_in es) doc
 own-missing doc es none = λ b found.
     let missing : lookup (same_id doc) (trees_in es) ≡ None = read-missing is_own (same_id doc) es (sym (looked-up doc es) ∙ sym none) in
     cc
@@ -99,11 +99,11 @@ own-missing doc es none = λ b found.
 abbrev HasLen : Row → Type 0
 HasLen e = e.1.len ≡ len_in e
 
-held-alike : (es : List Row) (uri : List ℕ) → holder (all_as_own es) uri ≡ holder es uri
+held-alike : (es : List Row) (uri : List ℕ) → holder (all_as_unshared es) uri ≡ holder es uri
 held-alike [] uri = refl
 held-alike (e ∷ es) uri = ap (λ (o : Option ℕ). cond (is_member bytes_eq (uris_in e) uri) (Some (number_in e)) o) (held-alike es uri)
 
-module _ (es ds : List Row) (same : all_as_own ds ≡ all_as_own es) where
+module _ (es ds : List Row) (same : all_as_unshared ds ≡ all_as_unshared es) where
   same-held : map stored_in ds ≡ map stored_in es
   same-held = sym (mapped stored_in own_row ds) ∙ ap (map stored_in) same ∙ mapped stored_in own_row es
 

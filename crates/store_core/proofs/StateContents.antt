@@ -8,7 +8,7 @@ use Rattle.edit_ops.specs.Changes.{edited}
 use Rattle.edit_ops.specs.declared.change.Change.{Change}
 use Rattle.edit_ops.specs.Notes.{Note, note_of}
 use Rattle.edit_ops.specs.Operations.{weight}
-use Rattle.store_core.specs.State.{Document, State, versions, notes, retained, renewed, created}
+use Rattle.store_core.specs.State.{Document, State, versions, notes, retained, document_after, created}
 use Rattle.store_core.specs.Contents.{StoredDocument, Represents, stored_of, StoreContents as Content, stock_of as content_of}
 use Rattle.store_core.specs.DocumentChanges.{Act, Makes, Edits, Removes, act_of, after, after_act, content_after, content_after_act, held_after}
 use Rattle.store_core.proofs.Ends.{small_end-push}
@@ -36,14 +36,14 @@ module _ {D H : Type 0} (h : D → H) (p : D → Bool) (q : H → Bool) (same : 
 
 -- ---- one document
 
-notes-renewed : (number : ℕ) (d : Document) (n : Note) → notes (renewed number d n) ≡ notes d ++ n ∷ []
-notes-renewed number d n = reverse-append (n ∷ []) (filter_map (λ v. v.note) (versions d))
+notes-document_after : (number : ℕ) (d : Document) (n : Note) → notes (document_after number d n) ≡ notes d ++ n ∷ []
+notes-document_after number d n = reverse-append (n ∷ []) (filter_map (λ v. v.note) (versions d))
 
 -- a stored document after an edit
-held-renewed : (number : ℕ) (change : Change) (d : Document) → stored_of (renewed number d (note_of d.now.tag number d.now.tree change)) ≡ held_after number change (stored_of d)
-held-renewed number change d =
+held-document_after : (number : ℕ) (change : Change) (d : Document) → stored_of (document_after number d (note_of d.now.tag number d.now.tree change)) ≡ held_after number change (stored_of d)
+held-document_after number change d =
     let n = note_of d.now.tag number d.now.tree change in
-    let kept : retained (notes (renewed number d n)) ≡ retained (retained (notes d) ++ n ∷ []) = ap retained (notes-renewed number d n) ∙ sym (small_end-push weight (notes d) n) in
+    let kept : retained (notes (document_after number d n)) ≡ retained (retained (notes d) ++ n ∷ []) = ap retained (notes-document_after number d n) ∙ sym (small_end-push weight (notes d) n) in
     ap (λ (ns : List Note). let made : StoredDocument = record { id = d.id; tag = number; tree = edited d.now.tree change; notes = ns } in made) kept
 
 -- ---- all documents
@@ -62,7 +62,7 @@ stood c m id change Edits documents next =
     alike (content_after_act c id change Edits) (content_of (after_act m id change Edits))
     (ap (λ (n : ℕ). map (λ (h : StoredDocument). cond (same_id id h.id) (held_after n change h) h) c.documents) next
     ∙ ap (λ (hs : List StoredDocument). map (λ (h : StoredDocument). cond (same_id id h.id) (held_after m.next change h) h) hs) documents
-    ∙ sym (map-exchanged stored_of (λ (d : Document). same_id id d.id) (λ (h : StoredDocument). same_id id h.id) (λ d. refl) (λ (d : Document). renewed m.next d (note_of d.now.tag m.next d.now.tree change)) (held_after m.next change) (held-renewed m.next change) m.documents))
+    ∙ sym (map-exchanged stored_of (λ (d : Document). same_id id d.id) (λ (h : StoredDocument). same_id id h.id) (λ d. refl) (λ (d : Document). document_after m.next d (note_of d.now.tag m.next d.now.tree change)) (held_after m.next change) (held-document_after m.next change) m.documents))
     (ap (λ n. n + 1) next)
 stood c m id change Removes documents next =
     alike (content_after_act c id change Removes) (content_of (after_act m id change Removes))

@@ -7,7 +7,7 @@ use Rattle.doc_names.specs.Ids.{IsAddressable}
 use Rattle.doc_names.specs.declared.doc_id.DocId.{DocId}
 use Rattle.edit_ops.specs.Changes.{Fits, edited}
 use Rattle.edit_ops.specs.declared.change.Change.{Change}
-use Rattle.store_core.specs.Limits.{max_bytes_together, max_documents}
+use Rattle.store_core.specs.declared.limits.TheConstants.{MAX_BYTES_TOGETHER, MAX_DOCUMENTS}
 use Rattle.store_core.specs.State.{State}
 use Rattle.store_core.specs.ValidStates.{AreDistinct, IsSoundFor, IsUserDocument, addresses}
 use Rattle.doc_names.specs.Usages.{usage_of}
@@ -26,6 +26,6 @@ SuitsAct m id change Removes = IsSome (document_in document_name m.documents id)
 pub record Suits (m : State) (id : DocId) (change : Change) : Type 0 where
   pub act : SuitsAct m id change (act_of change)
   pub services : AreDistinct (addresses (after m id change).documents)
-  pub few : length (after m id change).documents ≤ max_documents
+  pub few : length (after m id change).documents ≤ MAX_DOCUMENTS
   pub room : sum_by (λ d. document_len d.now.tree) (after m id change).documents
-      ≤ max_bytes_together
+      ≤ MAX_BYTES_TOGETHER

@@ -6,7 +6,7 @@ use Rattle.doc_names.specs.declared.doc_id.DocId.{DocId}
 use Rattle.edit_ops.specs.Notes.{Note}
 use Rattle.store_core.specs.State.{Document, State, notes, retained}
 
--- a stored document
+-- a stored document: its name, its present etag and tree, and its retained change records
 pub record StoredDocument : Type 0 where
   pub id : DocId
   pub tag : ℕ

@@ -18,11 +18,12 @@ use Rattle.edit_ops.specs.Changes.{edited}
 use Rattle.edit_ops.specs.declared.change.Change.{Change}
 use Rattle.edit_ops.specs.declared.change.Change.TheVariants.{CreateDocument, RemoveDocument}
 use Rattle.edit_ops.specs.Notes.{Note, note_of}
-use Rattle.store_core.specs.Limits.{max_bytes, max_bytes_together, max_documents}
+use Rattle.store_core.specs.declared.limits.TheConstants.{MAX_DOCUMENT_BYTES, MAX_BYTES_TOGETHER}
+use Rattle.store_core.specs.declared.limits.TheConstants.{MAX_DOCUMENTS}
 use Rattle.store_core.specs.declared.refusal.StoreRefusal.{StoreRefusal}
 use Rattle.store_core.specs.declared.refusal.StoreRefusal.TheVariants.{ServiceTaken, TooLarge}
 use Rattle.store_core.specs.declared.refusal.StoreRefusal.TheVariants.{TooMany, StoreFull, NoNumber}
-use Rattle.store_core.specs.State.{Document, State, created, renewed, retained}
+use Rattle.store_core.specs.State.{Document, State, created, document_after, retained}
 use Rattle.store_core.specs.Contents.{StoredDocument, StoreContents}
 use Rattle.store_core.specs.ValidStates.{addresses_in}
 
@@ -69,7 +70,8 @@ after_act m id change Edits =
     record {
       documents =
           with_document document_name
-          (λ d. renewed m.next d (note_of d.now.tag m.next d.now.tree change)) m.documents id;
+          (λ d. document_after m.next d (note_of d.now.tag m.next d.now.tree change)) m.documents
+          id;
       next = m.next + 1;
     }
 after_act m id change Removes =
@@ -113,8 +115,8 @@ content_after c id change = content_after_act c id change (act_of change)
 
 -- the first service whose address another document has. In a valid document every element child of
 -- the root is a service with an address, so the i-th address is the i-th child's.
-abbrev pub taken : List (List ℕ) → List (List ℕ) → Option Clash
-taken others own =
+abbrev pub first_taken_address : List (List ℕ) → List (List ℕ) → Option Clash
+first_taken_address others own =
     option_map (λ i. record { path = i ∷ []; key = Uri }) (position (is_member bytes_eq others) own)
 
 -- the addresses of the other documents, and the lengths of their prints together
@@ -128,28 +130,48 @@ other_lengths c id = sum_by (λ h. document_len h.tree) (without_document stored
 abbrev pub only_if : Bool → StoreRefusal → Option StoreRefusal
 only_if holds refusal = if holds then Some refusal else None
 
--- a reason against a tree that the document would have; is_new says whether it isn't stored yet
-abbrev pub against_tree : StoreContents → DocId → Bool → Tree → Option StoreRefusal
-against_tree c id is_new t =
-    option_or (option_map (λ clash. ServiceTaken clash)
-    (taken (other_addresses c id) (addresses_in id.auid t)))
-    (option_or
-    (only_if (nat_lt max_bytes (document_len t)) (TooLarge (min (document_len t) u64_max)))
-    (option_or (only_if (is_new && nat_le max_documents (length c.documents)) TooMany)
-    (only_if (nat_lt max_bytes_together (other_lengths c id + document_len t))
-    (StoreFull (other_lengths c id + document_len t)))))
+-- another document has the address of one of the services
+abbrev pub refusal_of_services : StoreContents → DocId → Tree → Option StoreRefusal
+refusal_of_services c id t =
+    option_map (λ clash. ServiceTaken clash)
+    (first_taken_address (other_addresses c id) (addresses_in id.auid t))
+
+-- the document is too long
+abbrev pub refusal_of_length : Tree → Option StoreRefusal
+refusal_of_length t =
+    only_if (nat_lt MAX_DOCUMENT_BYTES (document_len t)) (TooLarge (min (document_len t) u64_max))
+
+-- a new document is one too many
+abbrev pub refusal_of_count : StoreContents → Bool → Option StoreRefusal
+refusal_of_count c is_new = only_if (is_new && nat_le MAX_DOCUMENTS (length c.documents)) TooMany
+
+-- all documents together are too long
+abbrev pub refusal_of_total : StoreContents → DocId → Tree → Option StoreRefusal
+refusal_of_total c id t =
+    only_if (nat_lt MAX_BYTES_TOGETHER (other_lengths c id + document_len t))
+    (StoreFull (other_lengths c id + document_len t))
+
+-- the first reason against a tree that the document would have; is_new says whether it isn't
+-- stored yet
+abbrev pub refusal_of_tree : StoreContents → DocId → Bool → Tree → Option StoreRefusal
+refusal_of_tree c id is_new t =
+    option_or (refusal_of_services c id t)
+    (option_or (refusal_of_length t)
+    (option_or (refusal_of_count c is_new)
+    (refusal_of_total c id t)))
 
 -- a reason against the number that the change would get: it doesn't fit 64 bits
-abbrev pub against_number : StoreContents → Option StoreRefusal
-against_number c = only_if (nat_le (u64_max + 1) c.next) NoNumber
+abbrev pub refusal_of_number : StoreContents → Option StoreRefusal
+refusal_of_number c = only_if (nat_le (u64_max + 1) c.next) NoNumber
 
-abbrev pub against : StoreContents → DocId → Change → Option StoredDocument → Act
+abbrev pub refusal_of : StoreContents → DocId → Change → Option StoredDocument → Act
     → Option StoreRefusal
-against c id change held (Makes root) = option_or (against_tree c id true root) (against_number c)
-against c id change (Some h) Edits =
-    option_or (against_tree c id false (edited h.tree change)) (against_number c)
-against c id change None Edits = None
-against c id change held Removes = against_number c
+refusal_of c id change held (Makes root) =
+    option_or (refusal_of_tree c id true root) (refusal_of_number c)
+refusal_of c id change (Some h) Edits =
+    option_or (refusal_of_tree c id false (edited h.tree change)) (refusal_of_number c)
+refusal_of c id change None Edits = None
+refusal_of c id change held Removes = refusal_of_number c
 
 -- ---- what a store returns
 
@@ -159,13 +181,14 @@ note_for c id change None =
     record { previous = 0; next = c.next; bindings = []; change = change; fresh = false }
 note_for c id change (Some h) = note_of h.tag c.next h.tree change
 
-abbrev pub answered : Option StoreRefusal → Note → StoreContents
+abbrev pub refusal_or : Option StoreRefusal → Note → StoreContents
     → Result (Note × StoreContents) StoreRefusal
-answered None note next = Ok (note, next)
-answered (Some refusal) note next = Err refusal
+refusal_or None note next = Ok (note, next)
+refusal_or (Some refusal) note next = Err refusal
 
 -- the first reason against the change, or its record and the contents after it
-abbrev pub changing : StoreContents → DocId → Change → Result (Note × StoreContents) StoreRefusal
-changing c id change =
-    answered (against c id change (document_in stored_name c.documents id) (act_of change))
+abbrev pub change_result : StoreContents → DocId → Change
+    → Result (Note × StoreContents) StoreRefusal
+change_result c id change =
+    refusal_or (refusal_of c id change (document_in stored_name c.documents id) (act_of change))
     (note_for c id change (document_in stored_name c.documents id)) (content_after c id change)

@@ -10,7 +10,7 @@ use Rattle.edit_ops.specs.Changes.{edited}
 use Rattle.edit_ops.specs.Notes.{AreNotesOf, Note, tag_after, tree_after}
 use Rattle.store_core.specs.DocumentChanges.{document_in, document_name}
 use Rattle.store_core.specs.ValidStates.{IsSoundFor}
-use Rattle.store_core.specs.Limits.{max_notes}
+use Rattle.store_core.specs.declared.limits.TheConstants.{MAX_NOTES}
 use Rattle.store_core.specs.State.{Document, State, Version, versions}
 
 -- the tree, and the tree after each record, may be a document of the application usage
@@ -30,7 +30,7 @@ pub record Leads (usage : Option Usage) (next : ℕ) (from : Version) (ns : List
   pub tags : AllByRecursion (λ n. n.next < next) ns
 
 -- the document of this name has a version with this etag, from which the records lead to the
--- present one; there are at most `max_notes`
+-- present one; there are at most `MAX_NOTES`
 pub record IsSince (state : State) (id : DocId) (tag : ℕ) (ns : List Note) : Type 0 where
   pub document : Document
   pub there : document_in document_name state.documents id ≡ Some document
@@ -39,4 +39,4 @@ pub record IsSince (state : State) (id : DocId) (tag : ℕ) (ns : List Note) : T
   pub is_version : slice_get (versions document) number ≡ Some from
   pub same_tag : from.tag ≡ tag
   pub leads : Leads (usage_of document.id.auid) state.next from ns document.now
-  pub few : length ns ≤ max_notes
+  pub few : length ns ≤ MAX_NOTES

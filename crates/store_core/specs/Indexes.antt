@@ -26,8 +26,8 @@ abbrev pub indexed_by : Auid → Bool → Home → Tree → Option (List ℕ × 
 indexed_by RlsServices true home t = indexed_in home t
 indexed_by _ _ home t = None
 
-abbrev pub indexed : StoredDocument → Option (List ℕ × Tree)
-indexed h = indexed_by h.id.auid (bytes_eq h.id.name index) h.id.home h.tree
+abbrev pub index_entry : StoredDocument → Option (List ℕ × Tree)
+index_entry h = indexed_by h.id.auid (bytes_eq h.id.name index) h.id.home h.tree
 
 -- these documents in the order of the users' names, by code point; documents of one user keep
 -- their order
@@ -38,5 +38,5 @@ pub record AreByUser (documents ordered : List (List ℕ × Tree)) : Type 0 wher
 -- the trees that the index lists, by the users' names
 abbrev pub AreIndexTrees : StoreContents → List Tree → Type 0
 AreIndexTrees c trees =
-    (ordered : List (List ℕ × Tree)) × AreByUser (filter_map indexed c.documents) ordered
+    (ordered : List (List ℕ × Tree)) × AreByUser (filter_map index_entry c.documents) ordered
     × (trees ≡ map (λ d. d.1) ordered)

@@ -4,7 +4,6 @@ pub mod Contents
 pub mod DocumentChanges
 pub mod History
 pub mod Indexes
-pub mod Limits
 pub mod PreparedChanges
 pub mod Queries
 pub mod Since

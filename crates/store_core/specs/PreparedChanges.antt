@@ -13,8 +13,9 @@ use Rattle.store_core.specs.declared.step.Step.TheVariants.{Make, Edit, End}
 use Rattle.store_core.specs.Contents.{StoredDocument, StoreContents}
 use Rattle.store_core.specs.ValidStates.{addresses_in}
 use Rattle.store_core.specs.Queries.{Asks}
-use Rattle.store_core.specs.TreeChanges.{IsOwnWhere, IsStagedIn}
-use Rattle.store_core.specs.DocumentChanges.{Edits, act_of, changing, content_after, document_in}
+use Rattle.store_core.specs.TreeChanges.{NeedsUnshared, IsStagedIn}
+use Rattle.store_core.specs.DocumentChanges.{Edits, act_of, change_result, content_after}
+use Rattle.store_core.specs.DocumentChanges.{document_in}
 use Rattle.store_core.specs.DocumentChanges.{stored_name}
 use Rattle.store_core.specs.StoreViews.{Stored, entry_of}
 
@@ -65,7 +66,7 @@ IsStepOf c p End =
 -- it is a change that the store makes, with the record that the store returns
 pub record IsPlanned (c : StoreContents) (p : Readied) : Type 0 where
   pub asks : Asks c p.doc p.note.change
-  pub made : changing c p.doc p.note.change ≡ Ok (p.note, content_after c p.doc p.note.change)
+  pub made : change_result c p.doc p.note.change ≡ Ok (p.note, content_after c p.doc p.note.change)
   pub number : p.note.next ≡ c.next
   pub step : IsStepOf c p p.step
 
@@ -73,7 +74,7 @@ pub record IsPlanned (c : StoreContents) (p : Readied) : Type 0 where
 -- unshared
 abbrev pub HasTree : Step → Option Bool → Type 0
 HasTree (Make key entry) found = Unit {0}
-HasTree (Edit staged kept len) found = (own : Bool) → found ≡ Some own → IsOwnWhere staged own
+HasTree (Edit staged kept len) found = (own : Bool) → found ≡ Some own → NeedsUnshared staged own
 HasTree End found = Unit {0}
 
 -- the change is planned, and the store has reserved the memory for it

@@ -4,7 +4,7 @@
 use Rattle.std.specs.Prelude.{◌≡◌, ◌≤◌, [], Option, None, Some, IsSome, IsSomeAnd}
 use Rattle.xml_tree.specs.Tree.{Tree, height}
 use Rattle.xml_tree.specs.Proper.{ProperIn}
-use Rattle.xml_names.specs.Limits.{max_levels}
+use Rattle.xml_names.specs.declared.limits.TheConstants.{MAX_LEVELS}
 use Rattle.usage_docs.specs.Validation.{HasFirstFault}
 use Rattle.doc_names.specs.declared.usages.Usage.{Usage}
 use Rattle.doc_names.specs.Ids.{IsAddressable}
@@ -20,7 +20,7 @@ use Rattle.store_core.specs.Contents.{StoreContents}
 -- a tree that may be a document of the application usage, if it isn't too long
 pub record MayBe (usage : Usage) (t : Tree) : Type 0 where
   pub proper : ProperIn [] t
-  pub low : height t ≤ max_levels
+  pub low : height t ≤ MAX_LEVELS
   pub faultless : HasFirstFault usage t None
 
 abbrev pub MayBeFor : Option Usage → Tree → Type 0

@@ -7,7 +7,7 @@ use Rattle.doc_names.specs.declared.doc_id.DocId.{DocId}
 use Rattle.edit_ops.specs.Changes.{edited}
 use Rattle.edit_ops.specs.Notes.{Note}
 use Rattle.edit_ops.specs.Operations.{weight}
-use Rattle.store_core.specs.Limits.{max_notes, max_weight}
+use Rattle.store_core.specs.declared.limits.TheConstants.{MAX_NOTES, MAX_WEIGHT}
 
 -- a version: its etag, its tree, and the record of the change that made it from the version before
 pub record Version : Type 0 where
@@ -42,7 +42,7 @@ notes d = reverse (filter_map (λ v. v.note) (versions d))
 
 -- no more items than records may be retained, and no heavier together than these may be
 abbrev pub is_small : {A : Type 0} → (A → ℕ) → List A → Bool
-is_small weight xs = nat_le (length xs) max_notes && nat_le (sum_by weight xs) max_weight
+is_small weight xs = nat_le (length xs) MAX_NOTES && nat_le (sum_by weight xs) MAX_WEIGHT
 
 -- the longest end of the list that is small; the last item is always in it
 abbrev pub small_end : {A : Type 0} → (A → ℕ) → List A → List A
@@ -58,8 +58,8 @@ retained ns = small_end weight ns
 -- ---- a change of a document
 
 -- the document after a change of its tree
-abbrev pub renewed : ℕ → Document → Note → Document
-renewed tag d n =
+abbrev pub document_after : ℕ → Document → Note → Document
+document_after tag d n =
     record {
       id = d.id;
       now = record { tag = tag; tree = edited d.now.tree n.change; note = Some n };

@@ -33,6 +33,6 @@ IsStagedIn t change (Whole root) = root ≡ edited t change
 IsStagedIn t change (InPlace staged) = IsStaged t change staged × (is_within change ≡ true)
 
 -- what is inserted in place needs an unshared tree
-abbrev pub IsOwnWhere : StagedTree → Bool → Type 0
-IsOwnWhere (Whole root) own = Unit {0}
-IsOwnWhere (InPlace staged) own = own ≡ true
+abbrev pub NeedsUnshared : StagedTree → Bool → Type 0
+NeedsUnshared (Whole root) own = Unit {0}
+NeedsUnshared (InPlace staged) own = own ≡ true

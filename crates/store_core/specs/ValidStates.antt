@@ -4,7 +4,7 @@ use Rattle.std.specs.Prelude.{Option, None, Some}
 use Rattle.std.specs.List.{AllByRecursion}
 use Rattle.xml_tree.specs.Tree.{Tree, height}
 use Rattle.xml_tree.specs.Proper.{ProperIn}
-use Rattle.xml_names.specs.Limits.{max_levels}
+use Rattle.xml_names.specs.declared.limits.TheConstants.{MAX_LEVELS}
 use Rattle.usage_docs.specs.Validation.{HasFirstFault}
 use Rattle.usage_docs.specs.Services.{document_len, service_uris}
 use Rattle.doc_names.specs.declared.usages.Usage.{Usage}
@@ -16,7 +16,8 @@ use Rattle.doc_names.specs.declared.doc_id.Home.{Home}
 use Rattle.doc_names.specs.declared.doc_id.Home.TheVariants.{Global, User}
 use Rattle.edit_ops.specs.Changes.{Fits, edited}
 use Rattle.edit_ops.specs.Notes.{Note, note_of}
-use Rattle.store_core.specs.Limits.{max_bytes, max_bytes_together, max_documents}
+use Rattle.store_core.specs.declared.limits.TheConstants.{MAX_DOCUMENT_BYTES, MAX_BYTES_TOGETHER}
+use Rattle.store_core.specs.declared.limits.TheConstants.{MAX_DOCUMENTS}
 use Rattle.store_core.specs.State.{Document, State, Version, versions}
 
 -- ---- names
@@ -35,9 +36,9 @@ IsUserDocument (User xui) = Unit {0}
 -- a tree that may be a document of the application usage
 pub record IsSound (usage : Usage) (t : Tree) : Type 0 where
   pub proper : ProperIn [] t
-  pub low : height t ≤ max_levels
+  pub low : height t ≤ MAX_LEVELS
   pub faultless : HasFirstFault usage t None
-  pub short : document_len t ≤ max_bytes
+  pub short : document_len t ≤ MAX_DOCUMENT_BYTES
 
 abbrev pub IsSoundFor : Option Usage → Tree → Type 0
 IsSoundFor None t = ⊥
@@ -83,5 +84,5 @@ pub record IsValidState (state : State) : Type 0 where
   -- no two versions have the same etag, in one document or in two
   pub tags : AreDistinct (flat_map (λ d. map (λ v. v.tag) (versions d)) state.documents)
   pub services : AreDistinct (addresses state.documents)
-  pub few : length state.documents ≤ max_documents
-  pub room : sum_by (λ d. document_len d.now.tree) state.documents ≤ max_bytes_together
+  pub few : length state.documents ≤ MAX_DOCUMENTS
+  pub room : sum_by (λ d. document_len d.now.tree) state.documents ≤ MAX_BYTES_TOGETHER

@@ -3,7 +3,7 @@ ghost use Rattle.std.specs.Prelude.{◌≡◌, IfOk, OnOk, encode_utf8_all, fals
 ghost use Rattle.edit_ops.specs.Changes.{Fits, edited};
 ghost use Rattle.edit_ops.specs.StagedChanges.{IsStaged};
 ghost use Rattle.xml_tree.specs.Print.{document_print};
-ghost use Rattle.store_core.specs.TreeChanges.{IsOwnWhere, IsStagedIn};
+ghost use Rattle.store_core.specs.TreeChanges.{NeedsUnshared, IsStagedIn};
 
 use crate::NoMemory;
 use crate::printed_tree::PrintedTree;
@@ -76,7 +76,7 @@ impl CachedTree {
     pub(crate) fn make(&mut self, change: &Change, staged: StagedTree)
         requires fits { Fits self.old.root change.now }
         requires change_staged { IsStagedIn self.old.root change.now staged }
-        requires tree_owned { IsOwnWhere staged self.old.own }
+        requires tree_owned { NeedsUnshared staged self.old.own }
         ensures makes_change { self.new.root ≡ edited self.old.root change.now }
     {
         match staged {

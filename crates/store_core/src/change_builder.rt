@@ -63,7 +63,7 @@ fn make_step(
 }
 
 // The change record of a creation, and its step.
-fn noted_creation(
+fn note_creation(
     alloc: Global,
     doc: &DocId,
     number: u64,
@@ -124,7 +124,7 @@ pub(crate) fn creation(
         leaves,
         enters,
     } = outline;
-    let (note, step) = noted_creation(alloc, &doc, number, root, put.print, len)?;
+    let (note, step) = note_creation(alloc, &doc, number, root, put.print, len)?;
     Ok(Prepared {
         doc,
         note,
@@ -213,7 +213,7 @@ fn edit_step(
 }
 
 // The change record of an edit of a document, and its step.
-fn noted_edit(
+fn note_edit(
     alloc: Global,
     entry: &Entry,
     number: u64,
@@ -258,7 +258,7 @@ pub(crate) fn edit(
         leaves,
         enters,
     } = outline;
-    let (note, step) = noted_edit(alloc, entry, number, change, put, len)?;
+    let (note, step) = note_edit(alloc, entry, number, change, put, len)?;
     Ok(Prepared {
         doc,
         note,

@@ -1,7 +1,7 @@
 //! Commits prepared changes.
 ghost use Rattle.std.specs.Prelude.{◌≡◌, IfOk, OnErr};
 ghost use Rattle.store_core.specs.Queries.{Asks};
-ghost use Rattle.store_core.specs.DocumentChanges.{changing, content_after};
+ghost use Rattle.store_core.specs.DocumentChanges.{change_result, content_after};
 ghost use Rattle.store_core.specs.PreparedChanges.{IsReady, Steps};
 
 use crate::NoMemory;
@@ -51,7 +51,7 @@ impl Store {
     ) -> Result<Result<EditNote, StoreRefusal>, NoMemory>
         requires { Asks self.old.content doc change }
         ensures changed_or_refused { IfOk result
-            (λ r. Steps (changing self.old.content doc change) r self.old.content
+            (λ r. Steps (change_result self.old.content doc change) r self.old.content
             self.new.content) }
         ensures no_memory_unchanged { OnErr result (self.new.content ≡ self.old.content) }
     {

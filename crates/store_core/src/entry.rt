@@ -4,8 +4,8 @@ ghost use Rattle.std.specs.Prelude.{◌≡◌, IfOk, OnOk, true};
 ghost use Rattle.store_core.specs.StoreViews.{entry_of};
 ghost use Rattle.edit_ops.specs.Changes.{Fits};
 ghost use Rattle.usage_docs.specs.Services.{document_len};
-ghost use Rattle.store_core.specs.TreeChanges.{IsOwnWhere, IsStagedIn};
-ghost use Rattle.store_core.specs.inner.StoreMemory.{IsRenewed, as_own};
+ghost use Rattle.store_core.specs.TreeChanges.{NeedsUnshared, IsStagedIn};
+ghost use Rattle.store_core.specs.inner.StoreMemory.{IsRenewed, as_unshared};
 
 use crate::cached_tree::CachedTree;
 use crate::printed_tree::PrintedTree;
@@ -59,7 +59,7 @@ pub(crate) fn update_entry(
 )
     requires fits { Fits entry.old.tree.root note.change }
     requires change_staged { IsStagedIn entry.old.tree.root note.change staged }
-    requires tree_owned { IsOwnWhere staged entry.old.tree.own }
+    requires tree_owned { NeedsUnshared staged entry.old.tree.own }
     ensures renewed_entry { IsRenewed entry.old number note len entry.new }
 {
     entry.tree.make(note.change(), staged);
@@ -70,7 +70,7 @@ pub(crate) fn update_entry(
 
 /// Makes the tree of a document unshared; the tree is unchanged.
 pub(crate) fn make_tree_unique(alloc: Global, entry: &mut Entry) -> Result<(), AllocError>
-    ensures contents_unchanged { as_own entry.new ≡ as_own entry.old }
+    ensures contents_unchanged { as_unshared entry.new ≡ as_unshared entry.old }
     ensures tree_unshared { OnOk result (entry.new.tree.own ≡ true) }
 {
     entry.tree.unshare(alloc)

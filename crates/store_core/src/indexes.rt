@@ -2,10 +2,10 @@
 ghost use Rattle.std.specs.Prelude.{◌≡◌, ◌≤◌, [], map, All, IfOk, None, if◌then◌else◌};
 ghost use Rattle.std.specs.Str.{bytes_eq};
 ghost use Rattle.std.specs.Option.{option_map};
-ghost use Rattle.xml_names.specs.Limits.{max_levels};
+ghost use Rattle.xml_names.specs.declared.limits.TheConstants.{MAX_LEVELS};
 ghost use Rattle.xml_tree.specs.Tree.{Tree, height};
 ghost use Rattle.store_core.specs.Indexes.{AreIndexTrees, index, indexed_by, indexed_in};
-ghost use Rattle.store_core.specs.inner.ServiceListing.{entered, listed, pairs_in};
+ghost use Rattle.store_core.specs.inner.ServiceListing.{with_entries, index_entries, pairs_in};
 
 use crate::step::Documents;
 use crate::{NoMemory, Store};
@@ -58,7 +58,7 @@ fn trees_by_user<'a>(
     documents: &'a Documents,
 ) -> Result<BTreeMap<&'a Text, &'a Element>, AllocError>
     ensures listed_trees { IfOk result
-        (λ made. pairs_in made.entries ≡ entered [] (listed documents.now.entries)) }
+        (λ made. pairs_in made.entries ≡ with_entries [] (index_entries documents.now.entries)) }
 {
     let mut made = BTreeMap::new(alloc);
     for (doc, entry) in documents.iter() {
@@ -79,7 +79,7 @@ impl Store {
         ensures index_trees { IfOk result
             (λ made. AreIndexTrees self.now.content (map (λ e. e.now) made.items)) }
         ensures within_levels { IfOk result
-            (λ made. All (λ e. height e.now ≤ max_levels) made.items) }
+            (λ made. All (λ e. height e.now ≤ MAX_LEVELS) made.items) }
     {
         let trees = trees_by_user(alloc, &self.documents)?;
         trees.into_values().collect(alloc)

@@ -6,7 +6,8 @@ ghost use Rattle.store_core.specs.State.{State, first_state};
 ghost use Rattle.store_core.specs.Contents.{Represents, StoreContents};
 ghost use Rattle.store_core.specs.Indexes.{AreIndexTrees};
 ghost use Rattle.store_core.specs.ValidStates.{IsValidState};
-ghost use Rattle.store_core.specs.DocumentChanges.{after, changing, content_after, document_in};
+ghost use Rattle.store_core.specs.DocumentChanges.{after, change_result, content_after};
+ghost use Rattle.store_core.specs.DocumentChanges.{document_in};
 ghost use Rattle.store_core.specs.DocumentChanges.{stored_name, note_for};
 ghost use Rattle.store_core.specs.AcceptableChanges.{Suits};
 ghost use Rattle.doc_names.specs.declared.doc_id.DocId.{DocId};
@@ -36,7 +37,7 @@ pub fn the_first_state_is_valid()
 pub fn changes_that_are_made_suit_the_state()
     ensures made_suits { (c : StoreContents) (m : State) (id : DocId) (change : Change)
         (made : Note × StoreContents) → Represents c m → IsValidState m → Asks c id change
-        → changing c id change ≡ Ok made → Suits m id change }
+        → change_result c id change ≡ Ok made → Suits m id change }
 {}
 
 /// A law: where contents represent a valid state and the store makes a change that may be asked
@@ -44,7 +45,7 @@ pub fn changes_that_are_made_suit_the_state()
 pub fn changes_that_are_made_keep_store_and_state()
     ensures represents_valid_next { (c : StoreContents) (m : State) (id : DocId) (change : Change)
         (note : Note) (next : StoreContents) → Represents c m → IsValidState m → Asks c id change
-        → changing c id change ≡ Ok (note, next) → Represents next (after m id change)
+        → change_result c id change ≡ Ok (note, next) → Represents next (after m id change)
         × IsValidState (after m id change) }
 {}
 
@@ -54,7 +55,7 @@ pub fn changes_that_suit_the_state_are_made()
     ensures suited_is_made { (c : StoreContents) (m : State) (id : DocId) (change : Change)
         → Represents c m → IsValidState m
         → Suits m id change → m.next < 18446744073709551616
-        → changing c id change
+        → change_result c id change
         ≡ Ok
         (note_for c id change (document_in stored_name c.documents id), content_after c id change) }
 {}

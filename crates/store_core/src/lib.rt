@@ -2,7 +2,7 @@
 //! is prepared (`prepare`, which takes all memory and may refuse it) and then committed (`commit`,
 //! which can't fail). Upward: a store's contents represent a valid state of the abstract machine
 //! (`Represents`, `IsValidState`), each change makes the next state (`after`, `content_after`,
-//! `changing`), and `since` returns the records since an etag. The standards are RFC 4825,
+//! `change_result`), and `since` returns the records since an etag. The standards are RFC 4825,
 //! sections 7 and 8, RFC 4826 and RFC 5874; the limits are this server's own.
 //! Versions are listed newest first. Whether a tree is shared is in the store's `Room`, not in its
 //! contents: `commit` needs an unshared tree for an edit in place.
@@ -36,7 +36,7 @@ pub use laws::{
     changes_that_suit_the_state_are_made, states_stay_valid_after_each_change,
     stores_stand_after_each_change, the_first_state_is_valid, the_index_has_one_list,
 };
-pub use limits::MAX_BYTES;
+pub use limits::{MAX_DOCUMENT_BYTES, MAX_NOTES, MAX_WEIGHT};
 pub use prepared_change::Prepared;
 pub use refusal::StoreRefusal;
 pub use since::{Since, notes_since_a_version_lead_from_it};

@@ -11,15 +11,16 @@ ghost use Rattle.usage_docs.specs.declared.schema_table.Key.TheVariants as keys;
 ghost use Rattle.edit_ops.specs.declared.change.Change.TheVariants as changes;
 ghost use Rattle.store_core.specs.declared.refusal.StoreRefusal.TheVariants as refusals;
 ghost use Rattle.store_core.specs.Queries.{Asks};
-ghost use Rattle.store_core.specs.DocumentChanges.{Edits, act_of, against_number, against_tree};
-ghost use Rattle.store_core.specs.DocumentChanges.{changing, content_after, document_in};
+ghost use Rattle.store_core.specs.DocumentChanges.{Edits, act_of, refusal_of_number};
+ghost use Rattle.store_core.specs.DocumentChanges.{refusal_of_tree};
+ghost use Rattle.store_core.specs.DocumentChanges.{change_result, content_after, document_in};
 ghost use Rattle.store_core.specs.DocumentChanges.{stored_name, other_lengths};
 ghost use Rattle.doc_names.specs.Usages.{usage_of};
 ghost use Rattle.store_core.specs.Contents.{StoredDocument};
 ghost use Rattle.store_core.specs.ValidStates.{IsSoundFor, addresses_in};
 ghost use Rattle.store_core.specs.inner.Addresses.{AreExchanged};
 ghost use Rattle.store_core.specs.TreeChanges.{is_within};
-ghost use Rattle.store_core.specs.inner.UnsharedTrees.{IsOwn};
+ghost use Rattle.store_core.specs.inner.UnsharedTrees.{IsUnshared};
 ghost use Rattle.edit_ops.specs.Changes.{Fits, edited};
 ghost use Rattle.edit_ops.specs.Lengths.{element_len};
 ghost use Rattle.store_core.specs.PreparedChanges.{IsReady, total_of};
@@ -28,7 +29,7 @@ use crate::NoMemory;
 use crate::addresses::{added_addresses, addresses, first_number, removed_addresses};
 use crate::change_builder::{Outline, creation, edit, removal};
 use crate::entry::Entry;
-use crate::limits::{MAX_BYTES, MAX_BYTES_TOGETHER, MAX_DOCUMENTS};
+use crate::limits::{MAX_BYTES_TOGETHER, MAX_DOCUMENT_BYTES, MAX_DOCUMENTS};
 use crate::prepared_change::Prepared;
 use crate::put_lengths::{HEAD_LEN, document_len, put_by, put_root};
 use crate::refusal::StoreRefusal;
@@ -77,7 +78,7 @@ fn number_at(first: usize, place: Option<usize>) -> Option<usize>
     }
 }
 
-// The first reason against a tree, by what was found of it.
+// The first reason against a tree, from what was found in it.
 fn refused_for(place: Option<usize>, len: usize, is_full: bool, others: u64) -> Option<StoreRefusal>
     requires { others ≤ MAX_BYTES_TOGETHER }
     ensures exact { result ≡ refused_for place len is_full others }
@@ -85,7 +86,7 @@ fn refused_for(place: Option<usize>, len: usize, is_full: bool, others: u64) -> 
     if let Some(place) = place {
         return Some(StoreRefusal::ServiceTaken(clash_at(place)));
     }
-    if len > MAX_BYTES {
+    if len > MAX_DOCUMENT_BYTES {
         return Some(StoreRefusal::TooLarge(len));
     }
     if is_full {
@@ -102,9 +103,9 @@ impl Store {
     // The number of the next change.
     fn next_number(&self) -> Option<u64>
         ensures some_is_free { IfSome result
-            (λ n. (n ≡ self.now.content.next) × (against_number self.now.content ≡ None)) }
+            (λ n. (n ≡ self.now.content.next) × (refusal_of_number self.now.content ≡ None)) }
         ensures none_at_end { result ≡ None
-            → against_number self.now.content ≡ Some refusals.NoNumber }
+            → refusal_of_number self.now.content ≡ Some refusals.NoNumber }
     {
         self.last.checked_add(1)
     }
@@ -115,7 +116,7 @@ impl Store {
         requires { document_in stored_name self.now.content.documents doc.now ≡ None }
         ensures first_refusal { (t : Tree) → len ≡ min (document_len t) usize.MAX
             → uris.now ≡ addresses_in doc.now.auid t
-            → result ≡ against_tree self.now.content doc.now true t }
+            → result ≡ refusal_of_tree self.now.content doc.now true t }
     {
         let place = first_conflict(&self.services, uris, None);
         let is_full = self.documents.len() >= MAX_DOCUMENTS;
@@ -164,7 +165,7 @@ impl Store {
             → len ≡ min (document_len t) usize.MAX
             → AreExchanged first (addresses_in doc.now.auid h.tree) leaves uris.now
             (addresses_in doc.now.auid t)
-            → result ≡ against_tree self.now.content doc.now false t }
+            → result ≡ refusal_of_tree self.now.content doc.now false t }
     {
         let Some(entry) = find(&self.documents, doc) else {
             unreachable!()
@@ -323,7 +324,7 @@ impl Store {
     fn unshare_for(&mut self, doc: &DocId, change: &Change) -> Result<(), NoMemory>
         ensures contents_unchanged { self.new.content ≡ self.old.content }
         ensures tree_unshared { OnOk result
-            (is_within change.now ≡ true → IsOwn self.new.room.trees doc.now) }
+            (is_within change.now ≡ true → IsUnshared self.new.room.trees doc.now) }
     {
         if is_within(change) {
             return unshare(self.alloc, &mut self.documents, doc);
@@ -339,7 +340,7 @@ impl Store {
         ensures address_room { OnOk result (length prepared.now.enters ≤ self.new.room.services) }
         ensures tree_unshared { OnOk result
             (is_within prepared.now.note.change ≡ true
-            → IsOwn self.new.room.trees prepared.now.doc) }
+            → IsUnshared self.new.room.trees prepared.now.doc) }
     {
         self.unshare_for(&prepared.doc, prepared.note.change())?;
         self.reserve(prepared.added_address_count())
@@ -362,11 +363,11 @@ impl Store {
         ensures contents_unchanged { self.new.content ≡ self.old.content }
         ensures prepared_change { IfOk result
             (λ r. IfOk r (λ p. (p.doc ≡ doc)
-            × (changing self.old.content doc change
+            × (change_result self.old.content doc change
             ≡ Ok (p.note, content_after self.old.content doc change)) × (p.note.change ≡ change))) }
         ensures prepared_is_ready { IfOk result (λ r. IfOk r (λ p. IsReady self.new p)) }
         ensures first_refusal { IfOk result
-            (λ r. IfErr r (λ e. changing self.old.content doc change ≡ Err e)) }
+            (λ r. IfErr r (λ e. change_result self.old.content doc change ≡ Err e)) }
     {
         match self.plan(doc, change)? {
             Ok(prepared) => {

@@ -7,7 +7,7 @@ use usage_docs::Clash;
 pub enum StoreRefusal {
     /// Another document has the address of this service.
     ServiceTaken(Clash),
-    /// The document would have this many bytes, more than `MAX_BYTES`.
+    /// The document would have this many bytes, more than `MAX_DOCUMENT_BYTES`.
     TooLarge(usize),
     /// `MAX_DOCUMENTS` are stored.
     TooMany,

@@ -74,7 +74,7 @@ fn records_from_tag_in<'a>(
 }
 
 // The changes of an entry's document since this etag.
-fn told_by(entry: &Entry, tag: u64) -> Since<'_>
+fn since_in_entry(entry: &Entry, tag: u64) -> Since<'_>
     ensures exact { changes_since_in result
         ≡ (if entry.now.tag == tag then ReportedChanges []
         else changes_since_of (notes_from tag entry.now.notes)) }
@@ -100,7 +100,7 @@ impl Store {
         ensures exact { changes_since_in result ≡ since self.now.content doc.now tag }
     {
         match find(&self.documents, doc) {
-            Some(entry) => told_by(entry, tag),
+            Some(entry) => since_in_entry(entry, tag),
             None => Since::Gone,
         }
     }

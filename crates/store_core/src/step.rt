@@ -7,9 +7,9 @@ ghost use Rattle.indexmap.specs.IndexMap.{spare};
 ghost use Rattle.doc_names.specs.Equality.{same_id};
 ghost use Rattle.edit_ops.specs.Changes.{Fits};
 ghost use Rattle.store_core.specs.declared.entry.Entry.{Entry as Held};
-ghost use Rattle.store_core.specs.TreeChanges.{IsOwnWhere, IsStagedIn};
-ghost use Rattle.store_core.specs.inner.UnsharedTrees.{IsOwn};
-ghost use Rattle.store_core.specs.inner.StoreMemory.{IsRenewed, all_as_own, trees_in};
+ghost use Rattle.store_core.specs.TreeChanges.{NeedsUnshared, IsStagedIn};
+ghost use Rattle.store_core.specs.inner.UnsharedTrees.{IsUnshared};
+ghost use Rattle.store_core.specs.inner.StoreMemory.{IsRenewed, all_as_unshared, trees_in};
 
 use crate::entry::{Entry, make_tree_unique, update_entry};
 use crate::staged_tree::StagedTree;
@@ -52,9 +52,9 @@ pub(crate) fn unshare(
     documents: &mut Documents,
     doc: &DocId,
 ) -> Result<(), AllocError>
-    ensures contents_unchanged { all_as_own documents.new.entries
-        ≡ all_as_own documents.old.entries }
-    ensures tree_unshared { OnOk result (IsOwn (trees_in documents.new.entries) doc.now) }
+    ensures contents_unchanged { all_as_unshared documents.new.entries
+        ≡ all_as_unshared documents.old.entries }
+    ensures tree_unshared { OnOk result (IsUnshared (trees_in documents.new.entries) doc.now) }
 {
     match documents.get_mut(doc) {
         Some(entry) => make_tree_unique(alloc, entry),
@@ -83,7 +83,7 @@ fn exchange(
 ) -> u64
     requires { (v : Held) × (lookup (same_id doc.now) documents.old.entries ≡ Some v)
         × Fits v.tree.root note.change × IsStagedIn v.tree.root note.change staged
-        × IsOwnWhere staged v.tree.own }
+        × NeedsUnshared staged v.tree.own }
     ensures renews_entry { (v : Held) × (w : Held)
         × (lookup (same_id doc.now) documents.old.entries ≡ Some v) × IsRenewed v number note len w
         × (documents.new.entries
@@ -109,14 +109,15 @@ fn end(documents: &mut Documents, doc: &DocId)
 }
 
 impl Step {
-    ghost use Rattle.store_core.specs.inner.ChangePlans.{Stepped, Steppable};
+    ghost use Rattle.store_core.specs.inner.ChangePlans.{Steppable, TakesStep};
 
     /// Makes the step under a number, and returns the number of the document's creation.
     pub(crate) fn take(self, documents: &mut Documents, doc: &DocId, number: u64) -> u64
         requires fits { Steppable documents.old.entries doc.now self }
         requires room_left { 0 < spare documents.old }
-        ensures takes_step { Stepped documents.old.entries doc.now number self result
-            documents.new.entries }
+        ensures takes_step { TakesStep
+            (record { entries = documents.old.entries; doc = doc.now; number = number })
+            self result documents.new.entries }
     {
         match self {
             Step::Make(key, entry) => {

@@ -1,7 +1,7 @@
 //! The store of all documents.
 ghost use Rattle.std.specs.Prelude.{◌≡◌, ℕ, ◌+◌, ◌≤◌, [], length, sum_by, IfOk, IfSome, OnOk};
 ghost use Rattle.std.specs.Option.{option_map};
-ghost use Rattle.xml_names.specs.Limits.{max_levels};
+ghost use Rattle.xml_names.specs.declared.limits.TheConstants.{MAX_LEVELS};
 ghost use Rattle.xml_tree.specs.Tree.{Tree, height};
 ghost use Rattle.usage_docs.specs.Services.{document_len};
 ghost use Rattle.store_core.specs.State.{State};
@@ -76,13 +76,13 @@ impl Store {
     }
 
     /// The tree and the etag of a document: None exactly where it isn't stored. The tree is sound
-    /// for its application usage, with at most `MAX_LEVELS` levels and at most `MAX_BYTES` bytes,
-    /// printed. Does not allocate.
+    /// for its application usage, with at most `MAX_LEVELS` levels and, printed, at most
+    /// `MAX_DOCUMENT_BYTES` bytes. Does not allocate.
     pub fn get(&self, doc: &DocId) -> Option<(&Element, u64)>
         ensures stored_version { option_map (λ x. (x.0.now, x.1)) result
             ≡ option_map {U = Tree × ℕ} (λ h. (h.tree, h.tag))
             (document_in stored_name self.now.content.documents doc.now) }
-        ensures within_levels { IfSome result (λ x. height x.0.now ≤ max_levels) }
+        ensures within_levels { IfSome result (λ x. height x.0.now ≤ MAX_LEVELS) }
         ensures tree_is_sound { IfSome result (λ x. IsSoundFor (usage_of doc.now.auid) x.0.now) }
     {
         let entry = find(&self.documents, doc)?;

@@ -2,10 +2,11 @@
 ghost use Rattle.std.specs.Prelude.{◌≡◌, [], ◌∷◌, ◌++◌, IfOk, OnOk, chars, encode_utf8_all};
 ghost use Rattle.std.specs.Prelude.{flat_map};
 ghost use Rattle.std.specs.Str.{bytes_eq};
-ghost use Rattle.xml_names.specs.Markup.{closing, declaring, opening, print_attr, print_comment};
+ghost use Rattle.xml_names.specs.Markup.{end_tag_text, xmlns_name, tag_front, print_attr};
+ghost use Rattle.xml_names.specs.Markup.{print_comment};
 ghost use Rattle.xml_names.specs.Markup.{print_decl, print_name, print_text, value_escape};
 ghost use Rattle.xml_names.specs.Markup.{quoted_text};
-ghost use Rattle.xml_tree.specs.Print.{ending, is_empty, print, print_content, header};
+ghost use Rattle.xml_tree.specs.Print.{rest_of_element, is_empty, print, print_content, header};
 ghost use Rattle.xml_tree.specs.Print.{document_print};
 ghost use Rattle.xml_tree.specs.inner.Print.{print_node};
 ghost use Rattle.tree_print.specs.AttributeBodyPrints.{body_escape, body_print};
@@ -92,7 +93,7 @@ fn push_name(out: &mut Output, name: &Name) -> Result<(), AllocError>
 /// Appends the name that declares a prefix.
 #[tactic(auto, using(crate::proofs::PrintLemmas::literals))]
 fn push_declaring(out: &mut Output, prefix: &Prefix) -> Result<(), AllocError>
-    ensures appended { OnOk result (out.new ≡ out.old ++ declaring prefix.now) }
+    ensures appended { OnOk result (out.new ≡ out.old ++ xmlns_name prefix.now) }
 {
     if is_nothing(prefix) {
         return out.push_str("xmlns");
@@ -141,7 +142,7 @@ fn push_attrs(out: &mut Output, attrs: &[Attr]) -> Result<(), AllocError>
 /// Appends `<`, a name, declarations and attributes.
 fn push_opening(out: &mut Output, element: &Element) -> Result<(), AllocError>
     ensures appended { OnOk result
-        (out.new ≡ out.old ++ opening element.now.name element.now.decls element.now.attrs) }
+        (out.new ≡ out.old ++ tag_front element.now.name element.now.decls element.now.attrs) }
 {
     out.push('<')?;
     push_name(out, element.name())?;
@@ -151,7 +152,7 @@ fn push_opening(out: &mut Output, element: &Element) -> Result<(), AllocError>
 
 #[tactic(auto, using(crate::proofs::PrintLemmas::literals, crate::proofs::PrintLemmas::three))]
 fn push_closing(out: &mut Output, name: &Name) -> Result<(), AllocError>
-    ensures appended { OnOk result (out.new ≡ out.old ++ closing name.now) }
+    ensures appended { OnOk result (out.new ≡ out.old ++ end_tag_text name.now) }
 {
     out.push_str("</")?;
     push_name(out, name)?;
@@ -183,7 +184,7 @@ fn push_node(out: &mut Output, node: &Node) -> Result<(), AllocError>
 #[cycle(print)]
 fn push_ending(out: &mut Output, element: &Element) -> Result<(), AllocError>
     ensures appended { OnOk result
-        (out.new ≡ out.old ++ ending element.now.name (is_empty element.now.content)
+        (out.new ≡ out.old ++ rest_of_element element.now.name (is_empty element.now.content)
         (print_content element.now.content)) }
 {
     let nodes = element.nodes();

@@ -21,28 +21,28 @@ use Rattle.xml_names.specs.declared.read_error.ReadError.TheVariants as errors
 use Rattle.xml_tokens.specs.readers.Results.{Fails}
 use Rattle.xml_names.specs.Memory.{Answered}
 use Rattle.tree_text.specs.readers.Texts.{read_text, read_spelling}
-use Rattle.tree_text.specs.readers.Whole.{FaultOf, text_read, BodyFaultOf, body_read}
+use Rattle.tree_text.specs.readers.Whole.{FaultOf, read_document_text, BodyFaultOf, read_body_text}
 
 not_by : (bytes : List ℕ) (b : Bool) → is_utf8 bytes ≡ b → (IsUtf8 bytes → ⊥) → is_utf8 bytes ≡ false
 not_by bytes true e n = absurd (n (IsUtf8-from_is_utf8 bytes e))
 not_by bytes false e n = e
 
-pub not_read : (limit : ℕ) (scope : List (List Decl)) (bytes : List ℕ) → (IsUtf8 bytes → ⊥) → text_read limit scope bytes ≡ Err texts.NotUtf8
+pub not_read : (limit : ℕ) (scope : List (List Decl)) (bytes : List ℕ) → (IsUtf8 bytes → ⊥) → read_document_text limit scope bytes ≡ Err texts.NotUtf8
 not_read limit scope bytes n = rw (not_by bytes (is_utf8 bytes) refl n) refl
 
 module _ (limit : ℕ) (scope : List (List Decl)) (bytes text all : List ℕ) (same : text ≡ bytes) (utf8 : IsUtf8 bytes) (decoded : all ≡ chars text) where
-  pub is_read : (out : Result Tree (Stop FaultKind)) → read_whole (read_text limit scope) all ≡ out → text_read limit scope bytes ≡ told bytes out
+  pub is_read : (out : Result Tree (Stop FaultKind)) → read_whole (read_text limit scope) all ≡ out → read_document_text limit scope bytes ≡ told bytes out
   is_read out h =
       let yes : is_utf8 bytes ≡ true = is_utf8-from_IsUtf8 bytes utf8 in
       let read : read_whole (read_text limit scope) (chars bytes) ≡ out = ap (read_whole (read_text limit scope)) (sym (decoded ∙ ap chars same)) ∙ h in
       rw yes (ap (told bytes) read)
 
-  pub ok_told : (tree : Tree) → read_whole (read_text limit scope) all ≡ Ok tree → (let answer : Result Tree TextFault = Ok tree in answer ≡ text_read limit scope bytes)
+  pub ok_told : (tree : Tree) → read_whole (read_text limit scope) all ≡ Ok tree → (let answer : Result Tree TextFault = Ok tree in answer ≡ read_document_text limit scope bytes)
   ok_told tree h = sym (is_read (Ok tree) h)
 
   -- the call returns a fault of the text, or that memory ran out
   abbrev Tells : ReadError TextFault → Type 0
-  Tells error = let answer : Result Tree (ReadError TextFault) = Err error in Answered (λ answer. answer ≡ text_read limit scope bytes) answer
+  Tells error = let answer : Result Tree (ReadError TextFault) = Err error in Answered (λ answer. answer ≡ read_document_text limit scope bytes) answer
 
   pub fault_told : (stop : CodeStop) (error : ReadError TextFault) → Fails stop (read_whole (read_text limit scope) all) → FaultOf bytes stop error → Tells error
   fault_told (stops.Syntax rest) error h f = subst Tells (sym f) (sym (is_read (Err (Syntax (chars rest.now))) h))
@@ -51,27 +51,27 @@ module _ (limit : ℕ) (scope : List (List Decl)) (bytes text all : List ℕ) (s
 
 -- ---- bodies
 
-pub body_not_read : (bytes : List ℕ) → (IsUtf8 bytes → ⊥) → body_read bytes ≡ Err bodies.NotUtf8
+pub body_not_read : (bytes : List ℕ) → (IsUtf8 bytes → ⊥) → read_body_text bytes ≡ Err bodies.NotUtf8
 body_not_read bytes n = rw (not_by bytes (is_utf8 bytes) refl n) refl
 
 module _ (bytes text all part : List ℕ) (behind : ℕ) (same : text ≡ bytes) (utf8 : IsUtf8 bytes) (decoded : all ≡ chars text) (spelling : part ≡ spelling_of all) (rest : behind ≡ closing (in_quotes all)) where
   body_is : all ≡ chars bytes
   body_is = decoded ∙ ap chars same
 
-  pub body_is_read : (out : Result (List ℕ) (Stop FaultKind)) → read_whole read_spelling part ≡ out → body_read bytes ≡ body_result (chars bytes) bytes out
+  pub body_is_read : (out : Result (List ℕ) (Stop FaultKind)) → read_whole read_spelling part ≡ out → read_body_text bytes ≡ body_result (chars bytes) bytes out
   body_is_read out h =
       let yes : is_utf8 bytes ≡ true = is_utf8-from_IsUtf8 bytes utf8 in
       let read : read_whole read_spelling (spelling_of (chars bytes)) ≡ out = ap (read_whole read_spelling) (sym (spelling ∙ ap spelling_of body_is)) ∙ h in
       rw yes (ap (body_result (chars bytes) bytes) read)
 
-  pub body_ok_told : (value : List ℕ) → read_whole read_spelling part ≡ Ok value → (let answer : Result (List ℕ) ValueFault = Ok value in answer ≡ body_read bytes)
+  pub body_ok_told : (value : List ℕ) → read_whole read_spelling part ≡ Ok value → (let answer : Result (List ℕ) ValueFault = Ok value in answer ≡ read_body_text bytes)
   body_ok_told value h = sym (body_is_read (Ok value) h)
 
   at_place : (left : List ℕ) → byte_at bytes left - behind ≡ body_place (chars bytes) bytes left
   at_place left = ap (λ (z : ℕ). byte_at bytes left - z) (rest ∙ ap (λ (z : List ℕ). closing (in_quotes z)) body_is)
 
   abbrev BodyTells : ReadError ValueFault → Type 0
-  BodyTells error = let answer : Result (List ℕ) (ReadError ValueFault) = Err error in Answered (λ answer. answer ≡ body_read bytes) answer
+  BodyTells error = let answer : Result (List ℕ) (ReadError ValueFault) = Err error in Answered (λ answer. answer ≡ read_body_text bytes) answer
 
   no_value : (left : List ℕ) (error : ReadError ValueFault) → error ≡ errors.Fault (bodies.NotValue (byte_at bytes left - behind)) → error ≡ errors.Fault (bodies.NotValue (body_place (chars bytes) bytes left))
   no_value left error f = f ∙ ap (λ (n : ℕ). let z : ReadError ValueFault = errors.Fault (bodies.NotValue n) in z) (at_place left)

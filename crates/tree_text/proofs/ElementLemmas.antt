@@ -13,12 +13,12 @@ use Rattle.xml_tokens.specs.declared.fault_kind.FaultKind.{FaultKind}
 use Rattle.xml_tokens.specs.declared.parse_error.ParseError.{ParseError as CodeStop}
 use Rattle.xml_tokens.specs.declared.parse_error.ParseError.TheVariants as stops
 use Rattle.xml_tokens.specs.readers.Results.{Fails}
-use Rattle.tree_text.specs.readers.Members.{filled, tree_with, with_chars, with_one, read_chars_onto, read_member, read_child, read_onto, read_filled, read_filled_behind}
+use Rattle.tree_text.specs.readers.Members.{filled, tree_with, with_chars, with_one, read_chars_onto, read_member, read_child, read_onto, read_filled, read_filled_after}
 use Rattle.tree_text.specs.Names.{decls_of, attrs_of, element_of}
 use Rattle.tree_text.specs.readers.TagNameFaults.{counted_back, first_of_tag, tag_fault}
 use Rattle.tree_text.specs.Pieces.{Markup, Inner, StartTag, with_pieces}
 use Rattle.xml_tokens.specs.readers.Tokens.{read_chars}
-use Rattle.tree_text.specs.readers.Texts.{markup_follows, other_follows, read_markup, read_tag, read_behind_tag, read_element}
+use Rattle.tree_text.specs.readers.Texts.{markup_follows, other_follows, read_markup, read_tag, read_after_tag, read_element}
 use Rattle.xml_markup.specs.readers.Words.{bang, instruction_start}
 use Rattle.xml_tokens.proofs.Loops.{finish, start, valued_ok, valued_err, valued_stops}
 
@@ -93,13 +93,13 @@ module _ (scope here : List (List Decl)) (decls : List Decl) (text left : List �
 module _ (levels i depth : ℕ) (scope here : List (List Decl)) (decls : List Decl) (text left : List ℕ) (t : StartTag) (level : levels ≡ i + 1)
     (tagged : read_judged (tag_fault scope) read_tag text ≡ Ok (t, left)) (declared : decls ≡ decls_of t.raw_attribute) (inner : here ≡ scope ++ decls ∷ []) where
   abbrev behind : Result (Content × List ℕ) (Stop FaultKind)
-  behind = read_behind_tag (read_element i here (depth + 1)) t.name t.is_empty left
+  behind = read_after_tag (read_element i here (depth + 1)) t.name t.is_empty left
 
   step : (out : Result (Content × List ℕ) (Stop FaultKind)) → behind ≡ out → read_element levels scope depth text ≡ dressed_read t out
   step out h =
       let up : levels ≡ suc i = omega arith in
       let scopes : here ≡ scope ++ decls_of t.raw_attribute ∷ [] = inner ∙ ap (λ (z : List Decl). scope ++ z ∷ []) declared in
-      let inside : read_behind_tag (read_element i (scope ++ decls_of t.raw_attribute ∷ []) (depth + 1)) t.name t.is_empty left ≡ out = ap (λ (z : List (List Decl)). read_behind_tag (read_element i z (depth + 1)) t.name t.is_empty left) (sym scopes) ∙ h in
+      let inside : read_after_tag (read_element i (scope ++ decls_of t.raw_attribute ∷ []) (depth + 1)) t.name t.is_empty left ≡ out = ap (λ (z : List (List Decl)). read_after_tag (read_element i z (depth + 1)) t.name t.is_empty left) (sym scopes) ∙ h in
       rw up (rw tagged (rw inside (by_out out)))
     where
       by_out : (out : Result (Content × List ℕ) (Stop FaultKind)) → (out >>= λ y. let z : (StartTag × Content) × List ℕ = ((t, y.0), y.1) in Ok z) >>= (λ x. let z : Tree × List ℕ = (element_of x.0, x.1) in Ok z) ≡ dressed_read t out
@@ -109,13 +109,13 @@ module _ (levels i depth : ℕ) (scope here : List (List Decl)) (decls : List De
   dressed_is : (k : Content) (e : Tree) → tree_of t.name [] (attrs_of t.raw_attribute) k ≡ e → element_of (t, k) ≡ record e { decls = e.decls ++ decls }
   dressed_is k e h = ap (λ (z : List Decl). tree_of t.name z (attrs_of t.raw_attribute) k) (sym declared) ∙ ap (λ (z : Tree). record z { decls = z.decls ++ decls }) h
 
-  pub element_ok : (e0 e : Tree) (rest : List ℕ) → e0 ≡ tree_of t.name [] (attrs_of t.raw_attribute) (last []) → read_filled_behind e0 (read_element i here (depth + 1)) t.name t.is_empty left ≡ Ok (e, rest) → read_element levels scope depth text ≡ Ok (record e { decls = e.decls ++ decls }, rest)
+  pub element_ok : (e0 e : Tree) (rest : List ℕ) → e0 ≡ tree_of t.name [] (attrs_of t.raw_attribute) (last []) → read_filled_after e0 (read_element i here (depth + 1)) t.name t.is_empty left ≡ Ok (e, rest) → read_element levels scope depth text ≡ Ok (record e { decls = e.decls ++ decls }, rest)
   element_ok e0 e rest first h =
       let v = valued_ok (filled e0) behind e rest h in
       let is_dressed : tree_of t.name [] (attrs_of t.raw_attribute) v.value ≡ e = ap (λ (z : Tree). filled z v.value) (sym first) ∙ v.made in
       step (Ok (v.value, rest)) v.read ∙ ap (λ (z : Tree). let w : Tree × List ℕ = (z, rest) in Ok w) (dressed_is v.value e is_dressed)
 
-  pub element_err : (e0 : Tree) (s : CodeStop) → Fails s (read_filled_behind e0 (read_element i here (depth + 1)) t.name t.is_empty left) → Fails s (read_element levels scope depth text)
+  pub element_err : (e0 : Tree) (s : CodeStop) → Fails s (read_filled_after e0 (read_element i here (depth + 1)) t.name t.is_empty left) → Fails s (read_element levels scope depth text)
   element_err e0 stops.Memory h = tt
   element_err e0 (stops.Syntax rest) h = step (Err (Syntax (chars rest.now))) (valued_err (filled e0) behind (Syntax (chars rest.now)) h)
   element_err e0 (stops.Faulty kind rest) h = step (Err (Faulty kind (chars rest.now))) (valued_err (filled e0) behind (Faulty kind (chars rest.now)) h)

@@ -1,7 +1,7 @@
 -- Checking the names of a tag, from the first to the last.
 use Rattle.std.proofs.Common.{◌≡◌, Bool, true, false, cond, List, [], ◌∷◌, ◌++◌, refl, ap}
 use Rattle.tree_text.specs.declared.raw_attribute.RawAttribute.{RawAttribute}
-use Rattle.tree_text.specs.Names.{said_attr, decls_of, attrs_of, raw_attribute_decl as decl_of, is_declaring as declares}
+use Rattle.tree_text.specs.Names.{raw_attribute_attr, decls_of, attrs_of, raw_attribute_decl as decl_of, is_declaring as declares}
 
 cons_or : {A : Type 0} (b : Bool) (x : A) (front last rest : List A) → rest ≡ front ++ last → cond b (x ∷ rest) rest ≡ cond b (x ∷ front) front ++ last
 cons_or {A} true x front last rest e = ap (λ (z : List A). x ∷ z) e
@@ -17,4 +17,4 @@ decls-append (x ∷ xs) s = cons_or (declares x.name) (decl_of x) (decls_of xs) 
 
 pub attrs-append : (front : List RawAttribute) (s : RawAttribute) → attrs_of (front ++ s ∷ []) ≡ attrs_of front ++ attrs_of (s ∷ [])
 attrs-append [] s = refl
-attrs-append (x ∷ xs) s = or_cons (declares x.name) (said_attr x) (attrs_of xs) (attrs_of (s ∷ [])) (attrs_of (xs ++ s ∷ [])) (attrs-append xs s)
+attrs-append (x ∷ xs) s = or_cons (declares x.name) (raw_attribute_attr x) (attrs_of xs) (attrs_of (s ∷ [])) (attrs_of (xs ++ s ∷ [])) (attrs-append xs s)

@@ -15,8 +15,8 @@ use Rattle.tree_text.specs.declared.raw_attribute.RawAttribute.{RawAttribute}
 use Rattle.tree_text.specs.FaultKinds.{is_fault, rank, faults}
 use Rattle.xml_tokens.specs.Values.{qname_of, written}
 use Rattle.tree_text.specs.Pieces.{StartTag}
-use Rattle.tree_text.specs.Names.{is_misnamed, is_repeated, IsWrongSaid, widths, IsWrong, inside_tag as inside, opening_size as opening, is_unbound_in as is_unbound}
-use Rattle.tree_text.specs.readers.TagNameFaults.{wrong_said, or_later, first_wrong, first_of_tag, counted_back, tag_fault}
+use Rattle.tree_text.specs.Names.{is_misnamed, is_repeated, IsWrongAttribute, widths, IsWrong, inside_tag as inside, opening_size as opening, is_unbound_in as is_unbound}
+use Rattle.tree_text.specs.readers.TagNameFaults.{attribute_fault, or_later, first_wrong, first_of_tag, counted_back, tag_fault}
 use Rattle.xml_tokens.specs.Tokens.{name, qname, spaces}
 use Rattle.tree_text.specs.Grammar.{raw_attribute, tag_end, start_tag}
 use Rattle.xml_tokens.proofs.NameLemmas.{prefixed_size}
@@ -129,13 +129,13 @@ record Wrong (here : List (List Decl)) (earlier : List RawAttribute) (at : ℕ) 
   raw_attribute : RawAttribute
   back : List RawAttribute
   among : later ≡ front ++ raw_attribute ∷ back
-  wrong : IsWrongSaid here (earlier ++ front) raw_attribute kind
+  wrong : IsWrongAttribute here (earlier ++ front) raw_attribute kind
   place_is : place ≡ at + widths front + raw_attribute.gap
 
 -- the result for one of them
 abbrev JudgedSaid : List (List Decl) → List RawAttribute → RawAttribute → Option FaultKind → Type 0
-JudgedSaid here earlier s None = (k : FaultKind) → IsWrongSaid here earlier s k → ⊥
-JudgedSaid here earlier s (Some kind) = IsWrongSaid here earlier s kind × ((k : FaultKind) → IsWrongSaid here earlier s k → rank kind ≤ rank k)
+JudgedSaid here earlier s None = (k : FaultKind) → IsWrongAttribute here earlier s k → ⊥
+JudgedSaid here earlier s (Some kind) = IsWrongAttribute here earlier s kind × ((k : FaultKind) → IsWrongAttribute here earlier s k → rank kind ≤ rank k)
 
 -- the result for all of them
 abbrev Judged : (FaultKind → ℕ → Type 0) → Option (FaultKind × ℕ) → Type 0
@@ -143,7 +143,7 @@ Judged W None = (k : FaultKind) (p : ℕ) → W k p → ⊥
 Judged W (Some x) = W x.0 x.1 × ((k : FaultKind) (p : ℕ) → W k p → (x.1 < p) ⊎ ((p ≡ x.1) × (rank x.0 ≤ rank k)))
 
 -- an unbound prefix comes before anything else that is wrong with one of them
-unbound_least : (here : List (List Decl)) (earlier : List RawAttribute) (s : RawAttribute) (k : FaultKind) → IsWrongSaid here earlier s k → rank Unbound ≤ rank k
+unbound_least : (here : List (List Decl)) (earlier : List RawAttribute) (s : RawAttribute) (k : FaultKind) → IsWrongAttribute here earlier s k → rank Unbound ≤ rank k
 unbound_least here earlier s Unbound m = omega arith
 unbound_least here earlier s Repeated m = omega arith
 unbound_least here earlier s Encoded m = absurd m
@@ -155,7 +155,7 @@ module _ (here : List (List Decl)) where
   by_tests earlier s true b e f = (e, unbound_least here earlier s)
   by_tests earlier s false true e f = (f, least)
     where
-      least : (k : FaultKind) → IsWrongSaid here earlier s k → rank Repeated ≤ rank k
+      least : (k : FaultKind) → IsWrongAttribute here earlier s k → rank Repeated ≤ rank k
       least Unbound m = absurd cc
       least Repeated m = omega arith
       least Encoded m = absurd m
@@ -163,14 +163,14 @@ module _ (here : List (List Decl)) where
       least (Depth d) m = absurd m
   by_tests earlier s false false e f = none
     where
-      none : (k : FaultKind) → IsWrongSaid here earlier s k → ⊥
+      none : (k : FaultKind) → IsWrongAttribute here earlier s k → ⊥
       none Unbound m = absurd cc
       none Repeated m = absurd cc
       none Encoded m = m
       none Doctyped m = m
       none (Depth d) m = m
 
-  said_judged : (earlier : List RawAttribute) (s : RawAttribute) → JudgedSaid here earlier s (wrong_said here earlier s)
+  said_judged : (earlier : List RawAttribute) (s : RawAttribute) → JudgedSaid here earlier s (attribute_fault here earlier s)
   said_judged earlier s = by_tests earlier s (is_misnamed here s) (is_repeated here earlier s) refl refl
 
   module _ (earlier : List RawAttribute) (at : ℕ) (s : RawAttribute) (later : List RawAttribute) where
@@ -181,25 +181,25 @@ module _ (here : List (List Decl)) where
     Later = Wrong here (earlier ++ s ∷ []) (at + (s.gap + s.size)) later
 
     -- the first is wrong, or a later one
-    apart : (k : FaultKind) (p : ℕ) (front : List RawAttribute) (x : RawAttribute) (back : List RawAttribute) → s ∷ later ≡ front ++ x ∷ back → IsWrongSaid here (earlier ++ front) x k → p ≡ at + widths front + x.gap → (IsWrongSaid here earlier s k × (p ≡ at + s.gap)) ⊎ Later k p
+    apart : (k : FaultKind) (p : ℕ) (front : List RawAttribute) (x : RawAttribute) (back : List RawAttribute) → s ∷ later ≡ front ++ x ∷ back → IsWrongAttribute here (earlier ++ front) x k → p ≡ at + widths front + x.gap → (IsWrongAttribute here earlier s k × (p ≡ at + s.gap)) ⊎ Later k p
     apart k p [] x back j w e =
         let i : s ≡ x = cc in
         let g : s.gap ≡ x.gap = ap (λ (z : RawAttribute). z.gap) i in
-        let v : IsWrongSaid here earlier x k = subst (λ (z : List RawAttribute). IsWrongSaid here z x k) (append-nil earlier) w in
-        inl (subst (λ (z : RawAttribute). IsWrongSaid here earlier z k) (sym i) v, omega (arith, e, g))
+        let v : IsWrongAttribute here earlier x k = subst (λ (z : List RawAttribute). IsWrongAttribute here z x k) (append-nil earlier) w in
+        inl (subst (λ (z : RawAttribute). IsWrongAttribute here earlier z k) (sym i) v, omega (arith, e, g))
     apart k p (y ∷ front) x back j w e =
         let i : s ≡ y = cc in
         let r : later ≡ front ++ x ∷ back = cc in
         let g : s.gap ≡ y.gap = ap (λ (z : RawAttribute). z.gap) i in
         let h : s.size ≡ y.size = ap (λ (z : RawAttribute). z.size) i in
         let m : earlier ++ (y ∷ front) ≡ (earlier ++ s ∷ []) ++ front = ap (λ (z : RawAttribute). earlier ++ (z ∷ front)) (sym i) ∙ sym (append_assoc earlier (s ∷ []) front) in
-        inr (record { front = front; raw_attribute = x; back = back; among = r; wrong = subst (λ (z : List RawAttribute). IsWrongSaid here z x k) m w; place_is = omega (arith, e, g, h) })
+        inr (record { front = front; raw_attribute = x; back = back; among = r; wrong = subst (λ (z : List RawAttribute). IsWrongAttribute here z x k) m w; place_is = omega (arith, e, g, h) })
 
-    apart_of : (k : FaultKind) (p : ℕ) → All k p → (IsWrongSaid here earlier s k × (p ≡ at + s.gap)) ⊎ Later k p
+    apart_of : (k : FaultKind) (p : ℕ) → All k p → (IsWrongAttribute here earlier s k × (p ≡ at + s.gap)) ⊎ Later k p
     apart_of k p w = apart k p w.front w.raw_attribute w.back w.among w.wrong w.place_is
 
-    at_first : (k : FaultKind) → IsWrongSaid here earlier s k → All k (at + s.gap)
-    at_first k w = record { front = []; raw_attribute = s; back = later; among = refl; wrong = subst (λ (z : List RawAttribute). IsWrongSaid here z s k) (sym (append-nil earlier)) w; place_is = omega arith }
+    at_first : (k : FaultKind) → IsWrongAttribute here earlier s k → All k (at + s.gap)
+    at_first k w = record { front = []; raw_attribute = s; back = later; among = refl; wrong = subst (λ (z : List RawAttribute). IsWrongAttribute here z s k) (sym (append-nil earlier)) w; place_is = omega arith }
 
     at_later : (k : FaultKind) (p : ℕ) → Later k p → All k p
     at_later k p w = record {
@@ -207,7 +207,7 @@ module _ (here : List (List Decl)) where
       raw_attribute = w.raw_attribute;
       back = w.back;
       among = ap (λ (z : List RawAttribute). s ∷ z) w.among;
-      wrong = subst (λ (z : List RawAttribute). IsWrongSaid here z w.raw_attribute k) (append_assoc earlier (s ∷ []) w.front) w.wrong;
+      wrong = subst (λ (z : List RawAttribute). IsWrongAttribute here z w.raw_attribute k) (append_assoc earlier (s ∷ []) w.front) w.wrong;
       place_is = omega (arith, w.place_is);
     }
 
@@ -218,7 +218,7 @@ module _ (here : List (List Decl)) where
 
   judged : (later earlier : List RawAttribute) (at : ℕ) → AllSome later → Judged (Wrong here earlier at later) (first_wrong here earlier at later)
   judged [] earlier at some = λ k p w. absurd (let e : 0 ≡ length (w.front ++ w.raw_attribute ∷ w.back) = ap length w.among in omega (arith, e, length-append w.front (w.raw_attribute ∷ w.back)))
-  judged (s ∷ later) earlier at some = together earlier at s later (wrong_said here earlier s) (first_wrong here (earlier ++ s ∷ []) (at + (s.gap + s.size)) later) some.0 (said_judged earlier s) (judged later (earlier ++ s ∷ []) (at + (s.gap + s.size)) some.1)
+  judged (s ∷ later) earlier at some = together earlier at s later (attribute_fault here earlier s) (first_wrong here (earlier ++ s ∷ []) (at + (s.gap + s.size)) later) some.0 (said_judged earlier s) (judged later (earlier ++ s ∷ []) (at + (s.gap + s.size)) some.1)
 
 -- # Tags
 
@@ -294,7 +294,7 @@ module _ (scope : List (List Decl)) where
       let f = place_fits u t k p z (inr m) in
       inr (record { earlier = m.front; raw_attribute = m.raw_attribute; later = m.back; among = m.among; wrong = m.wrong; place = omega (arith, f, m.place_is) })
 
-said_fault : (limit : ℕ) (here : List (List Decl)) (earlier : List RawAttribute) (s : RawAttribute) (k : FaultKind) → IsWrongSaid here earlier s k → is_fault limit k ≡ true
+said_fault : (limit : ℕ) (here : List (List Decl)) (earlier : List RawAttribute) (s : RawAttribute) (k : FaultKind) → IsWrongAttribute here earlier s k → is_fault limit k ≡ true
 said_fault limit here earlier s Unbound m = refl
 said_fault limit here earlier s Repeated m = refl
 said_fault limit here earlier s Encoded m = absurd m

@@ -17,8 +17,8 @@ use Rattle.tree_text.specs.declared.attribute_meanings.Meaning.{Meaning}
 use Rattle.tree_text.specs.declared.attribute_meanings.Meaning.TheVariants.{Declared, Named}
 use Rattle.tree_text.specs.declared.raw_attribute.RawAttribute.{RawAttribute}
 use Rattle.tree_text.specs.readers.Bindings.{AreOpenNamespaces, lists, number}
-use Rattle.tree_text.specs.readers.Meanings.{Means, Holds, says, attr_number, same_number}
-use Rattle.tree_text.specs.Names.{says_again, is_repeated, raw_attribute_decl as decl_of, is_declaring as declares}
+use Rattle.tree_text.specs.readers.Meanings.{Means, Holds, has_meaning, attr_number, same_number}
+use Rattle.tree_text.specs.Names.{repeats_name, is_repeated, raw_attribute_decl as decl_of, is_declaring as declares}
 use Rattle.tree_text.proofs.NamespaceLemmas.{number_of, attrs_same}
 
 and_swap : (a b : Bool) → a && b ≡ b && a
@@ -45,7 +45,7 @@ bytes_eq-encodes a b = texts_ties (encode_utf8_all a) (encode_utf8_all b) ∙ ap
 
 module _ (here : Bindings) where
   -- another meaning compares as equal exactly when the two are the same
-  ties : (s : RawAttribute) (m q : Meaning) → Means here s m → is_eq (cmp-value.it m q) ≡ says here q s
+  ties : (s : RawAttribute) (m q : Meaning) → Means here s m → is_eq (cmp-value.it m q) ≡ has_meaning here q s
   ties s (Declared p) (Declared q) h = rw (h.0) (sym (texts_ties p.now q.now) ∙ ap (λ t. bytes_eq t q.now) h.1)
   ties s (Declared p) (Named l u) h = rw (h.0) refl
   ties s (Named l u) (Declared q) h = rw (h.0) refl
@@ -62,12 +62,12 @@ module _ (here : Bindings) where
   one_more es seen seen' s m holds h up q =
       up.0 q
       ∙ ap₂ (λ (b c : Bool). cond b true c) (ties s m q h) (holds q)
-      ∙ or_last (says here q s) (list_any (says here q) es)
-      ∙ sym (list_any-append (says here q) es (s ∷ []))
+      ∙ or_last (has_meaning here q s) (list_any (has_meaning here q) es)
+      ∙ sym (list_any-append (has_meaning here q) es (s ∷ []))
 
 module _ (here : Bindings) (kept : AreOpenNamespaces here) where
   -- a raw attribute has a meaning exactly when it means the same
-  same_is : (e s : RawAttribute) (m : Meaning) → Means here s m → says here m e ≡ says_again (lists here) s e
+  same_is : (e s : RawAttribute) (m : Meaning) → Means here s m → has_meaning here m e ≡ repeats_name (lists here) s e
   same_is e s (Declared p) h =
       rw (h.0)
       (ap (λ t. declares e.name && bytes_eq (encode_utf8_all (decl_of e).prefix) t) h.1
@@ -76,7 +76,7 @@ module _ (here : Bindings) (kept : AreOpenNamespaces here) where
       let numbers = ap (same_number (attr_number here e.name)) (number_of (number here.namespaces) u (attr_name (lists here) s.name).uri h.2) ∙ attrs_same here kept e.name s.name in
       rw (h.0) (ap₂ (λ (a b : Bool). not (declares e.name) && (a && b)) numbers (ap (bytes_eq e.name.local) h.1))
 
-  any_is : (es : List RawAttribute) (s : RawAttribute) (m : Meaning) → Means here s m → list_any (says here m) es ≡ is_repeated (lists here) es s
+  any_is : (es : List RawAttribute) (s : RawAttribute) (m : Meaning) → Means here s m → list_any (has_meaning here m) es ≡ is_repeated (lists here) es s
   any_is [] s m h = refl
   any_is (e ∷ es) s m h = ap₂ (λ (a b : Bool). a || b) (same_is e s m h) (any_is es s m h)
 

@@ -3,8 +3,8 @@ use Rattle.std.proofs.Common.{◌≡◌, ℕ, zero, suc, ◌+◌, ◌<◌, ◌�
 use Rattle.xml_grammar.specs.TextReading.{Reader}
 use Rattle.xml_names.specs.Characters.{is_name_start}
 use Rattle.xml_tree.specs.Edits.{with_text_before}
-use Rattle.xml_names.specs.Markup.{opening, closing, print_attr, print_decl, print_name, print_text, print_comment}
-use Rattle.xml_tree.specs.Print.{ending, is_empty, print, print_content}
+use Rattle.xml_names.specs.Markup.{tag_front, end_tag_text, print_attr, print_decl, print_name, print_text, print_comment}
+use Rattle.xml_tree.specs.Print.{rest_of_element, is_empty, print, print_content}
 use Rattle.xml_tree.specs.Proper.{IsTag, ProperIn}
 use Rattle.xml_tree.specs.inner.Proper.{Proper}
 use Rattle.xml_names.specs.Scopes.{bound, xmlns_prefix}
@@ -16,7 +16,7 @@ use Rattle.xml_tokens.specs.declared.fault_kind.FaultKind.{FaultKind}
 use Rattle.tree_text.specs.Names.{decls_of, attrs_of, element_of, inside_tag as inside}
 use Rattle.xml_tokens.specs.Values.{written, written_by}
 use Rattle.tree_text.specs.Pieces.{StartTag}
-use Rattle.tree_text.specs.readers.Texts.{read_behind_tag, read_element}
+use Rattle.tree_text.specs.readers.Texts.{read_after_tag, read_element}
 use Rattle.xml_tokens.proofs.ReadFronts.{Reads, reads_sequence, reads_valued, reads_before}
 use Rattle.tree_text.proofs.PrintedNames.{printed_head}
 use Rattle.tree_text.proofs.PrintedTags.{still_unbound, tag_from, tag_mark, tag_read}
@@ -29,7 +29,7 @@ written_is : (p l : List ℕ) → print_name (record { prefix = p; local = l }) 
 written_is [] l = refl
 written_is (c ∷ cs) l = refl
 
-closing_is : (n : Name) (rest : List ℕ) → closing n ++ rest ≡ 60 ∷ 47 ∷ (written n ++ 62 ∷ rest)
+closing_is : (n : Name) (rest : List ℕ) → end_tag_text n ++ rest ≡ 60 ∷ 47 ∷ (written n ++ 62 ∷ rest)
 closing_is n rest = ap (λ (z : List ℕ). 60 ∷ 47 ∷ z) (append_assoc (print_name n) (62 ∷ []) rest ∙ ap (λ (z : List ℕ). z ++ 62 ∷ rest) (written_is n.prefix n.local))
 
 -- ---- one element, whose content is read
@@ -47,38 +47,38 @@ module _ (levels depth : ℕ) (scope : List (List Decl)) (n : Name) (ds : List D
 
   -- what follows the tag
   abbrev behind : Bool → List ℕ → List ℕ
-  behind empty rest = cond empty rest ((print_content k ++ closing n) ++ rest)
+  behind empty rest = cond empty rest ((print_content k ++ end_tag_text n) ++ rest)
 
-  behind_read : (empty : Bool) (rest : List ℕ) → is_empty k ≡ empty → Reads (read_behind_tag (inner ds) n empty) (behind empty rest) k rest
-  behind_read true rest e = subst (λ (z : Content). Reads (read_behind_tag (inner ds) n true) rest z rest) (sym (no_content k e)) (record { read = refl })
+  behind_read : (empty : Bool) (rest : List ℕ) → is_empty k ≡ empty → Reads (read_after_tag (inner ds) n empty) (behind empty rest) k rest
+  behind_read true rest e = subst (λ (z : Content). Reads (read_after_tag (inner ds) n true) rest z rest) (sym (no_content k e)) (record { read = refl })
   behind_read false rest e =
       let end = written n ++ 62 ∷ rest in
-      let text : (print_content k ++ closing n) ++ rest ≡ print_content k ++ 60 ∷ 47 ∷ end = append_assoc (print_content k) (closing n) rest ∙ ap (λ (z : List ℕ). print_content k ++ z) (closing_is n rest) in
-      subst (λ (z : List ℕ). Reads (read_behind_tag (inner ds) n false) z k rest) (sym text)
+      let text : (print_content k ++ end_tag_text n) ++ rest ≡ print_content k ++ 60 ∷ 47 ∷ end = append_assoc (print_content k) (end_tag_text n) rest ∙ ap (λ (z : List ℕ). print_content k ++ z) (closing_is n rest) in
+      subst (λ (z : List ℕ). Reads (read_after_tag (inner ds) n false) z k rest) (sym text)
       (reads_before (reads_content (inner ds) (print_content k ++ 60 ∷ 47 ∷ end) k (60 ∷ 47 ∷ end) (inside_read end)) (end_read n rest))
 
-  by_empty : (empty : Bool) (rest : List ℕ) → is_empty k ≡ empty → Reads (read_element (suc levels) scope depth) (opening n ds ats ++ (tag_mark empty ++ behind empty rest)) (tree_of n ds ats k) rest
+  by_empty : (empty : Bool) (rest : List ℕ) → is_empty k ≡ empty → Reads (read_element (suc levels) scope depth) (tag_front n ds ats ++ (tag_mark empty ++ behind empty rest)) (tree_of n ds ats k) rest
   by_empty empty rest e =
       let t = tag_read scope n ds ats empty (behind empty rest) unbound start_tag in
       let raw_attribute = (tag_from n ds ats empty t.size).raw_attribute in
-      let after = subst (λ (z : List Decl). Reads (read_behind_tag (inner z) n empty) (behind empty rest) k rest) (sym t.decls) (behind_read empty rest e) in
-      let whole = reads_valued element_of (reads_sequence (λ (x : StartTag). read_behind_tag (read_element levels (inside scope x) (depth + 1)) x.name x.is_empty) t.read after) in
+      let after = subst (λ (z : List Decl). Reads (read_after_tag (inner z) n empty) (behind empty rest) k rest) (sym t.decls) (behind_read empty rest e) in
+      let whole = reads_valued element_of (reads_sequence (λ (x : StartTag). read_after_tag (read_element levels (inside scope x) (depth + 1)) x.name x.is_empty) t.read after) in
       let same : tree_of n (decls_of raw_attribute) (attrs_of raw_attribute) k ≡ tree_of n ds ats k = ap (λ (z : List Decl). tree_of n z (attrs_of raw_attribute) k) t.decls ∙ ap (λ (z : List Attr). tree_of n ds z k) t.attrs in
-      subst (λ (z : Tree). Reads (read_element (suc levels) scope depth) (opening n ds ats ++ (tag_mark empty ++ behind empty rest)) z rest) same whole
+      subst (λ (z : Tree). Reads (read_element (suc levels) scope depth) (tag_front n ds ats ++ (tag_mark empty ++ behind empty rest)) z rest) same whole
 
-  ending_is : (empty : Bool) (rest : List ℕ) → (opening n ds ats ++ ending n empty (print_content k)) ++ rest ≡ opening n ds ats ++ (tag_mark empty ++ behind empty rest)
-  ending_is true rest = append_assoc (opening n ds ats) (47 ∷ 62 ∷ []) rest
-  ending_is false rest = append_assoc (opening n ds ats) (62 ∷ (print_content k ++ closing n)) rest
+  ending_is : (empty : Bool) (rest : List ℕ) → (tag_front n ds ats ++ rest_of_element n empty (print_content k)) ++ rest ≡ tag_front n ds ats ++ (tag_mark empty ++ behind empty rest)
+  ending_is true rest = append_assoc (tag_front n ds ats) (47 ∷ 62 ∷ []) rest
+  ending_is false rest = append_assoc (tag_front n ds ats) (62 ∷ (print_content k ++ end_tag_text n)) rest
 
-  pub element_read : (rest : List ℕ) → Reads (read_element (suc levels) scope depth) ((opening n ds ats ++ ending n (is_empty k) (print_content k)) ++ rest) (tree_of n ds ats k) rest
+  pub element_read : (rest : List ℕ) → Reads (read_element (suc levels) scope depth) ((tag_front n ds ats ++ rest_of_element n (is_empty k) (print_content k)) ++ rest) (tree_of n ds ats k) rest
   element_read rest = subst (λ (z : List ℕ). Reads (read_element (suc levels) scope depth) z (tree_of n ds ats k) rest) (sym (ending_is (is_empty k) rest)) (by_empty (is_empty k) rest refl)
 
 -- where the print of an element begins
-pub element_head : (here : List (List Decl)) (n : Name) (ds : List Decl) (ats : List Attr) (end rest : List ℕ) → IsTag here n ds ats → (d : ℕ) × (y : List ℕ) × ((opening n ds ats ++ end) ++ rest ≡ 60 ∷ d ∷ y) × (is_name_start d ≡ true)
+pub element_head : (here : List (List Decl)) (n : Name) (ds : List Decl) (ats : List Attr) (end rest : List ℕ) → IsTag here n ds ats → (d : ℕ) × (y : List ℕ) × ((tag_front n ds ats ++ end) ++ rest ≡ 60 ∷ d ∷ y) × (is_name_start d ≡ true)
 element_head here n ds ats end rest h =
     let attrs = flat_map print_decl ds ++ flat_map print_attr ats in
     let m = printed_head n (attrs ++ (end ++ rest)) (record { prefix = h.named.prefix; local = h.named.local }) in
-    (m.0, m.1, append_assoc (opening n ds ats) end rest ∙ ap (λ (z : List ℕ). 60 ∷ z) (append_assoc (print_name n) attrs (end ++ rest) ∙ m.2), m.3)
+    (m.0, m.1, append_assoc (tag_front n ds ats) end rest ∙ ap (λ (z : List ℕ). 60 ∷ z) (append_assoc (print_name n) attrs (end ++ rest) ∙ m.2), m.3)
 
 -- ---- all content
 
@@ -92,18 +92,18 @@ content_read (more t n ds ats k others) scope (suc levels) depth rest u h le =
     let inner = read_element (suc levels) scope depth in
     let tail = 60 ∷ 47 ∷ rest in
     let unbound = still_unbound scope ds u h.1.declarations in
-    let elem = opening n ds ats ++ ending n (is_empty k) (print_content k) in
+    let elem = tag_front n ds ats ++ rest_of_element n (is_empty k) (print_content k) in
     let after = print_content others ++ tail in
     let read = element_read levels depth scope n ds ats k unbound h.1 (λ r. content_read k (scope ++ ds ∷ []) levels (depth + 1) r unbound h.2 (omega (arith, le))) after in
-    let begins = element_head (scope ++ ds ∷ []) n ds ats (ending n (is_empty k) (print_content k)) after h.1 in
+    let begins = element_head (scope ++ ds ∷ []) n ds ats (rest_of_element n (is_empty k) (print_content k)) after h.1 in
     let later = content_read others scope (suc levels) depth rest u h.3 (omega (arith, le)) in
-    let shorter : length after < length (elem ++ after) = (let m = ap length begins.2 in let l = length-append elem after in let f = filled n ds ats (ending n (is_empty k) (print_content k)) in omega (arith, l, f)) in
+    let shorter : length after < length (elem ++ after) = (let m = ap length begins.2 in let l = length-append elem after in let f = filled n ds ats (rest_of_element n (is_empty k) (print_content k)) in omega (arith, l, f)) in
     let all = content_text inner t (elem ++ after) _ tail h.0 (content_elem inner (elem ++ after) begins.0 begins.1 (tree_of n ds ats k) after others tail begins.2 begins.3 read shorter later) in
     let whole : print_content (more t n ds ats k others) ++ tail ≡ print_text t ++ (elem ++ after) = append_assoc (print_text t) (elem ++ print_content others) tail ∙ ap (λ (z : List ℕ). print_text t ++ z) (append_assoc elem (print_content others) tail) in
     let joined : with_text_before t (more [] n ds ats k others) ≡ more t n ds ats k others = ap (λ (z : List ℕ). more z n ds ats k others) (append-nil t) in
     subst (λ (z : List ℕ). IsContent inner z (more t n ds ats k others) tail) (sym whole) (subst (λ (z : Content). IsContent inner (print_text t ++ (elem ++ after)) z tail) joined all)
   where
-    filled : (n : Name) (ds : List Decl) (ats : List Attr) (rest : List ℕ) → 0 < length (opening n ds ats ++ rest)
+    filled : (n : Name) (ds : List Decl) (ats : List Attr) (rest : List ℕ) → 0 < length (tag_front n ds ats ++ rest)
     filled n ds ats rest = omega arith
 content_read (comment_node t x others) scope levels depth rest u h le =
     let inner = read_element levels scope depth in

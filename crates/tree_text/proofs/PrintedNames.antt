@@ -4,9 +4,9 @@ use Rattle.std.specs.Prelude.{◌==◌, None, Some}
 use Rattle.std.specs.List.{list_all}
 use Rattle.xml_grammar.specs.Rules.{AllPass}
 use Rattle.xml_grammar.specs.TextReading.{head_is, read_run, read_valued, read_word}
-use Rattle.xml_grammar.specs.readers.Functions.{read_empty, read_behind, read_quoted}
+use Rattle.xml_grammar.specs.readers.Functions.{read_empty, read_after, read_quoted}
 use Rattle.xml_names.specs.Characters.{is_char, is_space, is_name_start, is_name_char, is_name}
-use Rattle.xml_names.specs.Markup.{declaring, print_attr, print_decl, print_name, value_escape, quoted_text as quoted}
+use Rattle.xml_names.specs.Markup.{xmlns_name, print_attr, print_decl, print_name, value_escape, quoted_text as quoted}
 use Rattle.xml_tree.specs.Proper.{is_prefix}
 use Rattle.xml_names.specs.Scopes.{xmlns_prefix}
 use Rattle.xml_names.specs.declared.names.Name.{Name}
@@ -16,9 +16,9 @@ use Rattle.xml_tokens.specs.readers.Words.{colon}
 use Rattle.tree_text.specs.declared.raw_attribute.RawAttribute.{RawAttribute}
 use Rattle.xml_tokens.specs.Tokens.{is_quote}
 use Rattle.xml_tokens.specs.Values.{qname_of}
-use Rattle.tree_text.specs.readers.TagValues.{said_of}
+use Rattle.tree_text.specs.readers.TagValues.{raw_attribute_of}
 use Rattle.xml_tokens.specs.readers.Tokens.{colon_follows, read_name, read_qname, read_equals, read_value}
-use Rattle.tree_text.specs.readers.Texts.{read_attribute, read_said, said_follows}
+use Rattle.tree_text.specs.readers.Texts.{read_attribute, read_raw_attribute, raw_attribute_follows}
 use Rattle.xml_tokens.proofs.ReadFronts.{Reads, reads_sequence, reads_valued, reads_behind, reads_left, reads_right, reads_sized, reads_word, reads_one, reads_none, reads_name_of, reads_quoted, AllRead}
 use Rattle.tree_text.proofs.PrintedValues.{both, longer, reads_value}
 
@@ -42,7 +42,7 @@ pub record IsWritten (n : Name) : Type 0 where
   pub local : is_name n.local ≡ true
 
 qname_by : (p l rest : List ℕ) → is_prefix p ≡ true → is_name l ≡ true → EndsName rest → Reads read_qname (print_name (record { prefix = p; local = l }) ++ rest) (record { prefix = p; local = l }) rest
-qname_by [] l rest h k e = reads_valued qname_of (reads_sequence _ (reads_name l rest k e.0) (reads_right colon_follows (read_valued Some (read_behind (read_word colon) read_name)) e.1 (record { read = refl })))
+qname_by [] l rest h k e = reads_valued qname_of (reads_sequence _ (reads_name l rest k e.0) (reads_right colon_follows (read_valued Some (read_after (read_word colon) read_name)) e.1 (record { read = refl })))
 qname_by (c ∷ cs) l rest h k e =
     let name_first : Reads read_name ((c ∷ cs) ++ 58 ∷ (l ++ rest)) (c ∷ cs) (58 ∷ (l ++ rest)) = reads_name (c ∷ cs) (58 ∷ (l ++ rest)) h refl in
     let behind_colon = reads_behind (reads_word colon (l ++ rest)) (reads_name l rest k e.0) in
@@ -92,7 +92,7 @@ reads_attribute a rest p =
     let equals : Reads read_equals (61 ∷ (34 ∷ (flat_map value_escape a.value ++ 34 ∷ rest))) [] (34 ∷ (flat_map value_escape a.value ++ 34 ∷ rest)) = record { read = refl } in
     let after = reads_behind equals in_quotes in
     let name = reads_qname a.name (61 ∷ (34 ∷ (flat_map value_escape a.value ++ 34 ∷ rest))) p.name (refl, refl) in
-    let all = reads_sequence (λ _. read_behind read_equals (read_quoted is_quote read_value)) name after in
+    let all = reads_sequence (λ _. read_after read_equals (read_quoted is_quote read_value)) name after in
     let quotes : 61 ∷ (quoted a.value ++ rest) ≡ 61 ∷ (34 ∷ (flat_map value_escape a.value ++ 34 ∷ rest)) = ap (λ (z : List ℕ). 61 ∷ (34 ∷ z)) (append_assoc (flat_map value_escape a.value) (34 ∷ []) rest) in
     let text : (print_name a.name ++ 61 ∷ quoted a.value) ++ rest ≡ print_name a.name ++ 61 ∷ (34 ∷ (flat_map value_escape a.value ++ 34 ∷ rest)) = append_assoc (print_name a.name) (61 ∷ quoted a.value) rest ∙ ap (λ (z : List ℕ). print_name a.name ++ z) quotes in
     subst (λ (z : List ℕ). Reads read_attribute z (a.name, a.value) rest) (sym text) all
@@ -106,29 +106,29 @@ words_head a rest p =
     let m = printed_head a.name (61 ∷ quoted a.value ++ rest) p.name in
     (m.0, m.1, append_assoc (print_name a.name) (61 ∷ quoted a.value) rest ∙ m.2, m.3)
 
-space_then : (text : List ℕ) (d : ℕ) (y : List ℕ) → text ≡ d ∷ y → is_name_start d ≡ true → (head_is is_space text ≡ false) × (said_follows (32 ∷ text) ≡ true)
+space_then : (text : List ℕ) (d : ℕ) (y : List ℕ) → text ≡ d ∷ y → is_name_start d ≡ true → (head_is is_space text ≡ false) × (raw_attribute_follows (32 ∷ text) ≡ true)
 space_then text d y e h =
     let s = not_space d h in
-    (ap (head_is is_space) e ∙ s, ap (λ (z : List ℕ). said_follows (32 ∷ z)) e ∙ rw s h)
+    (ap (head_is is_space) e ∙ s, ap (λ (z : List ℕ). raw_attribute_follows (32 ∷ z)) e ∙ rw s h)
 
-reads_said : (a : Attr) (rest : List ℕ) → IsPrinted a → Reads read_said (print_attr a ++ rest) (said_from a) rest
+reads_said : (a : Attr) (rest : List ℕ) → IsPrinted a → Reads read_raw_attribute (print_attr a ++ rest) (said_from a) rest
 reads_said a rest p =
     let m = words_head a rest p in
     let s = space_then (words a ++ rest) m.0 m.1 m.2 m.3 in
     let gap = reads_valued (λ x. x.0 ∷ x.1) (reads_sequence (λ _. read_run is_space) (reads_one is_space 32 (words a ++ rest) refl) (reads_none is_space (words a ++ rest) s.0)) in
-    reads_valued said_of (reads_sequence _ gap (reads_sized (words a) (reads_attribute a rest p)))
+    reads_valued raw_attribute_of (reads_sequence _ gap (reads_sized (words a) (reads_attribute a rest p)))
 
 abbrev pub ArePrinted : List Attr → Type 0
 ArePrinted [] = Unit {0}
 ArePrinted (a ∷ ats) = IsPrinted a × ArePrinted ats
 
-pub reads_attrs : (ats : List Attr) (tail : List ℕ) → ArePrinted ats → said_follows tail ≡ false → AllRead said_follows read_said (map said_from ats) (flat_map print_attr ats ++ tail) tail
+pub reads_attrs : (ats : List Attr) (tail : List ℕ) → ArePrinted ats → raw_attribute_follows tail ≡ false → AllRead raw_attribute_follows read_raw_attribute (map said_from ats) (flat_map print_attr ats ++ tail) tail
 reads_attrs [] tail h e = (refl, e)
 reads_attrs (a ∷ ats) tail h e =
     let more = flat_map print_attr ats ++ tail in
     let m = words_head a more h.0 in
     let first = (space_then (words a ++ more) m.0 m.1 m.2 m.3).1 in
-    subst (λ (z : List ℕ). AllRead said_follows read_said (map said_from (a ∷ ats)) z tail) (sym (append_assoc (print_attr a) (flat_map print_attr ats) tail))
+    subst (λ (z : List ℕ). AllRead raw_attribute_follows read_raw_attribute (map said_from (a ∷ ats)) z tail) (sym (append_assoc (print_attr a) (flat_map print_attr ats) tail))
     (more, first, reads_said a more h.0, longer (print_attr a ++ more) (words a) more 32 refl, reads_attrs ats tail h.1 e)
 
 -- ---- declarations
@@ -141,7 +141,7 @@ declared_name (c ∷ cs) = record { prefix = xmlns_prefix; local = c ∷ cs }
 abbrev pub attr_for : Decl → Attr
 attr_for d = record { name = declared_name d.prefix; value = d.uri }
 
-declaring_name : (p : List ℕ) → declaring p ≡ print_name (declared_name p)
+declaring_name : (p : List ℕ) → xmlns_name p ≡ print_name (declared_name p)
 declaring_name [] = refl
 declaring_name (c ∷ cs) = refl
 

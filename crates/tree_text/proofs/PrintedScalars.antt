@@ -6,8 +6,8 @@ use Rattle.std.proofs.lemmas.Bool.Decides.{nat_tests}
 use lib.Utf8.{scalar, scalars}
 use Rattle.xml_names.specs.Characters.{is_char, is_name_start, is_name_char, is_name}
 use Rattle.xml_names.specs.Comments.{is_kept_char, hyphens_apart, is_comment}
-use Rattle.xml_names.specs.Markup.{opening, closing, print_attr, print_comment, print_decl, print_name, print_text, text_escape, value_escape, quoted_text as quoted}
-use Rattle.xml_tree.specs.Print.{ending, is_empty, print, print_content, header, document_print}
+use Rattle.xml_names.specs.Markup.{tag_front, end_tag_text, print_attr, print_comment, print_decl, print_name, print_text, text_escape, value_escape, quoted_text as quoted}
+use Rattle.xml_tree.specs.Print.{rest_of_element, is_empty, print, print_content, header, document_print}
 use Rattle.xml_tree.specs.Proper.{is_prefix, IsTag, ProperIn}
 use Rattle.xml_tree.specs.inner.Proper.{Proper}
 use Rattle.xml_tree.specs.Tree.{Content, last, more, comment_node, Tree}
@@ -108,20 +108,20 @@ attrs_scalars : (ats : List Attr) → ArePrinted ats → scalars (flat_map print
 attrs_scalars [] h = refl
 attrs_scalars (a ∷ ats) h = scalars-append (print_attr a) (flat_map print_attr ats) (attr_scalars a h.0) (attrs_scalars ats h.1)
 
-opening_scalars : (here : List (List Decl)) (n : Name) (ds : List Decl) (ats : List Attr) → IsTag here n ds ats → scalars (opening n ds ats) ≡ true
+opening_scalars : (here : List (List Decl)) (n : Name) (ds : List Decl) (ats : List Attr) → IsTag here n ds ats → scalars (tag_front n ds ats) ≡ true
 opening_scalars here n ds ats h =
     let attrs = ap scalars (as_attrs ds ats) ∙ attrs_scalars (map attr_for ds ++ ats) (printed_all here ds ats h.declarations h.attributes) in
     scalars-append (print_name n) (flat_map print_decl ds ++ flat_map print_attr ats) (qname_scalars n.prefix n.local h.named.prefix h.named.local) attrs
 
-closing_scalars : (n : Name) → scalars (print_name n) ≡ true → scalars (closing n) ≡ true
+closing_scalars : (n : Name) → scalars (print_name n) ≡ true → scalars (end_tag_text n) ≡ true
 closing_scalars n h = scalars-append (print_name n) (62 ∷ []) h refl
 
-ending_scalars : (n : Name) (empty : Bool) (inside : List ℕ) → scalars (print_name n) ≡ true → scalars inside ≡ true → scalars (ending n empty inside) ≡ true
+ending_scalars : (n : Name) (empty : Bool) (inside : List ℕ) → scalars (print_name n) ≡ true → scalars inside ≡ true → scalars (rest_of_element n empty inside) ≡ true
 ending_scalars n true inside h k = refl
-ending_scalars n false inside h k = scalars-append inside (closing n) k (closing_scalars n h)
+ending_scalars n false inside h k = scalars-append inside (end_tag_text n) k (closing_scalars n h)
 
-elem_scalars : (here : List (List Decl)) (n : Name) (ds : List Decl) (ats : List Attr) (empty : Bool) (inside : List ℕ) → IsTag here n ds ats → scalars inside ≡ true → scalars (opening n ds ats ++ ending n empty inside) ≡ true
-elem_scalars here n ds ats empty inside h k = scalars-append (opening n ds ats) (ending n empty inside) (opening_scalars here n ds ats h) (ending_scalars n empty inside (qname_scalars n.prefix n.local h.named.prefix h.named.local) k)
+elem_scalars : (here : List (List Decl)) (n : Name) (ds : List Decl) (ats : List Attr) (empty : Bool) (inside : List ℕ) → IsTag here n ds ats → scalars inside ≡ true → scalars (tag_front n ds ats ++ rest_of_element n empty inside) ≡ true
+elem_scalars here n ds ats empty inside h k = scalars-append (tag_front n ds ats) (rest_of_element n empty inside) (opening_scalars here n ds ats h) (ending_scalars n empty inside (qname_scalars n.prefix n.local h.named.prefix h.named.local) k)
 
 -- ---- content
 
@@ -138,7 +138,7 @@ letters (c ∷ t) h = scalars-append (text_escape c) (print_text t) (text_scalar
 content_scalars : (scope : List (List Decl)) (k : Content) → Proper scope k → scalars (print_content k) ≡ true
 content_scalars scope (last t) h = letters t h
 content_scalars scope (more t n ds ats k rest) h =
-    scalars-append (print_text t) _ (letters t h.0) (scalars-append (opening n ds ats ++ ending n (is_empty k) (print_content k)) (print_content rest)
+    scalars-append (print_text t) _ (letters t h.0) (scalars-append (tag_front n ds ats ++ rest_of_element n (is_empty k) (print_content k)) (print_content rest)
     (elem_scalars (scope ++ ds ∷ []) n ds ats (is_empty k) (print_content k) h.1 (content_scalars (scope ++ ds ∷ []) k h.2)) (content_scalars scope rest h.3))
 content_scalars scope (comment_node t x rest) h = scalars-append (print_text t) _ (letters t h.0) (scalars-append (print_comment x) (print_content rest) (comment_scalars x h.1) (content_scalars scope rest h.2))
 

@@ -9,7 +9,7 @@ use Rattle.std.proofs.lemmas.Slice.Eq.{bytes_eq-Decides}
 use Rattle.std.proofs.lemmas.Map.Keys.{IsDistinct-head, IsDistinct-tail}
 use Rattle.xml_names.specs.Characters.{is_char, is_space}
 use Rattle.xml_names.specs.ExpandedNames.{ExpandedName, attr_name, same_expanded}
-use Rattle.xml_names.specs.Markup.{opening, print_attr, print_name}
+use Rattle.xml_names.specs.Markup.{tag_front, print_attr, print_name}
 use Rattle.xml_tree.specs.Proper.{is_declaration, is_prefix, may_stand, IsAttribute, IsNamed, IsTag}
 use Rattle.xml_names.specs.Scopes.{bound, declared_uri, joined, some_text, xmlns_prefix}
 use Rattle.xml_names.specs.declared.names.Name.{Name}
@@ -21,13 +21,13 @@ use Rattle.xml_grammar.specs.readers.Functions.{read_judged}
 use Rattle.xml_tokens.specs.readers.Words.{less}
 use Rattle.xml_tokens.specs.declared.fault_kind.FaultKind.{FaultKind}
 use Rattle.tree_text.specs.declared.raw_attribute.RawAttribute.{RawAttribute}
-use Rattle.tree_text.specs.Names.{decls_of, attrs_of, is_misnamed, says_again, is_repeated, raw_attribute_decl as decl_of, is_declaring as declares, is_unbound_in as is_unbound}
-use Rattle.tree_text.specs.readers.TagNameFaults.{wrong_said, first_wrong, first_of_tag, counted_back, tag_fault}
+use Rattle.tree_text.specs.Names.{decls_of, attrs_of, is_misnamed, repeats_name, is_repeated, raw_attribute_decl as decl_of, is_declaring as declares, is_unbound_in as is_unbound}
+use Rattle.tree_text.specs.readers.TagNameFaults.{attribute_fault, first_wrong, first_of_tag, counted_back, tag_fault}
 use Rattle.tree_text.specs.Names as names
 use Rattle.tree_text.specs.Pieces.{StartTag}
 use Rattle.tree_text.specs.readers.TagValues.{start_tag_of}
 use Rattle.xml_tokens.specs.readers.Tokens.{read_spaces}
-use Rattle.tree_text.specs.readers.Texts.{read_said, said_follows, read_tag_end, read_tag}
+use Rattle.tree_text.specs.readers.Texts.{read_raw_attribute, raw_attribute_follows, read_tag_end, read_tag}
 use Rattle.xml_tokens.proofs.ReadFronts.{Reads, reads_sequence, reads_valued, reads_before, reads_behind, reads_judged, sized_by, reads_word, reads_none, reads_many}
 use Rattle.tree_text.proofs.PrintedValues.{not_true}
 use Rattle.tree_text.proofs.PrintedNames.{EndsName, reads_qname, said_from, ArePrinted, reads_attrs, declared_name, attr_for, as_attrs, decl_printed}
@@ -130,7 +130,7 @@ module _ (here : List (List Decl)) where
   -- no name repeats the meaning of an earlier one
   abbrev Apart : List RawAttribute → Type 0
   Apart [] = Unit {0}
-  Apart (e ∷ ss) = AllByRecursion (λ (s : RawAttribute). says_again here s e ≡ false) ss × Apart ss
+  Apart (e ∷ ss) = AllByRecursion (λ (s : RawAttribute). repeats_name here s e ≡ false) ss × Apart ss
 
   abbrev WellNamed : List RawAttribute → Type 0
   WellNamed ss = AllByRecursion (λ (s : RawAttribute). is_misnamed here s ≡ false) ss
@@ -141,30 +141,30 @@ module _ (here : List (List Decl)) where
 
   none_before : (front : List RawAttribute) (s : RawAttribute) (back : List RawAttribute) → Apart (front ++ s ∷ back) → is_repeated here front s ≡ false
   none_before [] s back h = refl
-  none_before (e ∷ front) s back h = rw (at_place (λ (z : RawAttribute). says_again here z e ≡ false) front s back h.0) (none_before front s back h.1)
+  none_before (e ∷ front) s back h = rw (at_place (λ (z : RawAttribute). repeats_name here z e ≡ false) front s back h.0) (none_before front s back h.1)
 
   none_wrong : (front ss : List RawAttribute) (at : ℕ) → Apart (front ++ ss) → WellNamed ss → first_wrong here front at ss ≡ None
   none_wrong front [] at h w = refl
   none_wrong front (s ∷ ss) at h w =
       let r = none_before front s ss h in
-      let right : wrong_said here front s ≡ None = rw w.0 (rw r refl) in
+      let right : attribute_fault here front s ≡ None = rw w.0 (rw r refl) in
       let more = none_wrong (front ++ s ∷ []) ss (at + (s.gap + s.size)) (subst Apart (sym (append_assoc front (s ∷ []) ss)) h) w.1 in
       rw right more
 
-  decl_apart : (e d : Decl) → bytes_eq e.prefix d.prefix ≡ false → says_again here (said_from (attr_for d)) (said_from (attr_for e)) ≡ false
+  decl_apart : (e d : Decl) → bytes_eq e.prefix d.prefix ≡ false → repeats_name here (said_from (attr_for d)) (said_from (attr_for e)) ≡ false
   decl_apart e d h =
       let first = ap (λ (z : List ℕ). bytes_eq z (decl_of (said_from (attr_for d))).prefix) (prefix_back e.prefix) in
       let second = ap (λ (z : List ℕ). bytes_eq e.prefix z) (prefix_back d.prefix) in
       rw (declares_for d.prefix) (rw (declares_for e.prefix) (first ∙ second ∙ h))
 
-  attr_apart : (e : Decl) (a : Attr) → declares a.name ≡ false → says_again here (said_from a) (said_from (attr_for e)) ≡ false
+  attr_apart : (e : Decl) (a : Attr) → declares a.name ≡ false → repeats_name here (said_from a) (said_from (attr_for e)) ≡ false
   attr_apart e a n = rw n (rw (declares_for e.prefix) refl)
 
-  attrs_apart : (e a : Attr) → declares e.name ≡ false → declares a.name ≡ false → same_expanded (attr_name here e.name) (attr_name here a.name) ≡ false → says_again here (said_from a) (said_from e) ≡ false
+  attrs_apart : (e a : Attr) → declares e.name ≡ false → declares a.name ≡ false → same_expanded (attr_name here e.name) (attr_name here a.name) ≡ false → repeats_name here (said_from a) (said_from e) ≡ false
   attrs_apart e a m n h = rw n (rw m h)
 
   apart_from_attr : (e : Attr) (ats : List Attr) → declares e.name ≡ false → Others ats → AllByRecursion (λ (x : ExpandedName). same_expanded (attr_name here e.name) x ≡ false) (map (λ (a : Attr). attr_name here a.name) ats)
-      → AllByRecursion (λ (s : RawAttribute). says_again here s (said_from e) ≡ false) (map said_from ats)
+      → AllByRecursion (λ (s : RawAttribute). repeats_name here s (said_from e) ≡ false) (map said_from ats)
   apart_from_attr e [] m n h = tt
   apart_from_attr e (a ∷ ats) m n h = (attrs_apart e a m n.0 h.0, apart_from_attr e ats m n.1 h.1)
 
@@ -175,12 +175,12 @@ module _ (here : List (List Decl)) where
       let xs = map (λ (z : Attr). attr_name here z.name) ats in
       (apart_from_attr a ats n.0 n.1 (IsDistinct-head same_expanded x xs h), apart_attrs ats n.1 (IsDistinct-tail same_expanded x xs h))
 
-  attrs_from_decl : (e : Decl) (ats : List Attr) → Others ats → AllByRecursion (λ (s : RawAttribute). says_again here s (said_from (attr_for e)) ≡ false) (map said_from ats)
+  attrs_from_decl : (e : Decl) (ats : List Attr) → Others ats → AllByRecursion (λ (s : RawAttribute). repeats_name here s (said_from (attr_for e)) ≡ false) (map said_from ats)
   attrs_from_decl e [] n = tt
   attrs_from_decl e (a ∷ ats) n = (attr_apart e a n.0, attrs_from_decl e ats n.1)
 
   apart_from_decl : (e : Decl) (ds : List Decl) (ats : List Attr) → Others ats → AllByRecursion (λ (p : List ℕ). bytes_eq e.prefix p ≡ false) (map (λ (d : Decl). d.prefix) ds)
-      → AllByRecursion (λ (s : RawAttribute). says_again here s (said_from (attr_for e)) ≡ false) (said_all ds ats)
+      → AllByRecursion (λ (s : RawAttribute). repeats_name here s (said_from (attr_for e)) ≡ false) (said_all ds ats)
   apart_from_decl e [] ats n h = attrs_from_decl e ats n
   apart_from_decl e (d ∷ ds) ats n h = (decl_apart e d h.0, apart_from_decl e ds ats n h.1)
 
@@ -246,7 +246,7 @@ mark_ends : (empty : Bool) (rest : List ℕ) → EndsName (tag_mark empty ++ res
 mark_ends true rest = (refl, refl)
 mark_ends false rest = (refl, refl)
 
-mark_follows : (empty : Bool) (rest : List ℕ) → said_follows (tag_mark empty ++ rest) ≡ false
+mark_follows : (empty : Bool) (rest : List ℕ) → raw_attribute_follows (tag_mark empty ++ rest) ≡ false
 mark_follows true rest = refl
 mark_follows false rest = refl
 
@@ -262,7 +262,7 @@ abbrev pub read_judged_tag : List (List Decl) → Reader FaultKind StartTag
 read_judged_tag scope = read_judged (tag_fault scope) read_tag
 
 abbrev tag_text : Name → List Decl → List Attr → Bool → List ℕ → List ℕ
-tag_text n ds ats empty rest = opening n ds ats ++ (tag_mark empty ++ rest)
+tag_text n ds ats empty rest = tag_front n ds ats ++ (tag_mark empty ++ rest)
 
 module _ (scope : List (List Decl)) (n : Name) (ds : List Decl) (ats : List Attr) (empty : Bool) (rest : List ℕ) (unbound : bound (scope ++ ds ∷ []) xmlns_prefix ≡ None) (h : IsTag (scope ++ ds ∷ []) n ds ats) where
   others : Others ats
@@ -274,7 +274,7 @@ module _ (scope : List (List Decl)) (n : Name) (ds : List Decl) (ats : List Attr
       let all = map attr_for ds ++ ats in
       let mark = tag_mark empty ++ rest in
       let printed = printed_all (scope ++ ds ∷ []) ds ats h.declarations h.attributes in
-      let raw_attribute = reads_many said_follows read_said (map said_from all) (flat_map print_attr all ++ mark) mark (reads_attrs all mark printed (mark_follows empty rest)) in
+      let raw_attribute = reads_many raw_attribute_follows read_raw_attribute (map said_from all) (flat_map print_attr all ++ mark) mark (reads_attrs all mark printed (mark_follows empty rest)) in
       let behind_name = reads_sequence (λ _. read_tag_end) (reads_before raw_attribute (no_space empty rest)) (reads_mark empty rest) in
       let name = reads_qname n (flat_map print_attr all ++ mark) (record { prefix = h.named.prefix; local = h.named.local }) (ends_name all mark (mark_ends empty rest)) in
       reads_valued start_tag_of (sized_by _ refl (reads_behind (reads_word less (print_name n ++ (flat_map print_attr all ++ mark))) (reads_sequence _ name behind_name)))

@@ -10,7 +10,7 @@ use Rattle.xml_grammar.specs.TextReading.{Stop, Syntax, Faulty, Reader}
 use Rattle.xml_grammar.specs.readers.Functions.{read_whole}
 use Rattle.xml_grammar.specs.Answers.{Answers, IsSpelled}
 use Rattle.xml_names.specs.Characters.{is_char, is_space, is_name_start}
-use Rattle.xml_tree.specs.Print.{print, ending, is_empty, print_content, header, document_print}
+use Rattle.xml_tree.specs.Print.{print, rest_of_element, is_empty, print_content, header, document_print}
 use Rattle.xml_tree.specs.Proper.{ProperIn}
 use Rattle.xml_names.specs.Scopes.{bound, xmlns_prefix}
 use Rattle.xml_tree.specs.Tree.{Tree, height}
@@ -25,7 +25,7 @@ use Rattle.tree_print.specs.AttributeBodyPrints.{body_escape, body_print}
 use Rattle.xml_tokens.specs.readers.Tokens.{read_spaces}
 use Rattle.xml_markup.specs.readers.Markup.{read_mark_if, read_declaration_if, read_dropped, misc_follows, read_prolog_misc, read_prolog, read_epilog}
 use Rattle.tree_text.specs.readers.Texts.{read_element, read_text, read_spelling}
-use Rattle.tree_text.specs.readers.Whole.{text_read, body_read}
+use Rattle.tree_text.specs.readers.Whole.{read_document_text, read_body_text}
 use Rattle.tree_text.proofs.ReadAnswers.{text_answer, body_answer}
 use Rattle.xml_tokens.proofs.ReadFronts.{Reads, reads_valued, reads_before, reads_behind, reads_none, reads_more, AreBetween, reads_between}
 use Rattle.tree_text.proofs.PrintedValues.{reads_spelling}
@@ -69,7 +69,7 @@ module _ (limit : ℕ) (scope : List (List Decl)) (e : Tree) (unbound : bound sc
 
   head : (d : ℕ) × (y : List ℕ) × (print e ≡ 60 ∷ d ∷ y) × (is_name_start d ≡ true)
   head =
-      let m = element_head (scope ++ e.decls ∷ []) e.name e.decls e.attrs (ending e.name (is_empty e.content) (print_content e.content)) [] proper.0 in
+      let m = element_head (scope ++ e.decls ∷ []) e.name e.decls e.attrs (rest_of_element e.name (is_empty e.content) (print_content e.content)) [] proper.0 in
       (m.0, m.1, sym (append-nil (print e)) ∙ m.2, m.3)
 
   end : Reads read_epilog [] tt []
@@ -97,7 +97,7 @@ module _ (limit : ℕ) (scope : List (List Decl)) (text : List ℕ) (e : Tree) (
   decoded : chars (encode_utf8_all text) ≡ text
   decoded = chars-encodes text valid
 
-  bytes_read : text_read limit scope (encode_utf8_all text) ≡ Ok e
+  bytes_read : read_document_text limit scope (encode_utf8_all text) ≡ Ok e
   bytes_read =
       let utf8 : is_utf8 (encode_utf8_all text) ≡ true = is_utf8-from_IsUtf8 (encode_utf8_all text) (text, (valid, refl)) in
       rw utf8 (ap (told (encode_utf8_all text)) (ap (read_whole (read_text limit scope)) decoded ∙ whole read))
@@ -118,7 +118,7 @@ module _ (limit : ℕ) (scope : List (List Decl)) (text : List ℕ) (e : Tree) (
 
 -- the result for a text that is read
 pub record IsRead (limit : ℕ) (scope : List (List Decl)) (text : List ℕ) (e : Tree) : Type 0 where
-  pub read : text_read limit scope (encode_utf8_all text) ≡ Ok e
+  pub read : read_document_text limit scope (encode_utf8_all text) ≡ Ok e
   pub spelled : (n : ℕ) → limit + 1 < n → IsSpelled (faults limit) (document n scope) text e
 
 pub element_is_read : (limit : ℕ) (scope : List (List Decl)) (e : Tree) → bound scope xmlns_prefix ≡ None → ProperIn scope e → height e ≤ limit → IsRead limit scope (print e) e
@@ -156,7 +156,7 @@ no_quotes (c ∷ cs) = escape_quotes c (body_print cs)
 body_whole : (value : List ℕ) → list_all is_char value ≡ true → read_whole read_spelling (body_print value) ≡ Ok value
 body_whole value h = whole (subst (λ (z : List ℕ). Reads read_spelling z value []) (append-nil (body_print value)) (reads_spelling value h))
 
-pub body_is_read : (value : List ℕ) → list_all is_char value ≡ true → body_read (encode_utf8_all (body_print value)) ≡ Ok value
+pub body_is_read : (value : List ℕ) → list_all is_char value ≡ true → read_body_text (encode_utf8_all (body_print value)) ≡ Ok value
 body_is_read value h =
     let text = body_print value in
     let valid = body_print_scalars value h in

@@ -18,7 +18,7 @@ use Rattle.xml_tokens.specs.declared.fault_kind.FaultKind.TheVariants.{Unbound, 
 use Rattle.tree_text.specs.declared.raw_attribute.RawAttribute.{RawAttribute}
 use Rattle.xml_tokens.specs.Values.{qname_of, line_ends, blanks, raw, more_value}
 use Rattle.tree_text.specs.Pieces.{StartTag}
-use Rattle.tree_text.specs.Names.{said_attr, decls_of, attrs_of, is_misnamed, says_again, is_repeated, widths, IsWrong, inside_tag as inside, opening_size as opening, raw_attribute_decl as decl_of, is_declaring as declares, is_unbound_in as is_unbound}
+use Rattle.tree_text.specs.Names.{raw_attribute_attr, decls_of, attrs_of, is_misnamed, repeats_name, is_repeated, widths, IsWrong, inside_tag as inside, opening_size as opening, raw_attribute_decl as decl_of, is_declaring as declares, is_unbound_in as is_unbound}
 use Rattle.xml_tokens.specs.Tokens.{last_char, name, qname, reference, char_ref, entity, is_raw, is_raw_in, value}
 use Rattle.tree_text.specs.Grammar.{raw_attribute, start_tag}
 use Rattle.tree_text.proofs.JudgeTags.{widths_parts, tag_sizes}
@@ -175,7 +175,7 @@ other_name n d e f =
     absurd cc
 
 module _ (here : List (List Decl)) where
-  attr_proper : (s : RawAttribute) → IsSaid s → declares s.name ≡ false → is_unbound here s.name ≡ false → IsAttribute here (said_attr s)
+  attr_proper : (s : RawAttribute) → IsSaid s → declares s.name ≡ false → is_unbound here s.name ≡ false → IsAttribute here (raw_attribute_attr s)
   attr_proper s i d h = record { named = named_in here s.name i.named h; other = other_name s.name d; value = pass_all is_char s.value i.chars }
 
   misnamed_decl : (s : RawAttribute) → declares s.name ≡ true → is_misnamed here s ≡ false → may_stand (decl_of s) ≡ true
@@ -204,7 +204,7 @@ module _ (here : List (List Decl)) where
   attrs_proper [] earlier i h = tt
   attrs_proper (s ∷ ss) earlier i h = by (declares s.name) refl (attrs_proper ss (earlier ++ s ∷ []) i.1 h.2)
     where
-      by : (b : Bool) → declares s.name ≡ b → AllByRecursion (IsAttribute here) (attrs_of ss) → AllByRecursion (IsAttribute here) (cond b (attrs_of ss) (said_attr s ∷ attrs_of ss))
+      by : (b : Bool) → declares s.name ≡ b → AllByRecursion (IsAttribute here) (attrs_of ss) → AllByRecursion (IsAttribute here) (cond b (attrs_of ss) (raw_attribute_attr s ∷ attrs_of ss))
       by true e r = r
       by false e r = (attr_proper s i.0 e (misnamed_attr s e h.0), r)
 
@@ -221,11 +221,11 @@ module _ (here : List (List Decl)) where
       or_later true b h = absurd cc
       or_later false b h = h
 
-  unsaid : (ss pre : List RawAttribute) (e : RawAttribute) (post : List RawAttribute) → AllRight here (pre ++ e ∷ post) ss → AllByRecursion (λ s. says_again here s e ≡ false) ss
+  unsaid : (ss pre : List RawAttribute) (e : RawAttribute) (post : List RawAttribute) → AllRight here (pre ++ e ∷ post) ss → AllByRecursion (λ s. repeats_name here s e ≡ false) ss
   unsaid [] pre e post h = tt
-  unsaid (s ∷ ss) pre e post h = (any_false (says_again here s) pre e post h.1, unsaid ss pre e (post ++ s ∷ []) (subst (λ (z : List RawAttribute). AllRight here z ss) (append_assoc pre (e ∷ post) (s ∷ [])) h.2))
+  unsaid (s ∷ ss) pre e post h = (any_false (repeats_name here s) pre e post h.1, unsaid ss pre e (post ++ s ∷ []) (subst (λ (z : List RawAttribute). AllRight here z ss) (append_assoc pre (e ∷ post) (s ∷ [])) h.2))
 
-  decls_apart : (e : RawAttribute) (ss : List RawAttribute) → declares e.name ≡ true → AllByRecursion (λ s. says_again here s e ≡ false) ss → AllByRecursion (λ y. bytes_eq (decl_of e).prefix y ≡ false) (map (λ d. d.prefix) (decls_of ss))
+  decls_apart : (e : RawAttribute) (ss : List RawAttribute) → declares e.name ≡ true → AllByRecursion (λ s. repeats_name here s e ≡ false) ss → AllByRecursion (λ y. bytes_eq (decl_of e).prefix y ≡ false) (map (λ d. d.prefix) (decls_of ss))
   decls_apart e [] d h = tt
   decls_apart e (s ∷ ss) d h = by (declares s.name) h.0 (decls_apart e ss d h.1)
     where
@@ -238,7 +238,7 @@ module _ (here : List (List Decl)) where
       by true g r = (meets (declares e.name) (bytes_eq (decl_of e).prefix (decl_of s).prefix) true d g, r)
       by false g r = r
 
-  attrs_apart : (e : RawAttribute) (ss : List RawAttribute) → declares e.name ≡ false → AllByRecursion (λ s. says_again here s e ≡ false) ss → AllByRecursion (λ y. same_expanded (attr_name here e.name) y ≡ false) (map (λ a. attr_name here a.name) (attrs_of ss))
+  attrs_apart : (e : RawAttribute) (ss : List RawAttribute) → declares e.name ≡ false → AllByRecursion (λ s. repeats_name here s e ≡ false) ss → AllByRecursion (λ y. same_expanded (attr_name here e.name) y ≡ false) (map (λ a. attr_name here a.name) (attrs_of ss))
   attrs_apart e [] d h = tt
   attrs_apart e (s ∷ ss) d h = by (declares s.name) h.0 (attrs_apart e ss d h.1)
     where
@@ -247,7 +247,7 @@ module _ (here : List (List Decl)) where
       meets false b k g = g
 
       by : (b : Bool) → cond b (declares e.name && bytes_eq (decl_of e).prefix (decl_of s).prefix) (not (declares e.name) && same_expanded (attr_name here e.name) (attr_name here s.name)) ≡ false
-          → AllByRecursion (λ y. same_expanded (attr_name here e.name) y ≡ false) (map (λ a. attr_name here a.name) (attrs_of ss)) → AllByRecursion (λ y. same_expanded (attr_name here e.name) y ≡ false) (map (λ a. attr_name here a.name) (cond b (attrs_of ss) (said_attr s ∷ attrs_of ss)))
+          → AllByRecursion (λ y. same_expanded (attr_name here e.name) y ≡ false) (map (λ a. attr_name here a.name) (attrs_of ss)) → AllByRecursion (λ y. same_expanded (attr_name here e.name) y ≡ false) (map (λ a. attr_name here a.name) (cond b (attrs_of ss) (raw_attribute_attr s ∷ attrs_of ss)))
       by true g r = r
       by false g r = (meets (declares e.name) (same_expanded (attr_name here e.name) (attr_name here s.name)) d g, r)
 
@@ -265,7 +265,7 @@ module _ (here : List (List Decl)) where
   attrs_distinct [] earlier h = tt
   attrs_distinct (s ∷ ss) earlier h = by (declares s.name) refl (attrs_distinct ss (earlier ++ s ∷ []) h.2)
     where
-      by : (b : Bool) → declares s.name ≡ b → IsDistinct same_expanded (map (λ a. attr_name here a.name) (attrs_of ss)) → IsDistinct same_expanded (map (λ a. attr_name here a.name) (cond b (attrs_of ss) (said_attr s ∷ attrs_of ss)))
+      by : (b : Bool) → declares s.name ≡ b → IsDistinct same_expanded (map (λ a. attr_name here a.name) (attrs_of ss)) → IsDistinct same_expanded (map (λ a. attr_name here a.name) (cond b (attrs_of ss) (raw_attribute_attr s ∷ attrs_of ss)))
       by true e r = r
       by false e r = (attrs_apart s ss e (unsaid ss earlier s [] h.2), r)
 

@@ -12,7 +12,7 @@ use Rattle.xml_tree.specs.inner.Proper.{Proper}
 use Rattle.xml_names.specs.declared.names.Name.{Name}
 use Rattle.xml_names.specs.declared.names.Decl.{Decl}
 use Rattle.xml_tree.proofs.EverywhereLaws.{Letters-append}
-use Rattle.xml_grammar.specs.Rules.{Mark, Rule, Split, AllPass, Each, word, sequence, many, judged, optional, keeping_first, keeping_second}
+use Rattle.xml_grammar.specs.Rules.{Mark, Rule, Split, AllPass, Each, word, sequence, many, with_value_marks, optional, keeping_first, keeping_second}
 use Rattle.xml_grammar.specs.Answers.{IsCalm, IsSpelled}
 use Rattle.xml_grammar.proofs.Laws.{Lawful}
 use Rattle.xml_markup.specs.readers.Words.{byte_order_mark}
@@ -23,7 +23,7 @@ use Rattle.tree_text.specs.FaultKinds.{is_fault, faults}
 use Rattle.tree_text.specs.Names.{IsWrong, inside_tag as inside}
 use Rattle.xml_tokens.specs.Tokens.{is_raw, chars}
 use Rattle.xml_markup.specs.Grammar.{dropped, IsForeign, xml_declaration, section, prolog, epilog}
-use Rattle.tree_text.specs.Grammar.{markup, content, start_tag, end_tag, behind_tag, element, document}
+use Rattle.tree_text.specs.Grammar.{markup, content, start_tag, end_tag, after_tag, element, document}
 use Rattle.tree_text.proofs.JudgeTags.{is_wrong_fault}
 use Rattle.tree_text.proofs.ReadParts.{led_tag}
 use Rattle.tree_text.proofs.ReadDocuments.{lawful_document}
@@ -148,7 +148,7 @@ module _ (c : List (List Decl)) (room : ℕ) where
         (pieces_stand m.0.1 m.1.back m.1.back_is (calm_second limit chars (λ _. many (sequence (markup inner) (λ _. chars))) m.0.0 u _ m.1 calm))
         (chars_letters c m.1.front m.0.0 m.1.front_is, omega arith))
 
-    behind_fits : (n : Name) (b : Bool) (u : List ℕ) (k : Content) → (behind_tag inner n b).Spells u k → Calm limit (behind_tag inner n b) u → Fits k
+    behind_fits : (n : Name) (b : Bool) (u : List ℕ) (k : Content) → (after_tag inner n b).Spells u k → Calm limit (after_tag inner n b) u → Fits k
     behind_fits n true u k m calm = subst Fits (sym m.1) (tt, omega arith)
     behind_fits n false u k m calm = subst Fits (sym m.2) (content_fits m.1.front m.0.0 m.1.front_is (calm_first limit (content inner) (λ _. end_tag n) u _ _ m.1 calm))
 
@@ -167,11 +167,11 @@ module _ (limit : ℕ) where
   element_proper (suc n) scope depth u t m calm =
       let x = m.0.0 in
       let inner : Rule FaultKind Tree = element n (inside scope x) (depth + 1) in
-      let unmarked : Calm limit (sequence (judged (IsWrong scope) start_tag) (λ t. behind_tag (element n (inside scope t) (depth + 1)) t.name t.is_empty)) u = λ k b v w j e f. calm k b v w j (inr e) f in
+      let unmarked : Calm limit (sequence (with_value_marks (IsWrong scope) start_tag) (λ t. after_tag (element n (inside scope t) (depth + 1)) t.name t.is_empty)) u = λ k b v w j e f. calm k b v w j (inr e) f in
       let past = (led_tag (faults limit)).spells m.1.front x m.1.front_is in
       let shallow : depth ≤ limit = within_limit limit depth (λ f. calm (Depth depth) 2 (60 ∷ past.next ∷ []) (past.rest ++ m.1.back) (m.1.joined ∙ ap (λ (z : List ℕ). z ++ m.1.back) past.joined) (inl (refl, refl, (past.next, refl, past.is))) f) in
-      let first = calm_first limit (judged (IsWrong scope) start_tag) (λ t. behind_tag (element n (inside scope t) (depth + 1)) t.name t.is_empty) u _ _ m.1 unmarked in
-      let second = calm_second limit (judged (IsWrong scope) start_tag) (λ t. behind_tag (element n (inside scope t) (depth + 1)) t.name t.is_empty) x u _ m.1 unmarked in
+      let first = calm_first limit (with_value_marks (IsWrong scope) start_tag) (λ t. after_tag (element n (inside scope t) (depth + 1)) t.name t.is_empty) u _ _ m.1 unmarked in
+      let second = calm_second limit (with_value_marks (IsWrong scope) start_tag) (λ t. after_tag (element n (inside scope t) (depth + 1)) t.name t.is_empty) x u _ m.1 unmarked in
       let tagged = tag_proper scope m.1.front x m.1.front_is (λ k b s. first k b m.1.front [] (sym (append-nil m.1.front)) (inl (x, m.1.front_is, s)) (is_wrong_fault limit scope x k b s)) in
       let fits = behind_fits (inside scope x) (limit - depth) limit (element n (inside scope x) (depth + 1))
       (λ v e s d. let r = element_proper n (inside scope x) (depth + 1) v e s d in (r.0, omega (arith, r.1))) x.name x.is_empty m.1.back m.0.1 m.1.back_is second in
@@ -187,8 +187,8 @@ document_proper limit n scope u t larger h =
     let b = a.1.back_is in
     let c = b.1.back_is in
     let d = c.1.back_is in
-    let calm_b = calm_second limit (dropped (optional (word byte_order_mark))) (λ _. keeping_second (dropped (optional (judged IsForeign xml_declaration))) (keeping_second prolog (keeping_first (element (suc n) scope 1) epilog))) a.0.0 u _ a.1 calm in
-    let calm_c = calm_second limit (dropped (optional (judged IsForeign xml_declaration))) (λ _. keeping_second prolog (keeping_first (element (suc n) scope 1) epilog)) b.0.0 a.1.back _ b.1 calm_b in
+    let calm_b = calm_second limit (dropped (optional (word byte_order_mark))) (λ _. keeping_second (dropped (optional (with_value_marks IsForeign xml_declaration))) (keeping_second prolog (keeping_first (element (suc n) scope 1) epilog))) a.0.0 u _ a.1 calm in
+    let calm_c = calm_second limit (dropped (optional (with_value_marks IsForeign xml_declaration))) (λ _. keeping_second prolog (keeping_first (element (suc n) scope 1) epilog)) b.0.0 a.1.back _ b.1 calm_b in
     let calm_d = calm_second limit prolog (λ _. keeping_first (element (suc n) scope 1) epilog) c.0.0 b.1.back _ c.1 calm_c in
     let r = element_proper limit (suc n) scope 1 d.1.front d.0.0 d.1.front_is (calm_first limit (element (suc n) scope 1) (λ _. epilog) c.1.back _ _ d.1 calm_d) in
     subst (λ (z : Tree). ProperIn scope z × (height z ≤ limit)) (sym (a.2 ∙ b.2 ∙ c.2 ∙ d.2)) (r.0, omega (arith, r.1))

@@ -11,7 +11,7 @@ use Rattle.tree_text.specs.FaultKinds.{faults}
 use Rattle.tree_text.specs.Grammar.{document}
 use Rattle.tree_text.specs.readers.Texts.{read_text, read_spelling}
 use Rattle.tree_text.specs.Faults.{TextAnswer, spelling_of, body_result, BodyAnswer, text_result as told}
-use Rattle.tree_text.specs.readers.Whole.{text_read, body_read}
+use Rattle.tree_text.specs.readers.Whole.{read_document_text, read_body_text}
 use Rattle.tree_text.proofs.ReadDocuments.{answers_document}
 use Rattle.tree_text.proofs.ReadBodies.{answers_spelling}
 
@@ -25,7 +25,7 @@ text_by limit scope bytes true e = inl (IsUtf8-from_is_utf8 bytes e, record { st
 text_by limit scope bytes false e = inr (λ u. (let t = is_utf8-from_IsUtf8 bytes u in absurd cc), refl)
 
 -- A document or a fragment is read as the grammar says.
-pub text_answer : (limit : ℕ) (scope : List (List Decl)) (bytes : List ℕ) → TextAnswer limit scope bytes (text_read limit scope bytes)
+pub text_answer : (limit : ℕ) (scope : List (List Decl)) (bytes : List ℕ) → TextAnswer limit scope bytes (read_document_text limit scope bytes)
 text_answer limit scope bytes = text_by limit scope bytes (is_utf8 bytes) refl
 
 body_by : (bytes : List ℕ) (b : Bool) → is_utf8 bytes ≡ b → BodyAnswer bytes (cond b (body_result (chars bytes) bytes (read_whole read_spelling (spelling_of (chars bytes)))) (Err bodies.NotUtf8))
@@ -33,5 +33,5 @@ body_by bytes true e = inl (IsUtf8-from_is_utf8 bytes e, record { stated = read_
 body_by bytes false e = inr (λ u. (let t = is_utf8-from_IsUtf8 bytes u in absurd cc), refl)
 
 -- A body is read as the grammar says.
-pub body_answer : (bytes : List ℕ) → BodyAnswer bytes (body_read bytes)
+pub body_answer : (bytes : List ℕ) → BodyAnswer bytes (read_body_text bytes)
 body_answer bytes = body_by bytes (is_utf8 bytes) refl

@@ -7,9 +7,9 @@ use Rattle.xml_names.specs.Characters.{is_space, is_name_start}
 use Rattle.xml_tree.specs.Tree.{Tree}
 use Rattle.xml_names.specs.declared.names.Decl.{Decl}
 use Rattle.std.specs.Char.{is_ascii_digit as is_digit}
-use Rattle.xml_grammar.specs.Rules.{Begin, Rule, word, either, judged, trap, optional, keeping_first, keeping_second}
+use Rattle.xml_grammar.specs.Rules.{Begin, Rule, word, either, with_value_marks, trap, optional, keeping_first, keeping_second}
 use Rattle.xml_grammar.specs.TextReading.{Reader, Stop, Syntax, head_is, starts, read_word}
-use Rattle.xml_grammar.specs.readers.Functions.{read_whole, read_behind, read_before}
+use Rattle.xml_grammar.specs.readers.Functions.{read_whole, read_after, read_before}
 use Rattle.xml_grammar.specs.Answers.{Faults, Answers}
 use Rattle.xml_grammar.proofs.Exact.{Rest, ahead, IsStopped, Outcome, Exact}
 use Rattle.xml_grammar.proofs.Leaves.{exact_word}
@@ -31,7 +31,7 @@ use Rattle.xml_tokens.specs.declared.fault_kind.FaultKind.{FaultKind}
 use Rattle.xml_tokens.specs.declared.fault_kind.FaultKind.TheVariants.{Encoded, Doctyped}
 use Rattle.tree_text.specs.FaultKinds.{is_fault, rank, faults}
 use Rattle.xml_tokens.specs.Tokens.{spaces, is_quote, is_encoding_char}
-use Rattle.xml_markup.specs.Grammar.{dropped, version_number, encoding_name, yes_or_no, pseudo_attribute, xml_declaration, is_our_encoding, IsForeign, comment, is_target, instructed, instruction, misc, prolog, epilog}
+use Rattle.xml_markup.specs.Grammar.{dropped, version_number, encoding_name, yes_or_no, pseudo_attribute, xml_declaration, is_our_encoding, IsForeign, comment, is_target, pi_rest, instruction, misc, prolog, epilog}
 use Rattle.tree_text.specs.Grammar.{element, document}
 use Rattle.xml_tokens.specs.readers.Tokens.{read_spaces}
 use Rattle.xml_markup.specs.readers.Markup.{read_dropped, read_version_number, read_encoding_name, read_yes_or_no, read_declared, read_xml_declaration, encoding_fault, declaration_follows, read_misc, misc_follows, read_prolog_misc, read_prolog, less_follows, read_epilog}
@@ -130,7 +130,7 @@ module _ (faults : Faults FaultKind) where
   spaced_ended : {P : ℕ → Type 0} → ((c : ℕ) → P c → is_space c ≡ false) → P 63 → Spaced is_space P (ahead Ended (λ _. anything))
   spaced_ended {P} h i = spaced_behind is_space (spaced_run is_space h (heads_starts (starts_word {P = P} i)) (follows_starts (starts_word {P = P} i)))
 
-  exact_ended : Exact faults Ended (λ _. anything) (read_behind read_spaces (read_word instruction_end))
+  exact_ended : Exact faults Ended (λ _. anything) (read_after read_spaces (read_word instruction_end))
   exact_ended = exact_behind (exact_spaces faults (heads_starts (starts_word refl))) exact_word
 
   lawful_ended : Lawful Ended
@@ -269,7 +269,7 @@ module _ (limit : ℕ) where
     Rooted = keeping_second prolog Root
 
     read_rooted : Reader FaultKind Tree
-    read_rooted = read_behind read_prolog (read_before (read_element limit scope 1) read_epilog)
+    read_rooted = read_after read_prolog (read_before (read_element limit scope 1) read_epilog)
 
     led_root : Led (60 ∷ []) (λ c. is_name_start c ≡ true) Root
     led_root = led_before _ (led_element n scope 1)
@@ -304,7 +304,7 @@ module _ (limit : ℕ) where
         let fronted : Fronted instruction = fronted_behind (lawful_word instruction_start) (fronted_word instruction_start) (fronted_behind (lawful_only is_target lawful_name_of) (fronted_only is_target fronted_name_of) fronted_instructed) in
         instruction_begins u (fronted.front u x (subst (instruction.Meets Begin) j (inr (tt, record { front = 60 ∷ 63 ∷ []; back = 120 ∷ 109 ∷ 108 ∷ []; joined = refl; front_is = refl; back_is = inl (inr (120, record { front = 120 ∷ []; back = 109 ∷ 108 ∷ []; joined = refl; front_is = (refl, refl); back_is = (refl, (refl, tt)) })) }))))
       where
-        fronted_instructed : Fronted instructed
+        fronted_instructed : Fronted pi_rest
         fronted_instructed = fronted_either (fronted_valued _ (fronted_behind lawful_one fronted_one (fronted_up_to instruction_end))) (fronted_word instruction_end)
 
     -- and an instruction of that name stops after it
@@ -316,7 +316,7 @@ module _ (limit : ℕ) where
     stops_at c x (inr (inr (inr e))) = subst (λ (z : ℕ). read_rooted (60 ∷ 63 ∷ 120 ∷ 109 ∷ 108 ∷ z ∷ x) ≡ Err (Syntax (z ∷ x))) (sym e) refl
 
     abbrev Declared : Rule FaultKind (Option (List ℕ))
-    Declared = judged IsForeign xml_declaration
+    Declared = with_value_marks IsForeign xml_declaration
 
     led_declared : Led declaration_start (λ c. is_space c ≡ true) Declared
     led_declared = led_judged IsForeign (led_declaration (faults limit))

@@ -7,9 +7,9 @@ use Rattle.xml_names.specs.Characters.{is_name_start}
 use Rattle.xml_tree.specs.Tree.{last, Tree}
 use Rattle.xml_names.specs.declared.names.Name.{Name}
 use Rattle.xml_names.specs.declared.names.Decl.{Decl}
-use Rattle.xml_grammar.specs.Rules.{Begin, Rule, word, sequence, valued, judged}
+use Rattle.xml_grammar.specs.Rules.{Begin, Rule, word, sequence, map_rule, with_value_marks}
 use Rattle.xml_grammar.specs.TextReading.{Reader, Stop, Syntax, ◌>>=◌, head_is, starts, read_word}
-use Rattle.xml_grammar.specs.readers.Functions.{read_behind, read_never}
+use Rattle.xml_grammar.specs.readers.Functions.{read_after, read_never}
 use Rattle.xml_grammar.specs.Answers.{Faults}
 use Rattle.xml_grammar.proofs.Exact.{Rest, ahead, Outcome, Exact, exact_sequence}
 use Rattle.xml_grammar.proofs.Leaves.{exact_empty, exact_word}
@@ -31,9 +31,9 @@ use Rattle.tree_text.specs.Pieces.{Reference, Section, Comment, Inner, with_piec
 use Rattle.tree_text.specs.FaultKinds.{is_fault, faults}
 use Rattle.tree_text.specs.Names.{IsWrong, element_of, inside_tag as inside}
 use Rattle.xml_tokens.specs.Tokens.{is_raw, chars}
-use Rattle.tree_text.specs.Grammar.{markup, content, end_tag, start_tag, behind_tag, StartsTag, element}
+use Rattle.tree_text.specs.Grammar.{markup, content, end_tag, start_tag, after_tag, StartsTag, element}
 use Rattle.xml_tokens.specs.readers.Tokens.{read_name, read_chars, read_end_tag}
-use Rattle.tree_text.specs.readers.Texts.{markup_follows, read_content, read_behind_tag, starts_tag, read_element}
+use Rattle.tree_text.specs.readers.Texts.{markup_follows, read_content, read_after_tag, starts_tag, read_element}
 use Rattle.tree_text.proofs.ReadParts.{exact_spaces, starts_reference, lawful_reference, closed_tag, lawful_tag, quiet_tag, led_tag}
 use Rattle.tree_text.proofs.JudgeTags.{tag_judges}
 use Rattle.tree_text.proofs.ReadTexts.{some_section_end, section_raw, lawful_comment, lawful_section, lawful_instruction, led_markup, closed_markup}
@@ -79,7 +79,7 @@ module _ (faults : Faults FaultKind) where
     lawful_markup : Lawful (markup inner)
     lawful_markup = lawful_either (lawful_valued Reference (lawful_reference faults)) (lawful_either (lawful_valued Section (lawful_section faults)) (lawful_either (lawful_valued Comment (lawful_comment faults)) (lawful_either (lawful_valued _ (lawful_instruction faults)) (lawful_valued Inner lawful))))
 
-    lawful_behind_tag : (n : Name) (b : Bool) → Lawful (behind_tag inner n b)
+    lawful_behind_tag : (n : Name) (b : Bool) → Lawful (after_tag inner n b)
     lawful_behind_tag n true = lawful_empty
     lawful_behind_tag n false = lawful_before (lawful_valued _ (lawful_between lawful_chars lawful_markup (inl (inl (ampersand, refl))))) (lawful_end_tag n)
 
@@ -115,7 +115,7 @@ module _ (faults : Faults FaultKind) where
           (exact_chars (heads_many (starts_sequence _ (starts_markup refl refl)) ends))
           (exact_closed (inside_past_member lawful_chars (lawful_markup inner lawful) (inl (inl (ampersand, refl))) (inside_ahead (lawful_end_tag n) (λ _. inside_anything))) (closed_markup faults inner led lawful p exact)))
 
-      exact_behind_tag : (b : Bool) → Exact faults (behind_tag inner n b) (λ _. anything) (read_behind_tag p n b)
+      exact_behind_tag : (b : Bool) → Exact faults (after_tag inner n b) (λ _. anything) (read_after_tag p n b)
       exact_behind_tag true = exact_empty
       exact_behind_tag false = exact_before exact_content (λ _. closed_end_tag n)
 
@@ -127,7 +127,7 @@ past_tag v m = record { next = m.0; rest = []; joined = m.1; is = m.2 }
 
 -- what follows the mark of an element
 abbrev tagged : ℕ → List (List Decl) → ℕ → Rule FaultKind Tree
-tagged n scope depth = valued element_of (sequence (judged (IsWrong scope) start_tag) (λ t. behind_tag (element n (inside scope t) (depth + 1)) t.name t.is_empty))
+tagged n scope depth = map_rule element_of (sequence (with_value_marks (IsWrong scope) start_tag) (λ t. after_tag (element n (inside scope t) (depth + 1)) t.name t.is_empty))
 
 led_tagged : (n : ℕ) (scope : List (List Decl)) (depth : ℕ) → Led (60 ∷ []) (λ c. is_name_start c ≡ true) (tagged n scope depth)
 led_tagged n scope depth = led_valued element_of (led_sequence _ (led_judged (IsWrong scope) (led_tag (faults 0))))
@@ -140,7 +140,7 @@ tag_begins n scope depth v m = (omega (arith, ap length m.1), subst ((tagged n s
 
 -- where no tag starts, reading a tag stops at its `<`, or directly after it
 abbrev blocked : Reader FaultKind Tree
-blocked = read_behind (read_word less) (read_behind read_name read_never)
+blocked = read_after (read_word less) (read_after read_name read_never)
 
 abbrev stopped_text : List ℕ → Result (Tree × List ℕ) (Stop FaultKind)
 stopped_text text = read_word less text >>= λ x. Err (Syntax x.1)

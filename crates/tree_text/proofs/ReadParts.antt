@@ -22,11 +22,11 @@ use Rattle.xml_grammar.proofs.SpacedRules.{blank_some_of, Leads, leads_sequence,
 use Rattle.xml_tokens.specs.readers.Words.{less, greater, empty_end, colon, ampersand, semicolon, hash, small_x, amp, lt, gt, quot, apos, equals_sign}
 use Rattle.xml_tokens.specs.declared.fault_kind.FaultKind.{FaultKind}
 use Rattle.xml_tokens.specs.Values.{qname_of, value_spelled as value_of}
-use Rattle.tree_text.specs.readers.TagValues.{said_of, start_tag_of}
+use Rattle.tree_text.specs.readers.TagValues.{raw_attribute_of, start_tag_of}
 use Rattle.xml_tokens.specs.Tokens.{name, qname, spaces, equals, stands_for, entity, last_char, char_ref, reference, is_quote, is_raw_in, value}
 use Rattle.tree_text.specs.Grammar.{attribute, raw_attribute, tag_end, start_tag}
 use Rattle.xml_tokens.specs.readers.Tokens.{read_name, read_qname, read_spaces, read_equals, read_stands_for, read_entity, read_numbered, read_reference, read_value}
-use Rattle.tree_text.specs.readers.Texts.{read_attribute, read_said, read_tag_end, read_tag}
+use Rattle.tree_text.specs.readers.Texts.{read_attribute, read_raw_attribute, read_tag_end, read_tag}
 use Rattle.xml_tokens.proofs.NameFronts.{NoName}
 
 -- neither a name character nor a colon
@@ -176,16 +176,16 @@ module _ (faults : Faults FaultKind) where
   quiet_attribute = quiet_sequence quiet_qname (λ _. quiet_behind quiet_equals (quiet_quoted quiet_value))
 
   lawful_said : Lawful raw_attribute
-  lawful_said = lawful_valued said_of (lawful_sequence lawful_some_of (λ _. lawful_sized lawful_attribute))
+  lawful_said = lawful_valued raw_attribute_of (lawful_sequence lawful_some_of (λ _. lawful_sized lawful_attribute))
 
   quiet_said : Quiet raw_attribute
-  quiet_said = quiet_valued said_of (quiet_sequence quiet_some_of (λ _. quiet_sized quiet_attribute))
+  quiet_said = quiet_valued raw_attribute_of (quiet_sequence quiet_some_of (λ _. quiet_sized quiet_attribute))
 
   leads_said : Leads is_space (λ c. is_name_start c ≡ true) raw_attribute
-  leads_said = leads_valued is_space said_of (leads_sequence is_space start_no_space (blank_some_of is_space) (starts_sized (starts_attribute (λ c t. t))))
+  leads_said = leads_valued is_space raw_attribute_of (leads_sequence is_space start_no_space (blank_some_of is_space) (starts_sized (starts_attribute (λ c t. t))))
 
-  exact_said : {K : Rest FaultKind} → Inside K → Exact faults raw_attribute (λ _. K) read_said
-  exact_said inside = exact_valued said_of (exact_sequence (exact_some_of (λ _. heads_starts (starts_sized (starts_attribute start_no_space)))) (λ _. exact_sized (exact_closed (λ _. inside) closed_attribute)))
+  exact_said : {K : Rest FaultKind} → Inside K → Exact faults raw_attribute (λ _. K) read_raw_attribute
+  exact_said inside = exact_valued raw_attribute_of (exact_sequence (exact_some_of (λ _. heads_starts (starts_sized (starts_attribute start_no_space)))) (λ _. exact_sized (exact_closed (λ _. inside) closed_attribute)))
 
   -- # Tags
 
@@ -205,7 +205,7 @@ module _ (faults : Faults FaultKind) where
   -- a tag is closed
   pub closed_tag : Exact faults start_tag (λ _. anything) read_tag
   closed_tag = exact_valued start_tag_of (exact_sized (exact_behind exact_word (exact_sequence
-      (exact_qname (heads_sequence (heads_before (heads_many (starts_valued said_of (starts_sequence _ (starts_some_of space_no_qname))) (heads_run space_no_qname (λ _. heads_starts (starts_tag_end (refl, refl) (refl, refl))))))))
+      (exact_qname (heads_sequence (heads_before (heads_many (starts_valued raw_attribute_of (starts_sequence _ (starts_some_of space_no_qname))) (heads_run space_no_qname (λ _. heads_starts (starts_tag_end (refl, refl) (refl, refl))))))))
       (λ _. exact_sequence
       (exact_before
       (exact_spaced_many is_space is_name_start leads_said (spaced_run is_space (λ c x. x.0) (heads_starts (starts_tag_end {P = Ending} (refl, refl) (refl, refl))) (follows_starts (starts_tag_end {P = Ending} (refl, refl) (refl, refl)))) (λ c t. t) (λ c t f. let g = f.1 in absurd cc)

@@ -15,18 +15,18 @@ use Rattle.tree_text.specs.FaultKinds.{faults}
 use Rattle.tree_text.specs.Grammar.{document}
 use Rattle.tree_text.specs.Faults.{TextAnswer, BodyAnswer, text_result as told}
 use Rattle.xml_names.specs.Memory.{Answered}
-use Rattle.tree_text.specs.readers.Whole.{text_read, body_read}
+use Rattle.tree_text.specs.readers.Whole.{read_document_text, read_body_text}
 use Rattle.xml_tokens.proofs.MemoryAnswers.{answered_so}
 use Rattle.tree_text.proofs.ReadAnswers.{text_answer, body_answer}
 use Rattle.tree_text.proofs.ProperTrees.{document_proper}
 
 -- A document or a fragment is read as the grammar says, unless memory ran out.
-pub text_answers : (limit : ℕ) (scope : List (List Decl)) (bytes : List ℕ) (r : Result Tree (ReadError TextFault)) → Answered (λ answer. answer ≡ text_read limit scope bytes) r → Answered (TextAnswer limit scope bytes) r
-text_answers limit scope bytes = answered_so (λ answer. answer ≡ text_read limit scope bytes) (TextAnswer limit scope bytes) (λ answer e. subst (TextAnswer limit scope bytes) (sym e) (text_answer limit scope bytes))
+pub text_answers : (limit : ℕ) (scope : List (List Decl)) (bytes : List ℕ) (r : Result Tree (ReadError TextFault)) → Answered (λ answer. answer ≡ read_document_text limit scope bytes) r → Answered (TextAnswer limit scope bytes) r
+text_answers limit scope bytes = answered_so (λ answer. answer ≡ read_document_text limit scope bytes) (TextAnswer limit scope bytes) (λ answer e. subst (TextAnswer limit scope bytes) (sym e) (text_answer limit scope bytes))
 
 -- A body is, too.
-pub body_answers : (bytes : List ℕ) (r : Result (List ℕ) (ReadError ValueFault)) → Answered (λ answer. answer ≡ body_read bytes) r → Answered (BodyAnswer bytes) r
-body_answers bytes = answered_so (λ answer. answer ≡ body_read bytes) (BodyAnswer bytes) (λ answer e. subst (BodyAnswer bytes) (sym e) (body_answer bytes))
+pub body_answers : (bytes : List ℕ) (r : Result (List ℕ) (ReadError ValueFault)) → Answered (λ answer. answer ≡ read_body_text bytes) r → Answered (BodyAnswer bytes) r
+body_answers bytes = answered_so (λ answer. answer ≡ read_body_text bytes) (BodyAnswer bytes) (λ answer e. subst (BodyAnswer bytes) (sym e) (body_answer bytes))
 
 stated_proper : (limit : ℕ) (scope : List (List Decl)) (bytes : List ℕ) (tree : Tree) (stated : Result Tree (Stop FaultKind)) → Answers (faults limit) (document (suc (limit + 1)) scope) (chars bytes) stated → (let answer : Result Tree TextFault = Ok tree in answer ≡ told bytes stated) → ProperIn scope tree × (height tree ≤ limit)
 stated_proper limit scope bytes tree (Ok t) h e =

@@ -4,7 +4,7 @@ use Rattle.std.specs.Prelude.{◌==◌}
 use Rattle.std.proofs.lemmas.Bool.Decides.{nat_tests}
 use Rattle.xml_names.specs.Characters.{is_char, is_space, is_name_start, is_name_char}
 use Rattle.xml_tree.specs.Tree.{Tree}
-use Rattle.xml_grammar.specs.Rules.{Rule, AllPass, either, valued}
+use Rattle.xml_grammar.specs.Rules.{Rule, AllPass, either, map_rule}
 use Rattle.xml_grammar.specs.TextReading.{Reader, starts, read_valued}
 use Rattle.xml_grammar.specs.readers.Functions.{read_either}
 use Rattle.xml_grammar.specs.Answers.{Faults}
@@ -25,7 +25,7 @@ use Rattle.xml_tokens.specs.Values.{line_ends}
 use Rattle.tree_text.specs.Pieces.{Markup, Reference, Section, Comment, Instruction, Inner}
 use Rattle.xml_tokens.specs.Tokens.{is_raw}
 use Rattle.tree_text.specs.Grammar.{markup}
-use Rattle.xml_markup.specs.Grammar.{comment, section, is_target, instructed, instruction}
+use Rattle.xml_markup.specs.Grammar.{comment, section, is_target, pi_rest, instruction}
 use Rattle.tree_text.specs.readers.Texts.{read_markup}
 use Rattle.xml_markup.specs.readers.Markup.{read_comment, read_section, read_instructed, read_instruction}
 use Rattle.xml_tokens.proofs.NameFronts.{NoName, space_no_name}
@@ -74,16 +74,16 @@ module _ (faults : Faults FaultKind) where
   pub led_section : Led (60 ∷ 33 ∷ []) (λ c. c ≡ 91) section
   led_section = led_valued line_ends (led_behind _ (led_word (60 ∷ 33 ∷ []) 91 (67 ∷ 68 ∷ 65 ∷ 84 ∷ 65 ∷ 91 ∷ []) refl))
 
-  closed_instructed : Exact faults instructed (λ _. anything) read_instructed
+  closed_instructed : Exact faults pi_rest (λ _. anything) read_instructed
   closed_instructed = exact_either_head is_space (starts_valued _ (starts_behind _ (starts_one {P = λ c. is_space c ≡ true} (λ c h. h)))) (λ c h. h)
       (heads_starts (starts_word {P = NoSpace} refl)) (λ c s n. absurd cc)
       (exact_valued (λ _. tt) (exact_behind exact_one (exact_up_to instruction_end some_instruction_end instruction_chars)))
       exact_word
 
-  starts_instructed : Starts NoName instructed
+  starts_instructed : Starts NoName pi_rest
   starts_instructed = starts_either (starts_valued _ (starts_behind _ (starts_one space_no_name))) (starts_word refl)
 
-  lawful_instructed : Lawful instructed
+  lawful_instructed : Lawful pi_rest
   lawful_instructed = lawful_either (lawful_valued _ (lawful_behind lawful_one (lawful_up_to instruction_end))) (lawful_word instruction_end)
 
   pub closed_instruction : Exact faults instruction (λ _. anything) read_instruction
@@ -108,30 +108,30 @@ module _ (faults : Faults FaultKind) where
 
   module _ (inner : Rule FaultKind Tree) (led : Led (60 ∷ []) (λ c. is_name_start c ≡ true) inner) (lawful : Lawful inner) (p : Reader FaultKind Tree) (exact : Exact faults inner (λ _. anything) p) where
     -- `<`, and no `!`
-    led_others : Led (60 ∷ []) (λ c. (c == 33) ≡ false) (either (valued (λ _. Instruction) instruction) (valued Inner inner))
+    led_others : Led (60 ∷ []) (λ c. (c == 33) ≡ false) (either (map_rule (λ _. Instruction) instruction) (map_rule Inner inner))
     led_others = led_either (led_valued _ (led_weaker (λ c e. grind (arith, nat_tests)) led_instruction)) (led_valued Inner (led_weaker (λ c t. grind (arith, nat_tests)) led))
 
-    closed_others : Exact faults (either (valued (λ _. Instruction) instruction) (valued Inner inner)) (λ _. anything) (read_either (starts instruction_start) (read_valued (λ _. Instruction) read_instruction) (read_valued Inner p))
+    closed_others : Exact faults (either (map_rule (λ _. Instruction) instruction) (map_rule Inner inner)) (λ _. anything) (read_either (starts instruction_start) (read_valued (λ _. Instruction) read_instruction) (read_valued Inner p))
     closed_others = exact_either_next (60 ∷ []) 63 (led_valued _ led_instruction) (led_valued Inner led) (λ f. absurd cc) (exact_valued (λ _. Instruction) closed_instruction) (exact_valued Inner exact)
 
     abbrev Others : Rule FaultKind Markup
-    Others = either (valued (λ _. Instruction) instruction) (valued Inner inner)
+    Others = either (map_rule (λ _. Instruction) instruction) (map_rule Inner inner)
 
     abbrev Noted : Rule FaultKind Markup
-    Noted = either (valued Comment comment) Others
+    Noted = either (map_rule Comment comment) Others
 
     abbrev Bracketed : Rule FaultKind Markup
-    Bracketed = either (valued Section section) Noted
+    Bracketed = either (map_rule Section section) Noted
 
     -- where `<![` comes, only a section can be there
-    bracket_covers : (text : List ℕ) → starts bang_bracket text ≡ true → Covers faults text (ahead Noted (λ _. anything)) (ahead (valued Section section) (λ _. anything))
+    bracket_covers : (text : List ℕ) → starts bang_bracket text ≡ true → Covers faults text (ahead Noted (λ _. anything)) (ahead (map_rule Section section) (λ _. anything))
     bracket_covers text t =
         let n = next_true (60 ∷ 33 ∷ []) 91 text t in
         covers_either
         (next_covers (60 ∷ 33 ∷ []) 91 (led_valued Comment led_comment) (led_valued Section led_section) (λ e. absurd (omega (arith, e))) t)
         (led_covers led_others (led_valued Section led_bang_section) (λ d x j f. absurd (let e = next_is (60 ∷ []) 33 (91 ∷ n.0) d x n.1 j in grind (arith, nat_tests))))
 
-    no_bracket_covers : (text : List ℕ) → starts bang_bracket text ≡ false → Covers faults text (ahead (valued Section section) (λ _. anything)) (ahead Noted (λ _. anything))
+    no_bracket_covers : (text : List ℕ) → starts bang_bracket text ≡ false → Covers faults text (ahead (map_rule Section section) (λ _. anything)) (ahead Noted (λ _. anything))
     no_bracket_covers text f = covered_first Others (λ _. anything) (other_covers (60 ∷ 33 ∷ []) 91 (led_valued Section led_section) (led_valued Comment led_comment) f)
 
     pub led_markup : Led (60 ∷ []) (λ c. (c == 47) ≡ false) Bracketed

@@ -10,8 +10,9 @@ use Rattle.xml_names.specs.Characters.{is_name_start}
 use Rattle.xml_tree.specs.Tree.{Content, last, Tree}
 use Rattle.xml_names.specs.declared.names.Name.{Name}
 use Rattle.xml_names.specs.declared.names.Decl.{Decl}
-use Rattle.xml_grammar.specs.Rules.{Rule, never, empty, word, run, sequence, either, many, valued}
-use Rattle.xml_grammar.specs.Rules.{sized, atomic, marked, judged, optional, between}
+use Rattle.xml_grammar.specs.Rules.{Rule, never, empty, word, run, sequence, either, many, map_rule}
+use Rattle.xml_grammar.specs.Rules.{with_length, atomic, with_prefix_mark, with_value_marks}
+use Rattle.xml_grammar.specs.Rules.{optional, between}
 use Rattle.xml_grammar.specs.Rules.{keeping_first, keeping_second, quoted}
 use Rattle.xml_tokens.specs.declared.fault_kind.FaultKind.{FaultKind}
 use Rattle.xml_tokens.specs.declared.fault_kind.FaultKind.TheVariants.{Depth}
@@ -35,18 +36,19 @@ attribute = sequence qname (λ _. keeping_second equals (quoted is_quote value))
 -- before it, and how many it has
 abbrev pub raw_attribute : Rule FaultKind RawAttribute
 raw_attribute =
-    valued (λ x. record { name = x.1.0.0; value = x.1.0.1; gap = length x.0; size = x.1.1 })
-    (sequence some_spaces (λ _. sized attribute))
+    map_rule (λ x. record { name = x.1.0.0; value = x.1.0.1; gap = length x.0; size = x.1.1 })
+    (sequence some_spaces (λ _. with_length attribute))
 
 -- `/>` ends an empty element, `>` a start tag
 abbrev pub tag_end : Rule FaultKind Bool
-tag_end = either (valued (λ _. true) (word (codes "/>"))) (valued (λ _. false) (word (codes ">")))
+tag_end = either (map_rule (λ _. true) (word (codes "/>")))
+    (map_rule (λ _. false) (word (codes ">")))
 
 -- [40] STag and [44] EmptyElemTag: `<`, a name, attributes each after S, S?, and `>` or `/>`
 abbrev pub start_tag : Rule FaultKind StartTag
 start_tag =
-    valued (λ x. record { name = x.0.0; raw_attribute = x.0.1.0; is_empty = x.0.1.1; size = x.1 })
-    (sized (keeping_second (word (codes "<"))
+    map_rule (λ x. record { name = x.0.0; raw_attribute = x.0.1.0; is_empty = x.0.1.1; size = x.1 })
+    (with_length (keeping_second (word (codes "<"))
     (sequence qname (λ _. sequence (keeping_first (many raw_attribute) spaces) (λ _. tag_end)))))
 
 -- [42] ETag: `</`, the name of the start tag, S?, `>`
@@ -61,21 +63,21 @@ end_tag n =
 -- an element
 abbrev pub markup : Rule FaultKind Tree → Rule FaultKind Markup
 markup inner =
-    either (valued Reference reference)
-    (either (valued Section section)
-    (either (valued Comment comment)
-    (either (valued (λ _. Instruction) instruction) (valued Inner inner))))
+    either (map_rule Reference reference)
+    (either (map_rule Section section)
+    (either (map_rule Comment comment)
+    (either (map_rule (λ _. Instruction) instruction) (map_rule Inner inner))))
 
 -- [43] content: no two adjacent pieces are runs of characters
 abbrev pub content : Rule FaultKind Tree → Rule FaultKind Content
-content inner = valued (λ x. with_pieces (last x.0) x.1) (between chars (markup inner))
+content inner = map_rule (λ x. with_pieces (last x.0) x.1) (between chars (markup inner))
 
 -- ---- elements
 
 -- what follows a start tag: content and the end tag; after the tag of an empty element nothing
-abbrev pub behind_tag : Rule FaultKind Tree → Name → Bool → Rule FaultKind Content
-behind_tag inner n true = empty (last [])
-behind_tag inner n false = keeping_first (content inner) (end_tag n)
+abbrev pub after_tag : Rule FaultKind Tree → Name → Bool → Rule FaultKind Content
+after_tag inner n true = empty (last [])
+after_tag inner n false = keeping_first (content inner) (end_tag n)
 
 -- a start tag's `<`, with the first character of its name
 abbrev pub StartsTag : List ℕ → Type 0
@@ -87,10 +89,10 @@ StartsTag text = (c : ℕ) × (text ≡ codes "<" ++ c ∷ []) × (is_name_start
 abbrev pub element : ℕ → List (List Decl) → ℕ → Rule FaultKind Tree
 element zero scope depth = never
 element (suc n) scope depth =
-    marked (Depth depth) StartsTag
-    (valued element_of
-    (sequence (judged (IsWrong scope) start_tag) (λ t.
-    behind_tag (element n (inside_tag scope t) (depth + 1)) t.name t.is_empty)))
+    with_prefix_mark (Depth depth) StartsTag
+    (map_rule element_of
+    (sequence (with_value_marks (IsWrong scope) start_tag) (λ t.
+    after_tag (element n (inside_tag scope t) (depth + 1)) t.name t.is_empty)))
 
 -- ---- documents
 
@@ -99,11 +101,11 @@ element (suc n) scope depth =
 abbrev pub document : ℕ → List (List Decl) → Rule FaultKind Tree
 document n scope =
     keeping_second (dropped (optional (word (0xFEFF ∷ []))))
-    (keeping_second (dropped (optional (judged IsForeign xml_declaration)))
+    (keeping_second (dropped (optional (with_value_marks IsForeign xml_declaration)))
     (keeping_second prolog (keeping_first (element n scope 1) epilog)))
 
 -- ---- bodies that spell a value
 
 -- raw characters and references: a reference that isn't whole isn't a beginning
 abbrev pub spelling : Rule FaultKind (List ℕ)
-spelling = valued value_spelled (between (run is_raw) (atomic reference))
+spelling = map_rule value_spelled (between (run is_raw) (atomic reference))

@@ -30,8 +30,8 @@ abbrev pub raw_attribute_decl : RawAttribute → Decl
 raw_attribute_decl s =
     record { prefix = if bytes_eq s.name.prefix [] then [] else s.name.local; uri = s.value }
 
-abbrev pub said_attr : RawAttribute → Attr
-said_attr s = record { name = s.name; value = s.value }
+abbrev pub raw_attribute_attr : RawAttribute → Attr
+raw_attribute_attr s = record { name = s.name; value = s.value }
 
 -- the declarations of a tag, and its attributes, each in order
 abbrev pub decls_of : List RawAttribute → List Decl
@@ -41,7 +41,8 @@ decls_of (s ∷ ss) =
 
 abbrev pub attrs_of : List RawAttribute → List Attr
 attrs_of [] = []
-attrs_of (s ∷ ss) = if is_declaring s.name then attrs_of ss else (said_attr s ∷ attrs_of ss)
+attrs_of (s ∷ ss) =
+    if is_declaring s.name then attrs_of ss else (raw_attribute_attr s ∷ attrs_of ss)
 
 -- the scope inside a tag
 abbrev pub inside_tag : List (List Decl) → StartTag → List (List Decl)
@@ -64,8 +65,8 @@ is_misnamed here s =
     else is_unbound_in here s.name
 
 -- two declarations of one prefix, or two attributes of equal expanded names
-abbrev pub says_again : List (List Decl) → RawAttribute → RawAttribute → Bool
-says_again here s e =
+abbrev pub repeats_name : List (List Decl) → RawAttribute → RawAttribute → Bool
+repeats_name here s e =
     if is_declaring s.name
     then (is_declaring e.name
     && bytes_eq (raw_attribute_decl e).prefix (raw_attribute_decl s).prefix)
@@ -74,13 +75,14 @@ says_again here s e =
 
 -- an earlier raw attribute of the tag declares the same prefix or has the same expanded name
 abbrev pub is_repeated : List (List Decl) → List RawAttribute → RawAttribute → Bool
-is_repeated here earlier s = list_any (says_again here s) earlier
+is_repeated here earlier s = list_any (repeats_name here s) earlier
 
 -- a raw attribute of the tag is wrong in this way, after these
-abbrev pub IsWrongSaid : List (List Decl) → List RawAttribute → RawAttribute → FaultKind → Type 0
-IsWrongSaid here earlier s Unbound = is_misnamed here s ≡ true
-IsWrongSaid here earlier s Repeated = is_repeated here earlier s ≡ true
-IsWrongSaid here earlier s _ = ⊥
+abbrev pub IsWrongAttribute : List (List Decl) → List RawAttribute → RawAttribute → FaultKind
+    → Type 0
+IsWrongAttribute here earlier s Unbound = is_misnamed here s ≡ true
+IsWrongAttribute here earlier s Repeated = is_repeated here earlier s ≡ true
+IsWrongAttribute here earlier s _ = ⊥
 
 -- ---- the place of a wrong name in the tag
 
@@ -102,15 +104,15 @@ pub record IsWrongName (scope : List (List Decl)) (t : StartTag) (kind : FaultKi
 
 -- an attribute or declaration of the tag is wrong; the place of its name is a number of
 -- characters before the end of the tag
-pub record HasWrongSaid (scope : List (List Decl)) (t : StartTag) (kind : FaultKind)
+pub record HasWrongAttribute (scope : List (List Decl)) (t : StartTag) (kind : FaultKind)
     (back : ℕ) : Type 0 where
   pub earlier : List RawAttribute
   pub raw_attribute : RawAttribute
   pub later : List RawAttribute
   pub among : t.raw_attribute ≡ earlier ++ raw_attribute ∷ later
-  pub wrong : IsWrongSaid (inside_tag scope t) earlier raw_attribute kind
+  pub wrong : IsWrongAttribute (inside_tag scope t) earlier raw_attribute kind
   pub place : back + (opening_size t + widths earlier + raw_attribute.gap) ≡ t.size
 
 -- A whole tag marks each wrong name in it with what is wrong, at the name.
 abbrev pub IsWrong : List (List Decl) → StartTag → FaultKind → ℕ → Type 0
-IsWrong scope t kind back = IsWrongName scope t kind back ⊎ HasWrongSaid scope t kind back
+IsWrong scope t kind back = IsWrongName scope t kind back ⊎ HasWrongAttribute scope t kind back

@@ -10,7 +10,7 @@ ghost use Rattle.xml_tokens.specs.readers.Results.{Gives, GivesAll};
 ghost use Rattle.xml_tokens.specs.Tokens.{is_quote};
 ghost use Rattle.xml_names.specs.Memory.{Answered};
 ghost use Rattle.tree_text.specs.readers.Texts.{read_spelling, read_plain, read_whole_reference};
-ghost use Rattle.tree_text.specs.readers.Whole.{BodyFaultOf, body_read};
+ghost use Rattle.tree_text.specs.readers.Whole.{BodyFaultOf, read_body_text};
 
 use crate::fault::ValueFault;
 use std::alloc::Global;
@@ -143,7 +143,7 @@ pub fn read_att_value(alloc: Global, bytes: &[u8]) -> Result<Text, ReadError<Val
 
 /// The value that the bytes of a body spell.
 fn read_body(alloc: Global, bytes: &[u8]) -> Result<Text, ReadError<ValueFault>>
-    ensures grammar_answer { Answered (λ answer. answer ≡ body_read bytes.now) result }
+    ensures grammar_answer { Answered (λ answer. answer ≡ read_body_text bytes.now) result }
 {
     let Ok(text) = str::from_utf8(bytes) else {
         return Err(ReadError::Fault(ValueFault::NotUtf8));

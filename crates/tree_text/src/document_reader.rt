@@ -9,7 +9,7 @@ ghost use Rattle.tree_text.specs.Faults.{TextAnswer};
 ghost use Rattle.xml_tokens.specs.readers.Results.{Gives, GivesAll};
 ghost use Rattle.xml_names.specs.Memory.{Answered};
 ghost use Rattle.tree_text.specs.readers.Texts.{read_element, read_text};
-ghost use Rattle.tree_text.specs.readers.Whole.{FaultOf, text_read};
+ghost use Rattle.tree_text.specs.readers.Whole.{FaultOf, read_document_text};
 
 use crate::bindings::Bindings;
 use crate::elements::element;
@@ -87,7 +87,7 @@ fn read(
 ) -> Result<Element, ReadError<TextFault>>
     requires { length scope.now + depth ≤ SCOPE_LIMIT }
     ensures grammar_answer { Answered
-        (λ answer. answer ≡ text_read depth scope.now bytes.now) result }
+        (λ answer. answer ≡ read_document_text depth scope.now bytes.now) result }
 {
     let Ok(text) = str::from_utf8(bytes) else {
         return Err(ReadError::Fault(TextFault::NotUtf8));

@@ -9,7 +9,7 @@ ghost use Rattle.xml_tokens.specs.declared.fault_kind.FaultKind.{FaultKind};
 ghost use Rattle.tree_text.specs.readers.Bindings.{AreBack, AreOpenNamespaces, lists};
 ghost use Rattle.xml_tokens.specs.readers.Results.{Gives, Fails};
 ghost use Rattle.tree_text.specs.readers.Members.{read_chars_onto, read_onto, read_child};
-ghost use Rattle.tree_text.specs.readers.Members.{read_filled, read_filled_behind};
+ghost use Rattle.tree_text.specs.readers.Members.{read_filled, read_filled_after};
 ghost use Rattle.tree_text.specs.Names.{attrs_of};
 ghost use Rattle.tree_text.specs.readers.TagNameFaults.{counted_back, first_of_tag};
 ghost use Rattle.xml_tokens.specs.readers.Runs.{ends_run};
@@ -195,7 +195,7 @@ fn push_raw_attribute(
 
 /// Appends the attributes among the raw attributes to an element, and drops the raw attributes.
 #[inline(never)]
-fn push_all_said(
+fn push_raw_attributes(
     element: &mut Element,
     raw_attribute: &mut Vec<RawAttribute<'_>>,
 ) -> Result<(), AllocError>
@@ -227,7 +227,7 @@ fn push_attrs(
         return Ok(());
     }
     element.reserve_attrs(room)?;
-    push_all_said(element, raw_attribute)
+    push_raw_attributes(element, raw_attribute)
 }
 
 /// Whether a reference or a `<` follows.
@@ -329,7 +329,7 @@ fn push_markup<'a>(
     if other_follows(text) {
         return push_other(alloc, text, element);
     }
-    push_child(alloc, text, bindings, depth, levels, raw_attribute, element)
+    read_child_into(alloc, text, bindings, depth, levels, raw_attribute, element)
 }
 
 /// Reads content into an element that has none, and returns what follows it.
@@ -368,7 +368,7 @@ fn content<'a>(
 /// follows.
 #[inline(always)]
 #[cycle(nested)]
-fn behind_tag<'a>(
+fn after_tag<'a>(
     alloc: Global,
     bindings: &mut Bindings,
     depth: usize,
@@ -381,7 +381,7 @@ fn behind_tag<'a>(
     requires depth_bounded { depth + levels ≤ 1000 }
     requires empty { element.old.content ≡ last [] }
     ensures reads_rule { Gives (λ rest. (element.new, chars rest.now)) result
-        (read_filled_behind element.old (read_element levels (lists bindings.old) depth)
+        (read_filled_after element.old (read_element levels (lists bindings.old) depth)
         (name_in start_tag.now.written) start_tag.now.is_empty (chars start_tag.now.behind.now)) }
     ensures bindings_restored { OnOk result (AreBack bindings.old bindings.new) }
 {
@@ -433,7 +433,7 @@ fn fill<'a>(
     bindings.enter(alloc, decls)?;
     check_tag_names(alloc, text, bindings, element.name(), all, start_tag)?;
     push_attrs(element, raw_attribute, attrs)?;
-    let rest = behind_tag(
+    let rest = after_tag(
         alloc,
         bindings,
         depth + 1,
@@ -451,7 +451,7 @@ fn fill<'a>(
 /// follows it. The element is built in place.
 #[inline(never)]
 #[cycle(nested)]
-fn push_child<'a>(
+fn read_child_into<'a>(
     alloc: Global,
     text: &'a str,
     bindings: &mut Bindings,

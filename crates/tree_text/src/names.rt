@@ -8,7 +8,7 @@ ghost use Rattle.xml_tree.specs.Proper.{may_stand};
 ghost use Rattle.tree_text.specs.Names.{decls_of, is_misnamed, is_repeated, widths};
 ghost use Rattle.tree_text.specs.Names.{raw_attribute_decl, is_declaring, is_unbound_in};
 ghost use Rattle.xml_tokens.specs.Values.{written};
-ghost use Rattle.tree_text.specs.readers.TagNameFaults.{wrong_said, first_wrong, first_named};
+ghost use Rattle.tree_text.specs.readers.TagNameFaults.{attribute_fault, first_wrong, first_named};
 ghost use Rattle.tree_text.specs.readers.Bindings.{AreOpenNamespaces, lists};
 ghost use Rattle.tree_text.specs.readers.Meanings.{Holds};
 ghost use Rattle.xml_tokens.specs.readers.TokenViews.{name_in};
@@ -22,7 +22,7 @@ use std::alloc::{AllocError, Global};
 use std::collections::BTreeSet;
 use tree_print::is_nothing;
 use xml_names::{Decl, Name, Prefix, Text, is_xml, is_xmlns};
-use xml_tokens::{FaultKind, RawName, opening};
+use xml_tokens::{FaultKind, RawName, tag_front_len};
 
 /// Whether a declared prefix is empty: the default namespace is declared.
 fn is_default(prefix: &str) -> bool
@@ -150,7 +150,7 @@ fn some_decls(alloc: Global, all: &[RawAttribute<'_>]) -> Result<Vec<Decl>, Allo
     Ok(decls)
 }
 
-/// Whether `xml` is bound to its own namespace, and nothing else to that.
+/// Whether `xml` is bound to its own namespace, and no other prefix to that namespace.
 fn fits_xml(prefix: &str, uri: &Text) -> bool
     ensures exact { result
         ≡ (if bytes_eq (chars prefix.now) xml_prefix then bytes_eq uri.now xml_uri
@@ -221,14 +221,14 @@ fn is_first<'a>(
 
 /// What is wrong with a raw attribute, after earlier ones whose meanings are in `seen`. Where
 /// nothing is wrong, its own meaning is added.
-fn wrong_said<'a>(
+fn attribute_fault<'a>(
     here: &Bindings,
     seen: &mut BTreeSet<Meaning<'a>>,
     raw_attribute: &'a RawAttribute<'_>,
 ) -> Result<Option<FaultKind>, AllocError>
     requires namespaces_in_step { AreOpenNamespaces here.now }
     ensures exact_wrong { (es : List RawAttribute) → Holds here.now es seen.old
-        → IfOk result (λ wrong. wrong ≡ wrong_said (lists here.now) es raw_attribute.now) }
+        → IfOk result (λ wrong. wrong ≡ attribute_fault (lists here.now) es raw_attribute.now) }
     ensures holds_seen { (es : List RawAttribute) → Holds here.now es seen.old
         → IfOk result (λ wrong. wrong ≡ None
         → Holds here.now (es ++ raw_attribute.now ∷ []) seen.new) }
@@ -258,27 +258,28 @@ fn only_wrong(
         (only.now ∷ []) }
 {
     if is_misnamed(here, only) {
-        return Some((FaultKind::Unbound, opening(name) + only.gap));
+        return Some((FaultKind::Unbound, tag_front_len(name) + only.gap));
     }
     None
 }
 
 /// The first wrong raw attribute, as `first_wrong` finds it.
 #[inline(never)]
-fn first_of_several<'a>(
+fn first_wrong_by_index<'a>(
     alloc: Global,
     here: &Bindings,
     all: &'a [RawAttribute<'_>],
-    opening: usize,
+    tag_front_len: usize,
 ) -> Result<Option<(FaultKind, usize)>, AllocError>
     requires namespaces_in_step { AreOpenNamespaces here.now }
-    requires fits { opening + widths all.now < 2 ^ 64 }
-    ensures ok { IfOk result (λ found. found ≡ first_wrong (lists here.now) [] opening all.now) }
+    requires fits { tag_front_len + widths all.now < 2 ^ 64 }
+    ensures ok { IfOk result (λ found. found
+        ≡ first_wrong (lists here.now) [] tag_front_len all.now) }
 {
     let mut seen = BTreeSet::new(alloc);
-    let mut at = opening;
+    let mut at = tag_front_len;
     for raw_attribute in all {
-        if let Some(kind) = wrong_said(here, &mut seen, raw_attribute)? {
+        if let Some(kind) = attribute_fault(here, &mut seen, raw_attribute)? {
             return Ok(Some((kind, at + raw_attribute.gap)));
         }
         at += raw_attribute.gap + raw_attribute.size.count();
@@ -305,7 +306,7 @@ pub fn first_wrong<'a>(
     match all {
         [] => Ok(None),
         [only] => Ok(only_wrong(here, only, name)),
-        _ => first_of_several(alloc, here, all, opening(name)),
+        _ => first_wrong_by_index(alloc, here, all, tag_front_len(name)),
     }
 }
 

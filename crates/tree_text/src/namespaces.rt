@@ -108,7 +108,7 @@ impl Namespaces {
     }
 
     /// Removes the nearest declaration of a prefix.
-    fn forget(&mut self, decl: &Decl)
+    fn pop_declaration(&mut self, decl: &Decl)
         ensures holds_one_fewer { (ds : List Decl) → AreOf self.old (ds ++ decl.now ∷ [])
             → AreOf self.new ds }
     {
@@ -159,7 +159,7 @@ impl Namespaces {
             → AreOf self.new ds }
     {
         for decl in decls.iter().rev() {
-            self.forget(decl);
+            self.pop_declaration(decl);
         }
     }
 

@@ -5,14 +5,14 @@ ghost use Rattle.xml_names.specs.declared.names.Decl.{Decl};
 ghost use Rattle.tree_text.specs.Faults.{BodyAnswer, TextAnswer};
 ghost use Rattle.tree_text.specs.declared.fault.TextFault.{TextFault};
 ghost use Rattle.tree_text.specs.declared.fault.ValueFault.{ValueFault};
-ghost use Rattle.tree_text.specs.readers.Whole.{body_read, text_read};
+ghost use Rattle.tree_text.specs.readers.Whole.{read_body_text, read_document_text};
 
 /// By the grammar all bytes have one answer, in each scope and with each limit of levels: the
 /// tree that they spell, or one fault at one place (XML 1.0; Namespaces in XML 1.0). Reading from
 /// left to right returns this answer.
 pub fn texts_have_one_answer()
     ensures answer_is_exact { (depth : ℕ) (scope : List (List Decl)) (bytes : List ℕ)
-        → TextAnswer depth scope bytes (text_read depth scope bytes) }
+        → TextAnswer depth scope bytes (read_document_text depth scope bytes) }
     ensures at_most_one { (depth : ℕ) (scope : List (List Decl)) (bytes : List ℕ)
         (a b : Result Tree TextFault)
         → TextAnswer depth scope bytes a → TextAnswer depth scope bytes b → a ≡ b }
@@ -21,7 +21,7 @@ pub fn texts_have_one_answer()
 /// By the grammar all bytes have one answer as an attribute body: the value that they spell, or
 /// one fault.
 pub fn bodies_have_one_answer()
-    ensures answer_is_exact { (bytes : List ℕ) → BodyAnswer bytes (body_read bytes) }
+    ensures answer_is_exact { (bytes : List ℕ) → BodyAnswer bytes (read_body_text bytes) }
     ensures at_most_one { (bytes : List ℕ) (a b : Result (List ℕ) ValueFault) → BodyAnswer bytes a
         → BodyAnswer bytes b → a ≡ b }
 {}

@@ -3,20 +3,21 @@ ghost use Rattle.std.specs.Prelude.{◌≡◌, ◌++◌, ◌∷◌, true, [], ch
 ghost use Rattle.std.specs.Prelude.{Ok};
 ghost use Rattle.std.specs.List.{list_all};
 ghost use Rattle.xml_grammar.specs.TextReading.{after_front, read_valued};
-ghost use Rattle.xml_grammar.specs.readers.Functions.{read_quoted, read_sized};
+ghost use Rattle.xml_grammar.specs.readers.Functions.{read_quoted, read_with_length};
 ghost use Rattle.xml_names.specs.Characters.{is_space};
 ghost use Rattle.xml_tokens.specs.readers.Results.{Gives};
 ghost use Rattle.xml_tokens.specs.Tokens.{is_quote};
 ghost use Rattle.xml_tokens.specs.readers.Tokens.{read_some_spaces, read_value};
-ghost use Rattle.tree_text.specs.readers.Texts.{read_attribute, read_all_said, said_follows};
+ghost use Rattle.tree_text.specs.readers.Texts.{read_attribute, read_raw_attributes};
+ghost use Rattle.tree_text.specs.readers.Texts.{raw_attribute_follows};
 ghost use Rattle.tree_text.specs.readers.Texts.{read_tag_end, read_tag};
-ghost use Rattle.tree_text.specs.readers.TagValues.{said_of};
+ghost use Rattle.tree_text.specs.readers.TagValues.{raw_attribute_of};
 ghost use Rattle.tree_text.specs.readers.Views.{BeginsWithLocal, tag_in};
 
 use crate::raw_attribute::RawAttribute;
 use crate::text_span::Size;
 use std::alloc::Global;
-use xml_grammar::{behind_next, is_next};
+use xml_grammar::{is_next, strip_char};
 use xml_names::{Name, Text};
 use xml_tokens::{
     Class, ParseError, RawName, equals, front_qname, is_space_next, letter, own_qname, quote, run,
@@ -71,7 +72,7 @@ fn before_raw_attribute(text: &str) -> Option<(&str, &str)>
     ensures reads_space { IfSome result
         (λ x. read_some_spaces (chars text.now) ≡ Ok (chars x.0.now, chars x.1.now)) }
     ensures all_space { IfSome result (λ x. list_all is_space (chars x.0.now) ≡ true) }
-    ensures some_iff_attribute { is_some result ≡ said_follows (chars text.now) }
+    ensures some_iff_attribute { is_some result ≡ raw_attribute_follows (chars text.now) }
 {
     if !is_space_next(text) {
         return None;
@@ -93,8 +94,8 @@ fn push_raw_attribute<'a>(
 ) -> Result<&'a str, ParseError<'a>>
     requires { list_all is_space (chars white.now) ≡ true }
     ensures reads_rule { Gives (λ rest. (all.new.items, chars rest.now)) result
-        (read_valued (λ x. all.old.items ++ said_of (chars white.now, x) ∷ [])
-        (read_sized read_attribute) (chars from.now)) }
+        (read_valued (λ x. all.old.items ++ raw_attribute_of (chars white.now, x) ∷ [])
+        (read_with_length read_attribute) (chars from.now)) }
 {
     let (name, value, rest) = attribute(alloc, from)?;
     let gap = width(white);
@@ -112,14 +113,14 @@ fn push_raw_attribute<'a>(
 /// Reads all attributes, each after white space, into an empty list, and returns what follows
 /// them.
 #[inline(never)]
-fn some_said<'a>(
+fn some_raw_attributes<'a>(
     alloc: Global,
     text: &'a str,
     all: &mut Vec<RawAttribute<'a>>,
 ) -> Result<&'a str, ParseError<'a>>
     requires { all.old.items ≡ [] }
     ensures reads_rule { Gives (λ rest. (all.new.items, chars rest.now)) result
-        (read_all_said (chars text.now)) }
+        (read_raw_attributes (chars text.now)) }
 {
     let mut rest = text;
     for _ in 0..text.len() {
@@ -140,13 +141,13 @@ fn all_raw_attributes<'a>(
     all: &mut Vec<RawAttribute<'a>>,
 ) -> Result<&'a str, ParseError<'a>>
     ensures reads_rule { Gives (λ rest. (all.new.items, chars rest.now)) result
-        (read_all_said (chars text.now)) }
+        (read_raw_attributes (chars text.now)) }
 {
     all.clear();
     if !is_space_next(text) {
         return Ok(text);
     }
-    some_said(alloc, text, all)
+    some_raw_attributes(alloc, text, all)
 }
 
 /// Whether the tag is the tag of an empty element, and what follows its end.
@@ -168,7 +169,7 @@ fn tag_rest(text: &str) -> Result<(bool, &str), ParseError<'_>>
     ensures reads_rule { Gives (λ x. (x.0, chars x.1.now)) result
         (read_tag_end (after_front is_space (chars text.now))) }
 {
-    if let Some(behind) = behind_next(text, '>') {
+    if let Some(behind) = strip_char(text, '>') {
         return Ok((false, behind));
     }
     let (_, rest) = spaces(text);

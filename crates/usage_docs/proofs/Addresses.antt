@@ -7,7 +7,7 @@ use Rattle.xml_names.specs.Characters.{is_space}
 use Rattle.usage_docs.specs.declared.address_states.AddressState.{AddressState}
 use Rattle.usage_docs.specs.declared.address_states.AddressState.TheVariants.{Start, H, Ht, Htt, Http, Https, Colon, Slash, Whole, GoesOn, Other}
 use Rattle.usage_docs.specs.readers.AddressStates.{white, address_after, is_address}
-use Rattle.usage_docs.specs.Forms.{goes_on, is_http, trim_text, trim_front, trim_back}
+use Rattle.usage_docs.specs.Forms.{is_longer_than_word, is_http, trim_text, trim_front, trim_back}
 
 -- ---- what each state still needs, where `w` are the letters that are ignored at the ends
 
@@ -98,7 +98,7 @@ start w (c ∷ s) = start_step w (w c) c s (start w s)
 
 -- ---- where every letter counts
 
-every : (xs s : List ℕ) → reach (white false) xs s ≡ goes_on xs s
+every : (xs s : List ℕ) → reach (white false) xs s ≡ is_longer_than_word xs s
 every [] [] = refl
 every [] (c ∷ s) = refl
 every (x ∷ xs) [] = refl
@@ -123,19 +123,19 @@ black : (w : ℕ → Bool) (x c : ℕ) → IsTrue (not (w x)) → w c ≡ true �
 black w x c out white_c false e = refl
 black w x c out white_c true e = let same = eqb-true c x e in let k = ap w same in cc (k, out, white_c)
 
-blank_step : (t : List ℕ) (c : ℕ) → goes_on [] (if bytes_eq t [] then [] else (c ∷ t)) ≡ goes_on [] t
+blank_step : (t : List ℕ) (c : ℕ) → is_longer_than_word [] (if bytes_eq t [] then [] else (c ∷ t)) ≡ is_longer_than_word [] t
 blank_step [] c = refl
 blank_step (d ∷ t) c = refl
 
-empty_step : (b rest : Bool) (t : List ℕ) (c : ℕ) → goes_on [] t ≡ rest → goes_on [] (if b && bytes_eq t [] then [] else (c ∷ t)) ≡ (not b || rest)
+empty_step : (b rest : Bool) (t : List ℕ) (c : ℕ) → is_longer_than_word [] t ≡ rest → is_longer_than_word [] (if b && bytes_eq t [] then [] else (c ∷ t)) ≡ (not b || rest)
 empty_step true rest t c e = blank_step t c ∙ e
 empty_step false rest t c e = refl
 
-cut_step : (e m r : Bool) (x c : ℕ) (xs t : List ℕ) → (c == x) ≡ false → goes_on (x ∷ xs) (if e then [] else (c ∷ t)) ≡ ((c == x) && r)
+cut_step : (e m r : Bool) (x c : ℕ) (xs t : List ℕ) → (c == x) ≡ false → is_longer_than_word (x ∷ xs) (if e then [] else (c ∷ t)) ≡ ((c == x) && r)
 cut_step true m r x c xs t differ = rw differ
 cut_step false m r x c xs t differ = rw differ
 
-word_step : (b r : Bool) (x c : ℕ) (xs t : List ℕ) → (b ≡ true → (c == x) ≡ false) → goes_on xs t ≡ r → goes_on (x ∷ xs) (if b && bytes_eq t [] then [] else (c ∷ t)) ≡ ((c == x) && r)
+word_step : (b r : Bool) (x c : ℕ) (xs t : List ℕ) → (b ≡ true → (c == x) ≡ false) → is_longer_than_word xs t ≡ r → is_longer_than_word (x ∷ xs) (if b && bytes_eq t [] then [] else (c ∷ t)) ≡ ((c == x) && r)
 word_step true r x c xs t differ e = cut_step (bytes_eq t []) true r x c xs t (differ refl)
 word_step false r x c xs t differ e = ap (λ b. (c == x) && b) e
 
@@ -150,7 +150,7 @@ first_black w x xs k = (both (not (w x)) (list_all (λ y. not (w y)) xs) k).0
 others_black : (w : ℕ → Bool) (x : ℕ) (xs : List ℕ) → IsTrue (list_all (λ y. not (w y)) (x ∷ xs)) → IsTrue (list_all (λ y. not (w y)) xs)
 others_black w x xs k = (both (not (w x)) (list_all (λ y. not (w y)) xs) k).1
 
-cut : (w : ℕ → Bool) (xs s : List ℕ) → IsTrue (list_all (λ y. not (w y)) xs) → goes_on xs (trim_back w s) ≡ reach w xs s
+cut : (w : ℕ → Bool) (xs s : List ℕ) → IsTrue (list_all (λ y. not (w y)) xs) → is_longer_than_word xs (trim_back w s) ≡ reach w xs s
 cut w [] [] k = refl
 cut w [] (c ∷ s) k = empty_step (w c) (reach w [] s) (trim_back w s) c (cut w [] s k)
 cut w (x ∷ xs) [] k = refl

@@ -25,15 +25,22 @@ use Rattle.usage_docs.specs.declared.validation_result.ChildScan.{ChildScan}
 use Rattle.usage_docs.specs.UniqueKeys.{IsFirstClash, NoLater, Repeats, RepeatsAt, mark_of}
 use Rattle.usage_docs.specs.Forms.{AllFormed, MeetsConstraints, IsNodeFormed}
 use Rattle.usage_docs.specs.SchemaTable.{Scope, is_root, kind_of, root_kind}
-use Rattle.usage_docs.specs.readers.FirstFaults.{IsFirstAfter, IsFirstSoFar, PassesClash, PassesKey, RepeatsBelow, RepeatsKnown, fault_of}
+use Rattle.usage_docs.specs.readers.FirstFaults.{IsFirstAfter, IsFirstSoFar, PassesClash, PassesKey, clash_scan, RepeatsBelow, RepeatsKnown, fault_of_result}
 use Rattle.usage_docs.specs.readers.Parts.{end, follows}
 use Rattle.usage_docs.specs.readers.Repeats.{Holds, IsFirstRepeat, mark_by}
 use Rattle.usage_docs.specs.readers.Siblings.{node_children, one_more}
-use Rattle.usage_docs.specs.readers.Walks.{HoldsRow, IsNodeValid, part_behind}
+use Rattle.usage_docs.specs.readers.Walks.{HoldsRow, IsNodeValid, part_after}
 use Rattle.usage_docs.proofs.ClashLemmas.{count_next, kid_at, mark_within, repeats_within}
 use Rattle.usage_docs.proofs.NodesFormed.{FormedNodes}
 use Rattle.usage_docs.proofs.NodesValid.{ValidNodes}
 use Rattle.usage_docs.proofs.RepeatLemmas.{held_next}
+
+-- the same by the parts of the place and the scan
+abbrev pub FirstSoFar : ElementKind → Scope → List Tree → List ℕ → ℕ → ℕ → Option Clash → Option Clash → Type 0
+FirstSoFar row c xs base n clear before new = IsFirstSoFar (record { kind = row; scope = c; path = base }) xs before (record { count = n; clear = clear; clash = new })
+
+abbrev pub ClashPassed : ElementKind → Scope → List ℕ → Node → ChildScan → Option Clash → ChildScan → Option Clash → Type 0
+ClashPassed row c base n old before new found = PassesClash (record { kind = row; scope = c; path = base }) n (clash_scan old before) (clash_scan new found)
 
 -- ---- tests of all nodes
 
@@ -95,11 +102,11 @@ module _ (row : ElementKind) (c : Scope) (ns : List Node) (n : Node) (i : ℕ) (
   rest : drop i ns ≡ n ∷ drop (suc i) ns
   rest = drop-cons ns i n within ∙ ap (λ (x : Node). x ∷ drop (suc i) ns) (sym is)
 
-  pub valid_next : {All : Type 0} (now new first : Bool) (before part next : ℕ) → And new now (IsNodeValid row c before n) → part ≡ part_behind row c before n → next ≡ suc i
+  pub valid_next : {All : Type 0} (now new first : Bool) (before part next : ℕ) → And new now (IsNodeValid row c before n) → part ≡ part_after row c before n → next ≡ suc i
       → Stands now (ValidNodes row c before (drop i ns)) first All → Stands new (ValidNodes row c part (drop next ns)) first All
   valid_next {All} now new first before part next here part_is next_is all =
       subst (λ (b : ℕ). Stands new (ValidNodes row c b (drop next ns)) first All) (sym part_is)
-      (subst (λ (j : ℕ). Stands new (ValidNodes row c (part_behind row c before n) (drop j ns)) first All) (sym next_is)
+      (subst (λ (j : ℕ). Stands new (ValidNodes row c (part_after row c before n) (drop j ns)) first All) (sym next_is)
       (one_done now new first here (subst (λ (xs : List Node). Stands now (ValidNodes row c before xs) first All) rest all)))
 
   pub formed_next : {All : Type 0} (now new first : Bool) (next : ℕ) → And new now (IsNodeFormed row c n) → next ≡ suc i → Stands now (FormedNodes row c (drop i ns)) first All → Stands new (FormedNodes row c (drop next ns)) first All
@@ -181,7 +188,7 @@ module _ (usage : Usage) (t : Tree) where
   judged_as true true (Some clash) valid formed first = (valid.0 refl, formed.0 refl, first)
 
   -- the first fault by what is found
-  pub judged_by : (found : ValidationResult) → IsTrue found.valid ↔ IsValidDocument usage t → IsTrue found.formed ↔ MeetsConstraints usage t → IsFirstClash usage t found.clash → HasFirstFault usage t (fault_of found)
+  pub judged_by : (found : ValidationResult) → IsTrue found.valid ↔ IsValidDocument usage t → IsTrue found.formed ↔ MeetsConstraints usage t → IsFirstClash usage t found.clash → HasFirstFault usage t (fault_of_result found)
   judged_by found = judged_as found.valid found.formed found.clash
 
 -- ---- clashes below children
@@ -252,9 +259,9 @@ module _ (row : ElementKind) (c : Scope) (xs : List Tree) (base : List ℕ) wher
         ]
 
     abbrev Next : ℕ → ℕ → Option Clash → Option Clash → Type 0
-    Next next clear before new = IsFirstSoFar row c xs base next clear before new
+    Next next clear before new = FirstSoFar row c xs base next clear before new
 
-    found_next : (next clear new_clear : ℕ) (before old new : Option Clash) → next ≡ suc i → IsFirstAfter old (RepeatsKnown (kind_of row (inside c child_element) child_element.name) (inside c child_element) child_element) (base ++ i ∷ []) new → new_clear ≡ cond (is_some new) clear (suc clear) → IsFirstSoFar row c xs base i clear before old → Next next new_clear before new
+    found_next : (next clear new_clear : ℕ) (before old new : Option Clash) → next ≡ suc i → IsFirstAfter old (RepeatsKnown (kind_of row (inside c child_element) child_element.name) (inside c child_element) child_element) (base ++ i ∷ []) new → new_clear ≡ cond (is_some new) clear (suc clear) → FirstSoFar row c xs base i clear before old → Next next new_clear before new
     found_next next clear new_clear (Some b) None new is at counts so = absurd (none_is_some b so.0)
     found_next next clear new_clear (Some b) (Some o) new is at counts so = (at ∙ so.0, counts ∙ ap (λ (x : Option Clash). cond (is_some x) clear (suc clear)) at ∙ so.1)
     found_next next clear new_clear None (Some o) None is at counts so = absurd (none_is_some o at)
@@ -266,13 +273,13 @@ module _ (row : ElementKind) (c : Scope) (xs : List Tree) (base : List ℕ) wher
         (at.0, (at.1.0 ∙ append_assoc base (i ∷ []) at.0, below_from at.0 n.key at.1.1, first_next at.0 so.1 at.1.2))
 
   -- a node that isn't an element changes nothing
-  same_next : (i next clear new_clear : ℕ) (before old new : Option Clash) → next ≡ i → new ≡ old → new_clear ≡ clear → IsFirstSoFar row c xs base i clear before old → IsFirstSoFar row c xs base next new_clear before new
+  same_next : (i next clear new_clear : ℕ) (before old new : Option Clash) → next ≡ i → new ≡ old → new_clear ≡ clear → FirstSoFar row c xs base i clear before old → FirstSoFar row c xs base next new_clear before new
   same_next i next clear new_clear before old new is same clear_is so =
-      subst (λ (j : ℕ). IsFirstSoFar row c xs base j new_clear before new) (sym is)
-      (subst (λ (x : Option Clash). IsFirstSoFar row c xs base i new_clear before x) (sym same) (subst (λ (k : ℕ). IsFirstSoFar row c xs base i k before old) (sym clear_is) so))
+      subst (λ (j : ℕ). FirstSoFar row c xs base j new_clear before new) (sym is)
+      (subst (λ (x : Option Clash). FirstSoFar row c xs base i new_clear before x) (sym same) (subst (λ (k : ℕ). FirstSoFar row c xs base i k before old) (sym clear_is) so))
 
   -- nothing is found at the beginning
-  pub none_found_yet : (before : Option Clash) → IsFirstSoFar row c xs base 0 0 before before
+  pub none_found_yet : (before : Option Clash) → FirstSoFar row c xs base 0 0 before before
   none_found_yet None = (refl, λ i p key less r. absurd (omega (arith, less)))
   none_found_yet (Some b) = (refl, refl)
 
@@ -288,8 +295,8 @@ module _ (row : ElementKind) (c : Scope) (xs : List Tree) (base : List ℕ) wher
     key_next (Chars t) old new within is from next passes held all = subst (λ (k : ℕ). Holds row c xs k new.keys.items) (sym next) (subst (λ (ks : List KeyedChild). Holds row c xs old.count ks) (sym passes.1) (held (sym passes.0 ∙ all)))
     key_next (Comment x) old new within is from next passes held all = subst (λ (k : ℕ). Holds row c xs k new.keys.items) (sym next) (subst (λ (ks : List KeyedChild). Holds row c xs old.count ks) (sym passes.1) (held (sym passes.0 ∙ all)))
 
-    pub clash_next : (n : Node) (old new : ChildScan) (before found found_new : Option Clash) → i < length ns → n ≡ get_or ns i n → old.count ≡ count → new.count ≡ one_more n old.count → PassesClash row c base n old found new found_new
-        → IsFirstSoFar row c xs base old.count old.clear before found → IsFirstSoFar row c xs base new.count new.clear before found_new
+    pub clash_next : (n : Node) (old new : ChildScan) (before found found_new : Option Clash) → i < length ns → n ≡ get_or ns i n → old.count ≡ count → new.count ≡ one_more n old.count → ClashPassed row c base n old found new found_new
+        → FirstSoFar row c xs base old.count old.clear before found → FirstSoFar row c xs base new.count new.clear before found_new
     clash_next (Elem child_element) old new before found found_new within is from next passes so =
         found_next old.count child_element (subst (λ (k : ℕ). slice_get xs k ≡ Some child_element) (sym from) (kid_here (Elem child_element) child_element within is refl)) new.count old.clear new.clear before found found_new next passes.0 passes.1 so
     clash_next (Chars t) old new before found found_new within is from next passes so = same_next old.count new.count old.clear new.clear before found found_new next passes.0 passes.1 so
@@ -309,7 +316,7 @@ module _ (row : ElementKind) (c : Scope) (xs : List Tree) (base : List ℕ) wher
   clash_cases P at below (i ∷ n ∷ p) key r = below i (n ∷ p) key (repeats_within row c xs i (n ∷ p) key r) r
 
   abbrev SoFar : ℕ → Option Clash → Option Clash → Type 0
-  SoFar clear before old = IsFirstSoFar row c xs base (length xs) clear before old
+  SoFar clear before old = FirstSoFar row c xs base (length xs) clear before old
 
   abbrev After : Option Clash → Option Clash → Type 0
   After before new = IsFirstAfter before (RepeatsAt row c xs) base new

@@ -7,8 +7,8 @@ use Rattle.std.specs.Cmp.Lexicographic.{bytes_decides}
 use Rattle.std.specs.Option.{option_or}
 use Rattle.std.specs.Ordering.{match_ordering}
 use Rattle.xml_tree.specs.Tree.{Content, Tree, tree_of}
-use Rattle.xml_names.specs.Markup.{print_decl, opening, byte_len}
-use Rattle.xml_tree.specs.Print.{print, print_content, ending, is_empty}
+use Rattle.xml_names.specs.Markup.{print_decl, tag_front, byte_len}
+use Rattle.xml_tree.specs.Print.{print, print_content, rest_of_element, is_empty}
 use Rattle.xml_names.specs.inner.DeclarationMaps.{gathered, gathered_bindings, placed}
 use Rattle.xml_names.specs.Scopes.{AreInOrder, binds, bindings_in, declared_uri}
 use Rattle.xml_names.specs.declared.names.Attr.{Attr}
@@ -19,7 +19,7 @@ use Rattle.xml_names.proofs.BindingLaws.{Behind, AreInOrder-placed, AreInOrder-g
 use Rattle.xml_names.proofs.BindingWords.{gathered_are}
 use Rattle.xml_names.proofs.ByteOrder.{order, order_same, order_equal}
 use Rattle.xml_names.proofs.GatheringLemmas.{gathered-append}
-use Rattle.xml_names.proofs.PrintLengths.{byte_len-append, byte_len-opening}
+use Rattle.xml_names.proofs.PrintLengths.{byte_len-append, byte_len-tag_front}
 use Rattle.xml_names.proofs.ScopeLemmas.{drop_item, option_or-none}
 use Rattle.usage_docs.specs.SchemaTable.{Scope}
 use Rattle.usage_docs.specs.Services.{listed_as}
@@ -64,8 +64,8 @@ whole_opening w b o p e d x y whole bare begins alone = omega arith
 
 pub with_decls : (n : Name) (ds : List Decl) (ats : List Attr) (k : Content) → byte_len (print (tree_of n ds ats k)) ≡ byte_len (print (tree_of n [] ats k)) + decls_len ds
 with_decls n ds ats k =
-    let end = ending n (is_empty k) (print_content k) in
-    whole_opening _ _ _ _ _ _ _ _ (byte_len-append (opening n ds ats) end) (byte_len-append (opening n [] ats) end) (byte_len-opening n ds ats) (byte_len-opening n [] ats)
+    let end = rest_of_element n (is_empty k) (print_content k) in
+    whole_opening _ _ _ _ _ _ _ _ (byte_len-append (tag_front n ds ats) end) (byte_len-append (tag_front n [] ats) end) (byte_len-tag_front n ds ats) (byte_len-tag_front n [] ats)
 
 -- ---- the bindings whose prefixes declarations don't redeclare
 abbrev pub kept : List Decl → List Decl → List Decl

@@ -2,7 +2,7 @@
 use Rattle.std.proofs.Common.{◌≡◌, ◌≤◌, ◌<◌, ◌+◌, ◌==◌, if◌then◌else◌, ℕ, min, Bool, true, false, cond, List, [], ◌∷◌, ◌++◌, length, take, drop, map, filter, flat_map, refl, ap, sym, ◌∙◌, arith, append-nil}
 use Rattle.xml_tree.specs.Tree.{Content, Tree, tree_of, child_elements, child_elements_of}
 use Rattle.xml_tree.specs.Nodes.{content_of, nodes_of, exchange_nodes}
-use Rattle.xml_names.specs.Markup.{opening, closing, byte_len}
+use Rattle.xml_names.specs.Markup.{tag_front, end_tag_text, byte_len}
 use Rattle.xml_tree.specs.Print.{print, print_content}
 use Rattle.xml_names.proofs.PrintLengths.{byte_len-append, ascii}
 use Rattle.xml_tree.specs.declared.tree.Node.{Node}
@@ -12,7 +12,8 @@ use Rattle.usage_docs.specs.SchemaTable.{Scope, services_namespace}
 use Rattle.usage_docs.specs.declared.service_index.IndexFault.TheVariants.{TooLarge}
 use Rattle.std.proofs.lemmas.Str.{length-le-encodes}
 use Rattle.std.proofs.lemmas.Bool.Decides.{nat_tests}
-use Rattle.usage_docs.specs.Services.{index_limit, RefusesServices, is_service, listed_as, index_name, index_decls, index_of, index_text, index_len}
+use Rattle.usage_docs.specs.Services.{RefusesServices, is_service, listed_as, index_name, index_decls, index_of, index_text, index_len}
+use Rattle.usage_docs.specs.declared.service_index.TheConstants.{INDEX_LIMIT}
 use Rattle.usage_docs.specs.readers.ServiceNodes.{listed_nodes, elems_len}
 use Rattle.usage_docs.specs.inner.Indexes.{len_with}
 use Rattle.usage_docs.specs.readers.Siblings.{node_children}
@@ -92,11 +93,11 @@ unfolding index_name index_decls services_namespace encode
 index_len_is [] = refl
 index_len_is (s ∷ ss) =
     let p = print_content (content_of (map Elem (s ∷ ss))) in
-    let all = byte_len-append (opening index_name index_decls []) (62 ∷ (p ++ closing index_name)) in
-    let mark = ascii 62 (p ++ closing index_name) (omega arith) in
-    let parts = byte_len-append p (closing index_name) in
-    let start : byte_len (opening index_name index_decls []) ≡ 65 = refl in
-    let end : byte_len (closing index_name) ≡ 19 = refl in
+    let all = byte_len-append (tag_front index_name index_decls []) (62 ∷ (p ++ end_tag_text index_name)) in
+    let mark = ascii 62 (p ++ end_tag_text index_name) (omega arith) in
+    let parts = byte_len-append p (end_tag_text index_name) in
+    let start : byte_len (tag_front index_name index_decls []) ≡ 65 = refl in
+    let end : byte_len (end_tag_text index_name) ≡ 19 = refl in
     let inside = inner_len (s ∷ ss) in
     let some = print_some s in
     let whole = whole_some (elems_len (map Elem (s ∷ ss))) (omega (arith, some)) in
@@ -116,13 +117,13 @@ module _ (ss new : List Tree) (inner total len : ℕ) (counted : inner ≡ elems
   len_is : len ≡ min (index_len (ss ++ new)) 18446744073709551615
   len_is = is ∙ len_at (elems_len (map Elem (ss ++ new))) total total_is ∙ ap (λ n. min n 18446744073709551615) (sym (index_len_is (ss ++ new)))
 
-  pub too_large : index_limit < len → RefusesServices (ss ++ new) (TooLarge len)
+  pub too_large : INDEX_LIMIT < len → RefusesServices (ss ++ new) (TooLarge len)
   too_large h = let e = len_is in (omega arith, e)
 
-  pub small_enough : len ≤ index_limit → index_len (ss ++ new) ≤ index_limit
+  pub small_enough : len ≤ INDEX_LIMIT → index_len (ss ++ new) ≤ INDEX_LIMIT
   small_enough h = let e = len_is in omega arith
 
-  pub counted_again : len ≤ index_limit → total ≡ elems_len (map Elem (ss ++ new))
+  pub counted_again : len ≤ INDEX_LIMIT → total ≡ elems_len (map Elem (ss ++ new))
   counted_again h =
       let e = small_enough h in
       let w = index_len_is (ss ++ new) in
@@ -146,4 +147,4 @@ prints (s ∷ ss) = ap (λ x. print s ++ x) (prints ss)
 pub index_prints : (ss : List Tree) → print (index_of ss) ≡ index_text ss
 unfolding index_name index_decls services_namespace
 index_prints [] = refl
-index_prints (s ∷ ss) = ap (λ p. opening index_name index_decls [] ++ (62 ∷ (p ++ closing index_name))) (prints (s ∷ ss))
+index_prints (s ∷ ss) = ap (λ p. tag_front index_name index_decls [] ++ (62 ∷ (p ++ end_tag_text index_name))) (prints (s ∷ ss))

@@ -9,7 +9,7 @@ use Rattle.usage_docs.specs.declared.schema_table.ElementKind.{ElementKind}
 use Rattle.usage_docs.specs.SchemaTable.{Scope, Child, child_class_of, root_kind, items_in, content_model_of, MatchesModel as Matches}
 use Rattle.xml_tree.specs.TreeScopes.{inside}
 use Rattle.usage_docs.specs.Validity.{IsValidDocument, children_of}
-use Rattle.usage_docs.specs.Gaps.{last_of, child_before, child_behind, FitsGap, FitsBelow, GapThere}
+use Rattle.usage_docs.specs.Gaps.{last_of, child_before, child_after, FitsGap, FitsBelow, GapThere}
 use Rattle.usage_docs.specs.readers.Gaps.{part_before, part_after, FollowsGap, FollowsBelow}
 use Rattle.usage_docs.specs.readers.Parts.{part_in, part_of, follows, end}
 use Rattle.usage_docs.specs.readers.Walks.{Walks}
@@ -74,7 +74,7 @@ module _ (row : ElementKind) (c : Scope) where
       ∙ found_part row (children_of row c rest) j (omega (arith, count rest)) (part_of row (c ++ ds ∷ []) n) b
   before_is (comment_node t x rest) (suc j) b l = before_is rest (suc j) b l
 
-  after_is : (content : Content) (j : ℕ) → part_after row c j content ≡ part_or row end (child_behind j (children_of row c content))
+  after_is : (content : Content) (j : ℕ) → part_after row c j content ≡ part_or row end (child_after j (children_of row c content))
   unfolding part_of
   after_is (last t) j = refl
   after_is (more t n ds ats k rest) zero = refl
@@ -90,7 +90,7 @@ module _ (row : ElementKind) (c : Scope) where
       front : List Child
       back : List Child
       ends : last_of front ≡ child_before j (children_of row c content)
-      begins : slice_get back 0 ≡ child_behind j (children_of row c content)
+      begins : slice_get back 0 ≡ child_after j (children_of row c content)
       all : children_of row c (put j new content) ≡ front ++ it ∷ back
 
     first_behind : (y : Child) (front ys : List Child) (j : ℕ) → j ≤ length ys → last_of front ≡ child_before j ys → last_of (y ∷ front) ≡ child_before (suc j) (y ∷ ys)

@@ -8,7 +8,7 @@ use Rattle.xml_tree.specs.declared.tree.Node.TheVariants.{Elem, Chars, Comment}
 use Rattle.usage_docs.specs.declared.schema_table.ElementKind.{ElementKind}
 use Rattle.usage_docs.specs.SchemaTable.{Scope}
 use Rattle.usage_docs.specs.readers.Parts.{follows, end}
-use Rattle.usage_docs.specs.readers.Walks.{Walks, HoldsRow, IsNodeValid, part_behind}
+use Rattle.usage_docs.specs.readers.Walks.{Walks, HoldsRow, IsNodeValid, part_after}
 use Rattle.usage_docs.specs.Validity.{text_passes}
 use Rattle.usage_docs.proofs.BlankTexts.{passes_append, passes_none}
 use Rattle.usage_docs.proofs.ChildWalks.{holds_walked}
@@ -16,7 +16,7 @@ use Rattle.usage_docs.proofs.ChildWalks.{holds_walked}
 -- the nodes after a child of the part `before`
 abbrev pub ValidNodes : ElementKind → Scope → ℕ → List Node → Type 0
 ValidNodes row c b [] = IsTrue (follows row b end)
-ValidNodes row c b (n ∷ ns) = IsNodeValid row c b n × ValidNodes row c (part_behind row c b n) ns
+ValidNodes row c b (n ∷ ns) = IsNodeValid row c b n × ValidNodes row c (part_after row c b n) ns
 
 before_to : (row : ElementKind) (c : Scope) (b : ℕ) (t : List ℕ) (content : Content) → Walks row c b (with_text_before t content) → IsTrue (text_passes row t) × Walks row c b content
 before_to row c b t (last u) v = let p = (passes_append row t u).0 v.0 in (p.0, (p.1, v.1))
@@ -30,13 +30,13 @@ before_from row c b t (comment_node u x rest) p v = ((passes_append row t u).1 (
 
 pub nodes_to : (row : ElementKind) (c : Scope) (ns : List Node) (b : ℕ) → Walks row c b (content_of ns) → ValidNodes row c b ns
 nodes_to row c [] b v = v.1
-nodes_to row c (Elem e ∷ ns) b v = ((v.1, v.2), nodes_to row c ns (part_behind row c b (Elem e)) v.3)
+nodes_to row c (Elem e ∷ ns) b v = ((v.1, v.2), nodes_to row c ns (part_after row c b (Elem e)) v.3)
 nodes_to row c (Chars t ∷ ns) b v = let w = before_to row c b t (content_of ns) v in (w.0, nodes_to row c ns b w.1)
 nodes_to row c (Comment x ∷ ns) b v = (tt, nodes_to row c ns b v.1)
 
 pub nodes_from : (row : ElementKind) (c : Scope) (ns : List Node) (b : ℕ) → ValidNodes row c b ns → Walks row c b (content_of ns)
 nodes_from row c [] b v = (passes_none row, v)
-nodes_from row c (Elem e ∷ ns) b v = (passes_none row, v.0.0, v.0.1, nodes_from row c ns (part_behind row c b (Elem e)) v.1)
+nodes_from row c (Elem e ∷ ns) b v = (passes_none row, v.0.0, v.0.1, nodes_from row c ns (part_after row c b (Elem e)) v.1)
 nodes_from row c (Chars t ∷ ns) b v = before_from row c b t (content_of ns) v.0 (nodes_from row c ns b v.1)
 nodes_from row c (Comment x ∷ ns) b v = (passes_none row, nodes_from row c ns b v.1)
 

@@ -31,15 +31,15 @@ is_reference s =
     not (bytes_eq (first_segment s) []) && list_all (λ c. not (c == 58)) (first_segment s)
 
 -- a text begins with a word and is longer
-abbrev pub goes_on : List ℕ → List ℕ → Bool
-goes_on [] [] = false
-goes_on [] (c ∷ cs) = true
-goes_on (w ∷ ws) [] = false
-goes_on (w ∷ ws) (c ∷ cs) = (c == w) && goes_on ws cs
+abbrev pub is_longer_than_word : List ℕ → List ℕ → Bool
+is_longer_than_word [] [] = false
+is_longer_than_word [] (c ∷ cs) = true
+is_longer_than_word (w ∷ ws) [] = false
+is_longer_than_word (w ∷ ws) (c ∷ cs) = (c == w) && is_longer_than_word ws cs
 
 -- an address of HTTP: `http://` or `https://`, and at least one more character
 unfoldable pub is_http : List ℕ → Bool
-is_http s = goes_on (codes "http://") s || goes_on (codes "https://") s
+is_http s = is_longer_than_word (codes "http://") s || is_longer_than_word (codes "https://") s
 
 -- a text without leading white space
 abbrev pub trim_front : (ℕ → Bool) → List ℕ → List ℕ

@@ -32,15 +32,15 @@ abbrev pub child_before : ℕ → List Child → Option Child
 child_before zero xs = None
 child_before (suc j) xs = slice_get xs j
 
-abbrev pub child_behind : ℕ → List Child → Option Child
-child_behind j xs = slice_get xs j
+abbrev pub child_after : ℕ → List Child → Option Child
+child_after j xs = slice_get xs j
 
 -- the new element is valid by itself, and may come between the two children beside the gap
 abbrev pub FitsGap : ElementKind → Scope → Content → Tree → ℕ → Type 0
 FitsGap row c content new j =
     ValidChild row c new
     × MayComeBetween row (child_before j (children_of row c content))
-    (child_class_of row (inside c new) new.name) (child_behind j (children_of row c content))
+    (child_class_of row (inside c new) new.name) (child_after j (children_of row c content))
 
 -- the new element fits the gap in the element at a path below one of this kind; the content of
 -- foreign elements isn't checked

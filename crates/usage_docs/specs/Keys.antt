@@ -65,12 +65,12 @@ attr_passes row c a =
     && not (bytes_eq (element_namespace c a.name) services_namespace))
 
 -- a required attribute is present
-abbrev pub is_met : Attribute → List Attr → Bool
-is_met Nothing ats = true
-is_met (May key) ats = true
-is_met (Must key) ats = is_some (value_of key ats)
+abbrev pub is_present : Attribute → List Attr → Bool
+is_present Nothing ats = true
+is_present (May key) ats = true
+is_present (Must key) ats = is_some (value_of key ats)
 
 -- the attributes of an element of this kind are allowed, in the scope that ends with its own
 -- declarations
 unfoldable pub attrs_pass : ElementKind → Scope → List Attr → Bool
-attrs_pass row c ats = list_all (attr_passes row c) ats && is_met (attribute_of row) ats
+attrs_pass row c ats = list_all (attr_passes row c) ats && is_present (attribute_of row) ats

@@ -76,11 +76,7 @@ document_len t = 39 + byte_len (print t)
 abbrev pub index_len : List Tree → ℕ
 index_len ss = document_len (index_of ss)
 
--- the greatest length of the index
-abbrev pub index_limit : ℕ
-index_limit = INDEX_LIMIT
-
 -- no index with these services is allowed: it would have this length
 abbrev pub RefusesServices : List Tree → IndexFault → Type 0
 RefusesServices ss (TooLarge len) =
-    (index_limit < index_len ss) × (len ≡ min (index_len ss) u64_max)
+    (INDEX_LIMIT < index_len ss) × (len ≡ min (index_len ss) u64_max)

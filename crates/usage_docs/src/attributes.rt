@@ -8,7 +8,7 @@ ghost use Rattle.std.specs.List.{list_all};
 ghost use Rattle.std.specs.Option.{option_map_or};
 ghost use Rattle.usage_docs.specs.Words.{is_ascii};
 ghost use Rattle.usage_docs.specs.Keys.{word, attribute_of, key_of, is_key, value_of, key_value};
-ghost use Rattle.usage_docs.specs.Keys.{attr_passes, attrs_pass, is_met};
+ghost use Rattle.usage_docs.specs.Keys.{attr_passes, attrs_pass, is_present};
 
 use crate::schema_table::{
     Attribute, ElementKind, Key, is_word, lists_namespace, services_namespace,
@@ -154,7 +154,7 @@ fn attr_passes(row: ElementKind, scope: &LinkedScope<'_>, attr: &Attr) -> bool
 
 // Whether the required attribute of an element of this kind is there, if it has one.
 fn has_needed(row: ElementKind, attrs: &[Attr]) -> bool
-    ensures exact { result ≡ is_met (attribute_of row) attrs.now }
+    ensures exact { result ≡ is_present (attribute_of row) attrs.now }
 {
     match attribute_of(row) {
         Attribute::Must(key) => has_value(key, attrs),

@@ -77,7 +77,7 @@ fn push_namespaces(alloc: Global, made: &mut Element) -> Result<(), NoMemory>
     push_word(alloc, made, local, "urn:ietf:params:xml:ns:xcap-error")
 }
 
-// The namespaces.
+// The element that lists the namespaces that the server knows.
 fn namespaces(alloc: Global) -> Result<Element, NoMemory>
     ensures ok { IfOk result (λ made. made ≡ namespaces) }
 {

@@ -22,7 +22,8 @@ pub enum IndexFault {
     TooLarge(usize),
 }
 
-/// The greatest length of the printed index, in bytes.
+/// The greatest length of the printed index, in bytes: 16,777,216. In place of a longer
+/// one stands a 507.
 pub const INDEX_LIMIT: usize = 16_777_216;
 
 // The length of the index without services.
@@ -103,7 +104,11 @@ fn push_listed(
 }
 
 // The services of a root, in the scope inside it, as the index lists them.
-fn listed_in(alloc: Global, scope: &LinkedScope<'_>, root: &Element) -> Result<Vec<Node>, NoMemory>
+fn service_nodes(
+    alloc: Global,
+    scope: &LinkedScope<'_>,
+    root: &Element,
+) -> Result<Vec<Node>, NoMemory>
     requires { scope.now ≡ root.now.decls ∷ [] }
     ensures ok { IfOk result (λ made. made.items ≡ map Elem (service_elements root.now)) }
 {
@@ -119,7 +124,7 @@ fn service_elements(alloc: Global, root: &Element) -> Result<Vec<Node>, NoMemory
     ensures ok { IfOk result (λ made. made.items ≡ map Elem (service_elements root.now)) }
 {
     let declared = IndexedDecls::with_index(alloc, root.decls())?;
-    listed_in(alloc, &LinkedScope::empty().inside(&declared), root)
+    service_nodes(alloc, &LinkedScope::empty().inside(&declared), root)
 }
 
 // The length of an index whose services have this length.
@@ -137,7 +142,8 @@ impl IndexBuilder {
     ghost use Rattle.xml_names.specs.Memory.{OfFault};
     ghost use Rattle.xml_tree.specs.Print.{print};
     ghost use Rattle.usage_docs.specs.Services.{service_elements, index_of, index_text, index_len};
-    ghost use Rattle.usage_docs.specs.Services.{index_limit, RefusesServices};
+    ghost use Rattle.usage_docs.specs.Services.{RefusesServices};
+    ghost use Rattle.usage_docs.specs.declared.service_index.TheConstants.{INDEX_LIMIT};
 
     /// An index without services.
     ///
@@ -163,7 +169,7 @@ impl IndexBuilder {
     pub fn add(&mut self, root: &Element) -> Result<(), ReadError<IndexFault>>
         ensures appended { OnOk result (self.new ≡ self.old ++ service_elements root.now) }
         ensures err_unchanged { OnErr result (self.new ≡ self.old) }
-        ensures at_most_limit { OnOk result (index_len self.new ≤ index_limit) }
+        ensures at_most_limit { OnOk result (index_len self.new ≤ INDEX_LIMIT) }
         ensures refused_too_long { IfErr result
             (λ error. OfFault (RefusesServices (self.old ++ service_elements root.now)) error) }
     {

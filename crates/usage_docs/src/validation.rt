@@ -1,7 +1,7 @@
 //! Validation of a document and of parts of one, each by one walk (RFC 4826, sections 3.2, 3.4.5,
 //! 4.2 and 4.4.5).
 ghost use Rattle.std.specs.Prelude.{◌≡◌, ◌≤◌, ◌+◌, ◌∷◌, [], ◌↔◌, length, IsTrue};
-ghost use Rattle.xml_names.specs.Limits.{max_levels};
+ghost use Rattle.xml_names.specs.declared.limits.TheConstants.{MAX_LEVELS};
 ghost use Rattle.xml_tree.specs.Tree.{content_height, height, child_elements_of};
 ghost use Rattle.xml_tree.specs.declared.path.TheConstants.{PATH_LIMIT};
 ghost use Rattle.xml_tree.specs.declared.tree.Node.TheVariants.{Elem};
@@ -9,14 +9,14 @@ ghost use Rattle.usage_docs.specs.UniqueKeys.{IsFirstClash, RepeatsAt};
 ghost use Rattle.usage_docs.specs.Forms.{MeetsConstraints, IsNodeFormed};
 ghost use Rattle.usage_docs.specs.Validation.{HasFirstFault};
 ghost use Rattle.usage_docs.specs.Validity.{IsValidDocument, ValidChild};
-ghost use Rattle.usage_docs.specs.readers.FirstFaults.{fault_of};
+ghost use Rattle.usage_docs.specs.readers.FirstFaults.{fault_of_result};
 ghost use Rattle.usage_docs.specs.readers.Siblings.{IsFirst};
 
 use crate::attributes::attrs_pass;
 use crate::keys::Clash;
 use crate::path_trail::Trail;
 use crate::schema_table::{ElementKind, is_root, kind_of, root_kind};
-use crate::validation_result::{ValidationResult, walk_inside, walk_known};
+use crate::validation_result::{ValidationResult, walk_if_kind, walk_inside};
 use doc_names::Usage;
 use std::alloc::Global;
 use xml_names::declared_in;
@@ -34,7 +34,7 @@ pub enum Fault {
 }
 
 // What is found in a root, in the scope of its declarations.
-fn found_in_scope(
+fn find_in_scope(
     alloc: Global,
     usage: Usage,
     scope: &LinkedScope<'_>,
@@ -43,7 +43,7 @@ fn found_in_scope(
     requires { scope.now ≡ root.now.decls ∷ [] }
     ensures valid_root { IsTrue result.valid ↔ IsValidDocument usage root.now }
     ensures formed_root { IsTrue result.formed ↔ MeetsConstraints usage root.now }
-    ensures first_root_clash { height root.now ≤ max_levels
+    ensures first_root_clash { height root.now ≤ MAX_LEVELS
         → IsFirstClash usage root.now result.clash }
 {
     let kind = root_kind(usage);
@@ -55,18 +55,18 @@ fn found_in_scope(
 }
 
 // What is found in a root.
-fn found_in_root(alloc: Global, usage: Usage, root: &Element) -> ValidationResult
+fn find_in_root(alloc: Global, usage: Usage, root: &Element) -> ValidationResult
     ensures valid_document { IsTrue result.valid ↔ IsValidDocument usage root.now }
     ensures formed_document { IsTrue result.formed ↔ MeetsConstraints usage root.now }
-    ensures first_document_clash { height root.now ≤ max_levels
+    ensures first_document_clash { height root.now ≤ MAX_LEVELS
         → IsFirstClash usage root.now result.clash }
 {
     let declared = declared_in(alloc, root.decls());
-    found_in_scope(alloc, usage, &LinkedScope::empty().inside(&declared), root)
+    find_in_scope(alloc, usage, &LinkedScope::empty().inside(&declared), root)
 }
 
 // What is found in a child, in the scope around it and by the kind of its parent.
-fn found_in_child(
+fn find_in_child(
     alloc: Global,
     row: ElementKind,
     scope: &LinkedScope<'_>,
@@ -81,7 +81,7 @@ fn found_in_child(
     let kind = kind_of(row, &inside, child_element.name());
     let mut found = ValidationResult::nothing();
     let path = Path::root();
-    walk_known(
+    walk_if_kind(
         alloc,
         kind,
         &inside,
@@ -92,9 +92,9 @@ fn found_in_child(
     found
 }
 
-// The first fault by what is found in a root.
-fn fault_of(found: ValidationResult) -> Option<Fault>
-    ensures exact { result ≡ fault_of found }
+// The first fault of a validation result.
+fn fault_of_result(found: ValidationResult) -> Option<Fault>
+    ensures exact { result ≡ fault_of_result found }
 {
     if !found.valid {
         return Some(Fault::Invalid);
@@ -112,35 +112,35 @@ fn fault_of(found: ValidationResult) -> Option<Fault>
 /// exactly when the tree is a document of the usage. Without memory for all keys they are
 /// compared pairwise.
 pub fn first_fault(alloc: Global, usage: Usage, root: &Element) -> Option<Fault>
-    requires height_bounded { height root.now ≤ max_levels }
+    requires height_bounded { height root.now ≤ MAX_LEVELS }
     ensures has_first_fault { HasFirstFault usage root.now result }
 {
-    let found = found_in_root(alloc, usage, root);
-    fault_of(found)
+    let found = find_in_root(alloc, usage, root);
+    fault_of_result(found)
 }
 
 /// Whether a document is valid for its usage.
 pub fn schema(alloc: Global, usage: Usage, root: &Element) -> bool
     ensures valid_iff { IsTrue result ↔ IsValidDocument usage root.now }
 {
-    found_in_root(alloc, usage, root).valid
+    find_in_root(alloc, usage, root).valid
 }
 
 /// Whether every `ref`, `anchor` and `resource-list` of a document has its form.
 pub fn constraints(alloc: Global, usage: Usage, root: &Element) -> bool
     ensures exact { IsTrue result ↔ MeetsConstraints usage root.now }
 {
-    found_in_root(alloc, usage, root).formed
+    find_in_root(alloc, usage, root).formed
 }
 
 /// The first element in document order whose key equals the key of an earlier sibling of its
 /// kind: None exactly when keys are unique. Without memory for all keys they are compared
 /// pairwise.
 pub fn first_clash(alloc: Global, usage: Usage, root: &Element) -> Option<Clash>
-    requires { height root.now ≤ max_levels }
+    requires { height root.now ≤ MAX_LEVELS }
     ensures first_of_clashes { IsFirstClash usage root.now result }
 {
-    found_in_root(alloc, usage, root).clash
+    find_in_root(alloc, usage, root).clash
 }
 
 /// Whether a child is valid by itself, in the scope around it and by the kind of its parent: it
@@ -153,7 +153,7 @@ pub fn is_valid_child(
 ) -> bool
     ensures exact { IsTrue result ↔ ValidChild row scope.now child_element.now }
 {
-    found_in_child(alloc, row, scope, child_element).valid
+    find_in_child(alloc, row, scope, child_element).valid
 }
 
 /// Whether the references of a child and of its descendants have their form, in the scope around
@@ -166,7 +166,7 @@ pub fn is_formed_child(
 ) -> bool
     ensures exact { IsTrue result ↔ IsNodeFormed row scope.now (Elem child_element.now) }
 {
-    found_in_child(alloc, row, scope, child_element).formed
+    find_in_child(alloc, row, scope, child_element).formed
 }
 
 /// The first clash below an element of this kind at a path, in the scope inside it: the first

@@ -15,9 +15,10 @@ ghost use Rattle.usage_docs.specs.SchemaTable.{Scope};
 ghost use Rattle.usage_docs.specs.Validity.{ValidInRow};
 ghost use Rattle.usage_docs.specs.readers.Repeats.{Enters, Holds, IsFirstRepeat, mark_by};
 ghost use Rattle.usage_docs.specs.readers.Siblings.{one_more};
-ghost use Rattle.usage_docs.specs.readers.Walks.{HoldsRow, IsNodeValid, part_behind};
+ghost use Rattle.usage_docs.specs.readers.Walks.{HoldsRow, IsNodeValid, part_after};
 ghost use Rattle.usage_docs.specs.readers.FirstFaults.{IsKnownFormed, IsFirstAfter, IsFirstSoFar};
 ghost use Rattle.usage_docs.specs.readers.FirstFaults.{PassesClash, PassesKey, RepeatsKnown};
+ghost use Rattle.usage_docs.specs.readers.FirstFaults.{clash_scan};
 
 use crate::attributes::attrs_pass;
 use crate::child_scan::scanned_repeat;
@@ -127,8 +128,9 @@ fn note_repeat(
     ensures is_first_repeat { (row : ElementKind) (c : Scope) (e : Tree) (before : Option Clash)
         → IsFirstRepeat row c (child_elements_of e) repeat
         → length trail.now + content_height e.content ≤ PATH_LIMIT
-        → IsFirstSoFar row c (child_elements_of e) trail.now
-        (length (child_elements_of e)) clear before found.old.clash
+        → IsFirstSoFar (record { kind = row; scope = c; path = trail.now }) (child_elements_of e)
+        before
+        (record { count = length (child_elements_of e); clear = clear; clash = found.old.clash })
         → IsFirstAfter before (RepeatsAt row c (child_elements_of e)) trail.now found.new.clash }
 {
     let Some(repeat) = repeat else {
@@ -200,13 +202,13 @@ fn walk_node<'a>(
         ↔ (IsTrue found.old.valid × IsNodeValid row scope.now passed.old.part node.now) }
     ensures formed_with_node { IsTrue found.new.formed
         ↔ (IsTrue found.old.formed × IsNodeFormed row scope.now node.now) }
-    ensures next_part { passed.new.part ≡ part_behind row scope.now passed.old.part node.now }
+    ensures next_part { passed.new.part ≡ part_after row scope.now passed.old.part node.now }
     ensures counts_node { passed.new.count ≡ one_more node.now passed.old.count }
     ensures clear_at_most { passed.new.clear ≤ passed.new.count }
     ensures enters_key { PassesKey row scope.now node.now passed.old passed.new }
     ensures clash_in_node { length trail.now + node_height node.now ≤ PATH_LIMIT
-        → PassesClash row scope.now trail.now node.now passed.old found.old.clash passed.new
-        found.new.clash }
+        → PassesClash (record { kind = row; scope = scope.now; path = trail.now }) node.now
+        (clash_scan passed.old found.old.clash) (clash_scan passed.new found.new.clash) }
 {
     match node {
         Node::Elem(child_element) => walk_child(
@@ -244,27 +246,28 @@ fn walk_child<'a>(
     ensures formed_with_child { IsTrue found.new.formed
         ↔ (IsTrue found.old.formed × IsNodeFormed row scope.now (Elem child_element.now)) }
     ensures next_part { passed.new.part
-        ≡ part_behind row scope.now passed.old.part (Elem child_element.now) }
+        ≡ part_after row scope.now passed.old.part (Elem child_element.now) }
     ensures counts_child { passed.new.count ≡ suc passed.old.count }
     ensures clear_at_most { passed.new.clear ≤ passed.new.count }
     ensures enters_key { PassesKey row scope.now (Elem child_element.now) passed.old passed.new }
     ensures clash_in_child { length trail.now + height child_element.now ≤ PATH_LIMIT
-        → PassesClash row scope.now trail.now
-        (Elem child_element.now) passed.old found.old.clash passed.new found.new.clash }
+        → PassesClash (record { kind = row; scope = scope.now; path = trail.now })
+        (Elem child_element.now)
+        (clash_scan passed.old found.old.clash) (clash_scan passed.new found.new.clash) }
 {
     let declared = declared_in(alloc, child_element.decls());
     let inside = (&*scope).inside(&declared);
     let child = place_of(row, &inside, child_element.name());
     found.valid &= follows(row, passed.part, child.part);
     let here = trail.child(passed.count);
-    walk_known(alloc, child.kind, &inside, child_element, &here, found);
+    walk_if_kind(alloc, child.kind, &inside, child_element, &here, found);
     passed.add(child, child_element.attrs(), found.clash.is_some());
 }
 
 /// Adds what is found in an element of this kind, in the scope that ends with its own
 /// declarations; the trail leads to the element. Nothing is found in one without a kind.
 #[cycle(walk)]
-pub(crate) fn walk_known(
+pub(crate) fn walk_if_kind(
     alloc: Global,
     kind: Option<ElementKind>,
     scope: &LinkedScope<'_>,

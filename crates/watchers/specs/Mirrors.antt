@@ -3,7 +3,7 @@
 use Rattle.std.specs.Prelude.{◌≡◌, ◌≢◌, ℕ, ◌<◌, ◌≤◌, ◌⊎◌, List, Option, None, Some, option_map}
 use Rattle.std.specs.Map.{lookup}
 use Rattle.xml_tree.specs.Tree.{Tree, height}
-use Rattle.xml_names.specs.Limits.{max_levels}
+use Rattle.xml_names.specs.declared.limits.TheConstants.{MAX_LEVELS}
 use Rattle.doc_names.specs.Equality.{same_id}
 use Rattle.doc_names.specs.declared.doc_id.DocId.{DocId}
 use Rattle.edit_ops.specs.Changes.{Fits, edited}
@@ -24,11 +24,11 @@ stored_of h = (h.tree, h.number)
 abbrev pub stored_in : List (DocId × MirrorEntry) → DocId → Option MirroredDocument
 stored_in entries doc = option_map stored_of (lookup (same_id doc) entries)
 
--- a tree is kept exactly where it has at most `max_levels` levels
+-- a tree is kept exactly where it has at most `MAX_LEVELS` levels
 abbrev pub HoldsLow : Tree → ℕ → Option MirroredDocument → Type 0
 HoldsLow t number held =
-    ((height t ≤ max_levels) × (held ≡ Some (t, number)))
-    ⊎ ((max_levels < height t) × (held ≡ None))
+    ((height t ≤ MAX_LEVELS) × (held ≡ Some (t, number)))
+    ⊎ ((MAX_LEVELS < height t) × (held ≡ None))
 
 -- a kept tree is edited where the change fits it; else nothing is kept
 abbrev pub HoldsEdited : Change → ℕ → Option MirroredDocument → Option MirroredDocument → Type 0

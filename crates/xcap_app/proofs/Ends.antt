@@ -23,7 +23,7 @@ use Rattle.xcap_app.specs.Serves.{ServesCommand, ServiceArguments}
 use Rattle.xcap_app.specs.Exits.{IsRefused}
 use Rattle.xcap_app.specs.KeepCommand.{KeepsCommand, KeepsOn, OldJournal, exit_of_restart, keeps_on, no_journal, no_server}
 use Rattle.xcap_app.specs.Runs.{Runs, service}
-use Rattle.xcap_app.specs.RunStates.{IoStreams, KeepState, ReplayState, RunState, ServeState, ServiceState, call_part, io_part, keep_part, keeping, put_part, replay_part, serve_part}
+use Rattle.xcap_app.specs.RunStates.{IoStreams, KeepState, ReplayState, RunState, ServeState, ServiceState, call_part, io_part, keep_part, keep_service_state, put_part, replay_part, serve_part}
 use Rattle.xcap_app.specs.Samples.{RunsSample}
 use Rattle.xcap_app.specs.Messages.{IsReportedAs}
 use Rattle.xcap_app.specs.Verdicts.{AnswerVerdict, TextVerdict, refusal_of_text}
@@ -114,7 +114,7 @@ module _ {W : Type 0} (Keeps : List Edit → W → W → Type 0) where
   unkept arguments exit old new is (no_server out same) = no_server refl same
   unkept arguments exit old new is (no_journal fault told breaks p same) = no_journal fault (told_out (exit_of_restart fault) exit is told) breaks p same
   unkept arguments exit old new is (keeps_on journal reads just k) =
-      never_on (Took old.output.taken new.output.taken) (CountRises old.output.write_faults new.output.write_faults) arguments exit journal (keeping old) (keeping new) is k
+      never_on (Took old.output.taken new.output.taken) (CountRises old.output.write_faults new.output.write_faults) arguments exit journal (keep_service_state old) (keep_service_state new) is k
 
   check_refused : (usage : TheUsage) (exit : Exit) (old new : IoStreams) → IsRefused exit → Checks usage exit old new → Checks usage OutOfMemory old new
   check_refused usage Done old new is r = absurd is

@@ -10,7 +10,7 @@ use Rattle.xcap_io.specs.Connections.{listening_at}
 use Rattle.edit_journal.specs.Journals.{IsFirstOf, JournalState}
 use Rattle.edit_journal.specs.Logs.{Fits, LogState}
 use Rattle.edit_journal.specs.Records.{IsRecordable, record_of}
-use Rattle.edit_journal.specs.Limits.{max_journal_bytes}
+use Rattle.edit_journal.specs.declared.limits.TheConstants.{MAX_JOURNAL_BYTES}
 use Rattle.edit_journal.specs.Restarts.{Restarts}
 use Rattle.edit_journal.specs.Texts.{IsRecordedRequest, text}
 use Rattle.edit_journal.specs.declared.journal_restart.RestartFault.{RestartFault}
@@ -75,7 +75,7 @@ module _ (input input' : StreamState) (journal journal' : JournalState) (s s' : 
           records = records.1;
           ended = r.ending.0;
           short = r.ending.1;
-          whole = record { told = r.told; split = sym (take_all max_journal_bytes r.bytes r.ending.1) ∙ r.split; no_more = r.ending.2 };
+          whole = record { told = r.told; split = sym (take_all MAX_JOURNAL_BYTES r.bytes r.ending.1) ∙ r.split; no_more = r.ending.2 };
           torn = r.ending.3;
           no_fault = r.faults.0;
         },
@@ -227,5 +227,5 @@ holds_whole Accepted log requests bytes whole len told held = record {
 }
 
 -- the records at the front of the accepted bytes are no longer than these
-pub short_text : (bytes rest all : List ℕ) → take max_journal_bytes bytes ≡ all ++ rest → length all ≤ max_journal_bytes
-short_text bytes rest all split = omega (arith, ap length split, length-take max_journal_bytes bytes, length-append all rest)
+pub short_text : (bytes rest all : List ℕ) → take MAX_JOURNAL_BYTES bytes ≡ all ++ rest → length all ≤ MAX_JOURNAL_BYTES
+short_text bytes rest all split = omega (arith, ap length split, length-take MAX_JOURNAL_BYTES bytes, length-append all rest)

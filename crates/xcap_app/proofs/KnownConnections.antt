@@ -3,7 +3,7 @@ use Rattle.std.proofs.Common.{◌≡◌, ℕ, suc, Bool, true, List, [], ◌∷�
 use Rattle.xcap_io.specs.Causes.{StreamState, RoseBy}
 use Rattle.xcap_io.specs.Histories.{Traffic}
 use Rattle.http_wire.specs.declared.request.Request.{Request}
-use Rattle.http_wire.specs.ServedConnections.{HaveBytes, ServesAll, ServesEach, counted_each, read_failures, write_failures}
+use Rattle.http_wire.specs.ServedConnections.{HaveBytes, ServesAll, ServesEach, counted_each, read_failures, without_faults, write_failures}
 use Rattle.http_wire.specs.declared.close_reason.CloseReason.{CloseReason}
 use Rattle.http_wire.specs.declared.close_reason.CloseReason.TheVariants.{Closed, ReadFailed, WriteFailed}
 use Rattle.http_wire.proofs.KnownTraffic.{counts_each}
@@ -66,7 +66,7 @@ module _ {M E : Type 0} (Step : M → Request → List ℕ → M → Option E �
   pub all_served : {W : Type 0} (Keeps : List E → W → W → Type 0) (served : ServeSummary) (machine next : M) (all : List (List ℕ)) (old new : StreamState) (w w' : W)
       → old.port.to_come ≡ Some all → old.port.faults ≡ 0 → new.port.faults ≡ 0 → old.read_faults ≡ 0 → new.read_faults ≡ 0 → old.write_faults ≡ 0 → new.write_faults ≡ 0
       → ServesPort Step Keeps (record { most = length all; served = served }) (record { machine = machine; stream = old; watchers = w }) (record { machine = next; stream = new; watchers = w' })
-      → (connections : List Traffic) × (map (λ c. c.given) connections ≡ all) × (map (λ c. c.ended) connections ≡ map (λ c. true) connections) × (edits : List E) × ServesAll Step fixed_reply machine connections next edits 0 0 0 0
+      → (connections : List Traffic) × (map (λ c. c.given) connections ≡ all) × (map (λ c. c.ended) connections ≡ map (λ c. true) connections) × (edits : List E) × ServesAll Step fixed_reply (without_faults machine) (without_faults next) connections edits
   all_served Keeps served machine next all old new w w' told f g r r' t t' v =
       let came : Came (Some all) new.port.to_come v.connections = subst (λ (o : Option (List (List ℕ))). Came o new.port.to_come v.connections) told v.came in
       let none : came.1 ≡ [] = none_left served.stop all came.0 came.1 v.connections served.connections old new f g came.3 came.2 came.4 v.count v.stop in

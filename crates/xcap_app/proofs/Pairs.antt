@@ -5,7 +5,7 @@ use Rattle.store_core.specs.ValidStates.{IsValidState}
 use Rattle.store_core.specs.State.{State}
 use Rattle.xcap_machine.specs.Machine.{ValidStep}
 use Rattle.edit_ops.specs.declared.edit.Edit.{Edit}
-use Rattle.xcap_io.specs.Causes.{Aside, StreamState}
+use Rattle.xcap_io.specs.Causes.{HiddenState, StreamState}
 use Rattle.xcap_io.specs.Pairs.{pair_state}
 use Rattle.xcap_io.proofs.PairLemmas.{Through, through}
 use Rattle.http_serve.specs.Connections.{ServesStream}
@@ -16,22 +16,22 @@ use Rattle.xcap_app.specs.Replays.{ServesInput}
 
 just_read : (input output input' output' : StreamState) → Through input output input' output' → JustRead input input'
 just_read input output input' output' t = record {
-  same_taken = ap (λ (m : Aside). m.taken) t.same_unread;
-  same_write_faults = ap (λ (m : Aside). m.faults) t.same_unread;
+  same_taken = ap (λ (m : HiddenState). m.taken) t.same_unread;
+  same_write_faults = ap (λ (m : HiddenState). m.faults) t.same_unread;
   same_holds = t.same_input_holds;
   same_aside = t.same_input_aside;
-  same_port = ap (λ (m : Aside). m.port) t.same_unread;
-  same_peer = ap (λ (m : Aside). m.peer) t.same_unread;
+  same_port = ap (λ (m : HiddenState). m.port) t.same_unread;
+  same_peer = ap (λ (m : HiddenState). m.peer) t.same_unread;
 }
 
 just_written : (input output input' output' : StreamState) → Through input output input' output' → JustWritten output output'
 just_written input output input' output' t = record {
-  same_inward = ap (λ (m : Aside). m.inward) t.same_unwritten;
-  same_read_faults = ap (λ (m : Aside). m.faults) t.same_unwritten;
+  same_inward = ap (λ (m : HiddenState). m.inward) t.same_unwritten;
+  same_read_faults = ap (λ (m : HiddenState). m.faults) t.same_unwritten;
   same_holds = t.same_output_holds;
   same_aside = t.same_output_aside;
-  same_port = ap (λ (m : Aside). m.port) t.same_unwritten;
-  same_peer = ap (λ (m : Aside). m.peer) t.same_unwritten;
+  same_port = ap (λ (m : HiddenState). m.port) t.same_unwritten;
+  same_peer = ap (λ (m : HiddenState). m.peer) t.same_unwritten;
 }
 
 module _ {W : Type 0} (Keeps : List Edit → W → W → Type 0) where

@@ -3,7 +3,7 @@ use Rattle.std.proofs.Common.{◌≡◌, ℕ, List, [], ◌++◌, inl, inr, ⊎_
 use Rattle.std.specs.Prelude.{codes, length}
 use Rattle.edit_ops.specs.declared.edit.Edit.{Edit}
 use Rattle.store_core.specs.State.{first_state}
-use Rattle.http_wire.specs.ServedConnections.{Serves as ServesOne, ServesAll}
+use Rattle.http_wire.specs.ServedConnections.{Serves as ServesOne, ServesAll, on_stream}
 use Rattle.http_wire.specs.declared.close_reason.CloseReason.TheVariants.{Closed}
 use Rattle.http_serve.specs.FixedReplies.{fixed_reply}
 use Rattle.xcap_machine.specs.Machine.{ValidStep}
@@ -12,7 +12,7 @@ use Rattle.http_serve.specs.Ports.{Stops}
 use Rattle.http_serve.specs.declared.accept_loop.StopReason.{StopReason}
 use Rattle.http_serve.specs.declared.accept_loop.StopReason.TheVariants.{Count, NoMore, PortFailed}
 use Rattle.xcap_io.specs.Causes.{Begun, StreamState, none_begun}
-use Rattle.xcap_io.specs.Connections.{carried, listening_at, traffic}
+use Rattle.xcap_io.specs.Connections.{port_traffic, listening_at, traffic}
 use Rattle.xcap_io.specs.Histories.{Traffic, carried_by}
 use Rattle.xcap_io.specs.StreamTraffic.{Took}
 use Rattle.xcap_client.specs.declared.fault.ClientFault.TheVariants as clients
@@ -134,7 +134,7 @@ module _ {W : Type 0} (Keeps : List Edit → W → W → Type 0) where
       }
 
   port_done : (arguments : ServiceArguments) (old new : RunState W) → old.port.port.begun ≡ none_begun → old.output.taken ≡ [] → new.port.port.to_come ≡ None
-      → Serves Keeps arguments Done (serve_part old) (serve_part new) → AnswersAll Keeps arguments.root old new × (length (carried new.port) ≡ arguments.count) × (new.output.taken ≡ served_line arguments.count)
+      → Serves Keeps arguments Done (serve_part old) (serve_part new) → AnswersAll Keeps arguments.root old new × (length (port_traffic new.port) ≡ arguments.count) × (new.output.taken ≡ served_line arguments.count)
   port_done arguments old new none_yet none_taken untold (served, s, complete, takes) =
       let address = arguments.address in
       let root = arguments.root in
@@ -144,12 +144,12 @@ module _ {W : Type 0} (Keeps : List Edit → W → W → Type 0) where
       let output = old.output in
       let output' = new.output in
       let v = s.serves in
-      let all : carried port' ≡ v.connections = v.all_carried ∙ ap (λ (b : Begun). carried_by b.earlier b.is_present (traffic port) ++ v.connections) none_yet in
-      let counted = carried_all served.stop count served.connections (carried port') v.connections (listening_at port address) port' untold v.stop complete all v.count in (
+      let all : port_traffic port' ≡ v.connections = v.all_carried ∙ ap (λ (b : Begun). carried_by b.earlier b.is_present (traffic port) ++ v.connections) none_yet in
+      let counted = carried_all served.stop count served.connections (port_traffic port') v.connections (listening_at port address) port' untold v.stop complete all v.count in (
         record {
           state = s.state;
           edits = v.edits;
-          serves = subst (λ (l : List Traffic). ServesAll (InBytes (ValidStep root)) fixed_reply (first_state 1) l s.state v.edits port.read_faults port'.read_faults port.write_faults port'.write_faults) (sym all) v.serves;
+          serves = subst (λ (l : List Traffic). ServesAll (InBytes (ValidStep root)) fixed_reply (on_stream (first_state 1) port) (on_stream s.state port') l v.edits) (sym all) v.serves;
           told = v.kept;
         },
         counted,
@@ -186,7 +186,7 @@ module _ {W : Type 0} (Keeps : List Edit → W → W → Type 0) where
       let output = old.output in
       let output' = new.output in
       let v = kept.serves in
-      let all : carried port' ≡ v.connections = v.all_carried ∙ ap (λ (b : Begun). carried_by b.earlier b.is_present (traffic port) ++ v.connections) none_yet in
+      let all : port_traffic port' ≡ v.connections = v.all_carried ∙ ap (λ (b : Begun). carried_by b.earlier b.is_present (traffic port) ++ v.connections) none_yet in
       let given : input'.inward.given ≡ journal.bytes = took_all input.inward.given input'.inward.given journal.bytes none_given reads.records.given.behind in
       record {
         requests = journal.requests;
@@ -198,9 +198,9 @@ module _ {W : Type 0} (Keeps : List Edit → W → W → Type 0) where
         read = subst (λ (bytes : List ℕ). Whole bytes journal.requests journal.rest) (sym given) reads.whole;
         torn = reads.torn;
         redone = reads.records.redone;
-        serves = subst (λ (l : List Traffic). ServesAll (InBytes (LoggedStep (ValidStep root))) fixed_reply (record { machine = journal.state; requests = journal.requests; failures = 0 }) l (record { machine = kept.next; requests = kept.accepted; failures = 0 }) v.edits
-            port.read_faults port'.read_faults port.write_faults port'.write_faults) (sym all) v.serves;
-        counted = carried_all served.stop count served.connections (carried port') v.connections (listening_at port address) port' untold v.stop complete all v.count;
+        serves = subst (λ (l : List Traffic). ServesAll (InBytes (LoggedStep (ValidStep root))) fixed_reply (on_stream (record { machine = journal.state; requests = journal.requests; failures = 0 }) port)
+            (on_stream (record { machine = kept.next; requests = kept.accepted; failures = 0 }) port') l v.edits) (sym all) v.serves;
+        counted = carried_all served.stop count served.connections (port_traffic port') v.connections (listening_at port address) port' untold v.stop complete all v.count;
         all_redone = kept.redone;
         took = took_all output.taken output'.taken (text kept.accepted ++ []) none_taken kept.written ∙ append-nil (text kept.accepted);
         told = v.kept;

@@ -16,7 +16,7 @@ use Rattle.http_serve.specs.declared.accept_loop.ServeSummary.{ServeSummary}
 use Rattle.http_serve.specs.declared.accept_loop.StopReason.TheVariants.{PortFailed}
 use Rattle.xcap_app.specs.Replays.{ReplaysCommand, ServesInput}
 use Rattle.xcap_app.specs.inner.Replays.{exit_of_connection}
-use Rattle.xcap_app.specs.RunStates.{ReplayState, ServeState, ServiceState, serving}
+use Rattle.xcap_app.specs.RunStates.{ReplayState, ServeState, ServiceState, serve_service_state}
 use Rattle.xcap_app.specs.Serves.{IsComplete, ServesAddress, ServiceArguments, served_line, ServesCommand as Serves}
 use Rattle.xcap_app.specs.inner.Messages.{Prints}
 use Rattle.xcap_app.specs.declared.exit.Exit.{Exit}
@@ -40,7 +40,7 @@ module _ {W : Type 0} (Keeps : List Edit → W → W → Type 0) where
       }
 
   -- and where their number was printed
-  pub ended_so : (arguments : ServiceArguments) (served : ServeSummary) (exit : Exit) (old new : ServeState W) → ServesAddress Keeps arguments served (serving old) (serving new) → IsComplete served.stop
+  pub ended_so : (arguments : ServiceArguments) (served : ServeSummary) (exit : Exit) (old new : ServeState W) → ServesAddress Keeps arguments served (serve_service_state old) (serve_service_state new) → IsComplete served.stop
       → Prints (served_line served.connections) exit old.output new.output → Serves Keeps arguments exit old new
   ended_so arguments served Done old new s stop prints = (served, s, stop, prints)
   ended_so arguments served Usage old new s stop prints = prints
@@ -53,7 +53,7 @@ module _ {W : Type 0} (Keeps : List Edit → W → W → Type 0) where
   ended_so arguments served OutOfMemory old new s stop prints = absurd prints
 
   -- and where the port failed to begin a connection
-  pub failed_so : (arguments : ServiceArguments) (served : ServeSummary) (old new : ServeState W) → ServesAddress Keeps arguments served (serving old) (serving new) → served.stop ≡ PortFailed → new.output ≡ old.output
+  pub failed_so : (arguments : ServiceArguments) (served : ServeSummary) (old new : ServeState W) → ServesAddress Keeps arguments served (serve_service_state old) (serve_service_state new) → served.stop ≡ PortFailed → new.output ≡ old.output
       → Serves Keeps arguments NetworkFailed old new
   failed_so arguments served old new s stop same = (inr (served, s, stop), same)
 

@@ -1,8 +1,8 @@
 -- A journal over a stream has the bytes that the stream took since it was made.
 use Rattle.std.proofs.Common.{◌≡◌, ℕ, ◌-◌, ◌<◌, inl, inr, List, ◌∷◌, ◌++◌, length, sym, ap, subst, ◌∙◌, arith, append_assoc, take-append-drop}
 use Rattle.std.specs.Borrow.{GName}
-use Rattle.xcap_io.specs.Causes.{Aside, StreamState, CountRises}
-use Rattle.xcap_io.specs.Pairs.{unwritten}
+use Rattle.xcap_io.specs.Causes.{HiddenState, StreamState, CountRises}
+use Rattle.xcap_io.specs.Pairs.{hidden_by_output}
 use Rattle.edit_journal.specs.Journals.{AddsSome, IsJournalProgress, JournalState}
 use Rattle.edit_journal.specs.Streams.{stream_state}
 use Rattle.xcap_io.specs.StreamTraffic.{Took}
@@ -16,18 +16,18 @@ streams output output' name name' made len' faults' is behind goes =
     let new : JournalState = stream_state output' name' len' faults' in
     let parts : new.before ++ new.held ≡ output'.taken = take-append-drop (length output'.taken - len') output'.taken in
     let first : new.before ≡ output.taken = goes.same_before ∙ behind in
-    let aside : unwritten output' ∷ output'.aside ≡ unwritten output ∷ output.aside = goes.same_aside ∙ ap (λ (j : JournalState). j.aside) is in
+    let aside : hidden_by_output output' ∷ output'.aside ≡ hidden_by_output output ∷ output.aside = goes.same_aside ∙ ap (λ (j : JournalState). j.aside) is in
     let holds : name' ∷ output'.holds ≡ name ∷ output.holds = goes.same_holds ∙ ap (λ (j : JournalState). j.holds) is in
-    let same : unwritten output' ≡ unwritten output = cc in
+    let same : hidden_by_output output' ≡ hidden_by_output output = cc in
     record {
       taken = sym parts ∙ ap (λ (l : List ℕ). l ++ new.held) first;
       just_written = record {
-        same_inward = ap (λ (a : Aside). a.inward) same;
-        same_read_faults = ap (λ (a : Aside). a.faults) same;
+        same_inward = ap (λ (a : HiddenState). a.inward) same;
+        same_read_faults = ap (λ (a : HiddenState). a.faults) same;
         same_holds = cc;
         same_aside = cc;
-        same_port = ap (λ (a : Aside). a.port) same;
-        same_peer = ap (λ (a : Aside). a.peer) same;
+        same_port = ap (λ (a : HiddenState). a.port) same;
+        same_peer = ap (λ (a : HiddenState). a.peer) same;
       };
       cause = λ some. subst (λ (n : ℕ). CountRises n output'.write_faults) (ap (λ (j : JournalState). j.beneath) is) (rose_by made new (ap (λ (j : JournalState). j.faults) is) goes some);
     }

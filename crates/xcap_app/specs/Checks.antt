@@ -2,7 +2,7 @@
 use Rattle.std.specs.Prelude.{◌≡◌, ℕ, ◌+◌, ◌≤◌, List, codes, length}
 use Rattle.doc_names.specs.declared.usages.Usage.{Usage}
 use Rattle.xcap_io.specs.Causes.{StreamState}
-use Rattle.store_core.specs.Limits.{max_bytes}
+use Rattle.store_core.specs.declared.limits.TheConstants.{MAX_DOCUMENT_BYTES}
 use Rattle.client_commands.specs.Inputs.{GaveAndFailed, GaveText, JustGave}
 use Rattle.client_commands.specs.Outputs.{TakesAll, TakesSome}
 use Rattle.xcap_app.specs.RunStates.{IoStreams}
@@ -15,7 +15,7 @@ use Rattle.xcap_app.specs.declared.refusal.Refusal.TheVariants.{TooLarge}
 -- the verdict on the text that the input gave
 abbrev pub JudgedBy : Usage → Exit → StreamState → StreamState → Type 0
 JudgedBy usage exit input input' =
-    (text : List ℕ) × GaveText max_bytes text input input' × TextVerdict usage text exit
+    (text : List ℕ) × GaveText MAX_DOCUMENT_BYTES text input input' × TextVerdict usage text exit
 
 -- the examination of the input, by how the command ends: a valid document, or why it is none; one
 -- byte more than a document may have, after which no more are read; or a fault or out of memory
@@ -23,12 +23,12 @@ JudgedBy usage exit input input' =
 abbrev pub Examines : Usage → Exit → StreamState → StreamState → Type 0
 Examines usage Done input input' = JudgedBy usage Done input input'
 Examines usage InputFailed input input' =
-    (front : List ℕ) × GaveAndFailed front input input' × (length front ≤ max_bytes)
+    (front : List ℕ) × GaveAndFailed front input input' × (length front ≤ MAX_DOCUMENT_BYTES)
 Examines usage (Refused TooLarge) input input' =
-    (front : List ℕ) × JustGave front input input' × (length front ≡ max_bytes + 1)
+    (front : List ℕ) × JustGave front input input' × (length front ≡ MAX_DOCUMENT_BYTES + 1)
 Examines usage (Refused refusal) input input' = JudgedBy usage (Refused refusal) input input'
 Examines usage OutOfMemory input input' =
-    (front : List ℕ) × JustGave front input input' × (length front ≤ max_bytes + 1)
+    (front : List ℕ) × JustGave front input input' × (length front ≤ MAX_DOCUMENT_BYTES + 1)
 Examines usage _ input input' = ⊥
 
 -- for a valid document `valid` and a line end are written, and else nothing

@@ -32,7 +32,7 @@ exit_of_client ends.TooLarge = Refused TooLarge
 exit_of_client (ends.Failed fault) = Client fault
 exit_of_client ends.OutOfMemory = OutOfMemory
 
--- The command did what it does where it ends so, and the exit says so, or that memory ran out for
+-- The command did what its end promises, and the exit reports that end, or that memory ran out for
 -- the message; or memory ran out before, and nothing was done.
 pub data RunsAs (Did : CommandEnd → Type 0) (Nothing : Type 0) (exit : Exit) : Type 0 where
   ended_so : (ended : CommandEnd) → Did ended → IsReportedAs (exit_of_client ended) exit

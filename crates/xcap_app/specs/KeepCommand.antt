@@ -9,7 +9,7 @@ use Rattle.xcap_io.specs.Connections.{ListenFailed, listening_at}
 use Rattle.xcap_io.specs.StreamTraffic.{Gave, IsEnded, Took}
 use Rattle.edit_journal.specs.Journals.{AddsSome, IsFirstOf}
 use Rattle.edit_journal.specs.Records.{IsRecordable, record_of}
-use Rattle.edit_journal.specs.Limits.{max_journal_bytes}
+use Rattle.edit_journal.specs.declared.limits.TheConstants.{MAX_JOURNAL_BYTES}
 use Rattle.edit_journal.specs.Texts.{BeginsWith, HasNoRecord, IsDamaged, IsRecordedRequest, IsTorn}
 use Rattle.edit_journal.specs.Texts.{Whole, text}
 use Rattle.edit_journal.specs.declared.journal_restart.RestartFault.{RestartFault}
@@ -28,7 +28,8 @@ use Rattle.xcap_machine.specs.Requests.{IsAnswer}
 use Rattle.xcap_machine.specs.Machine.{ValidStep}
 use Rattle.xcap_server.specs.ReplayedRequests.{Redoing}
 use Rattle.xcap_app.specs.Frames.{JustWritten}
-use Rattle.xcap_app.specs.RunStates.{IoStreams, KeepState, ServiceState, journals, keeping}
+use Rattle.xcap_app.specs.RunStates.{IoStreams, KeepState, ServiceState, journals}
+use Rattle.xcap_app.specs.RunStates.{keep_service_state}
 use Rattle.xcap_app.specs.Serves.{IsComplete, ServiceArguments}
 use Rattle.xcap_app.specs.Messages.{IsReportedAs}
 use Rattle.xcap_app.specs.declared.exit.Exit.{Exit}
@@ -53,14 +54,14 @@ pub record OldJournal : Type 0 where
   pub rest : List ℕ
   pub state : State
 
--- The input gave the bytes, of which the first `max_journal_bytes` are the records of the requests,
+-- The input gave the bytes, of which the first `MAX_JOURNAL_BYTES` are the records of the requests,
 -- and the rest. From the state without documents whose next number is 1 on, the machine of this
 -- root makes a change at each of the requests, which lead to the state.
 pub record ReadsRecords (root : List ℕ) (journal : OldJournal)
     (input input' : StreamState) : Type 0 where
   pub given : Gave input.inward input'.inward journal.bytes
   pub told : All IsRecordedRequest journal.requests
-  pub split : take max_journal_bytes journal.bytes ≡ text journal.requests ++ journal.rest
+  pub split : take MAX_JOURNAL_BYTES journal.bytes ≡ text journal.requests ++ journal.rest
   pub redone : Redoing root (first_state 1) journal.requests journal.state
   pub kept : IsValidState journal.state
   pub reads : Reads input input'
@@ -70,7 +71,7 @@ pub record ReadsRecords (root : List ℕ) (journal : OldJournal)
 pub record ReadsJournal (root : List ℕ) (journal : OldJournal)
     (input input' : StreamState) : Type 0 where
   pub records : ReadsRecords root journal input input'
-  pub short : length journal.bytes ≤ max_journal_bytes
+  pub short : length journal.bytes ≤ MAX_JOURNAL_BYTES
   pub ended : IsEnded input'.inward
   pub whole : Whole journal.bytes journal.requests journal.rest
   pub torn : IsTorn journal.rest
@@ -98,7 +99,7 @@ StopsReading root (faults.Refused number) journal old new =
     × IsAnswer root (stock_of journal.state) request (unchanged reply))
 StopsReading root faults.TooLong journal old new =
     Took old.output.taken new.output.taken (text journal.requests)
-    × (max_journal_bytes < length journal.bytes) × HasNoRecord journal.rest × IsTorn journal.rest
+    × (MAX_JOURNAL_BYTES < length journal.bytes) × HasNoRecord journal.rest × IsTorn journal.rest
 StopsReading root faults.NoMemory journal old new =
     (before more : List Request) × (journal.requests ≡ before ++ more)
     × Took old.output.taken new.output.taken (text before)
@@ -191,5 +192,5 @@ pub data KeepsCommand {W : Type 0} (Keeps : List Edit → W → W → Type 0)
       → JustWritten old.output new.output
       → KeepsOn Keeps (Took old.output.taken new.output.taken)
       (CountRises old.output.write_faults new.output.write_faults)
-      arguments exit journal (keeping old) (keeping new)
+      arguments exit journal (keep_service_state old) (keep_service_state new)
       → KeepsCommand Keeps arguments exit old new

@@ -25,8 +25,8 @@ module _ {W : Type 0} (Keeps : List Edit → W → W → Type 0) where
   -- The input was served as one connection by the machine of this root from this state on, through
   -- valid states, with subscribers kept up to date by the replies to feeds. The traffic is the
   -- bytes that the input gave, whether its last read found the end, and the bytes that the output
-  -- took, which are the replies. The connection ended so, the watchers were notified of the
-  -- changes, in order, and nothing else was done with the input and the output.
+  -- took, which are the replies. The connection ended for that reason, the watchers were notified
+  -- of the changes, in order, and nothing else was done with the input and the output.
   pub record ServesInput (root : List ℕ) (before : State) (ended : CloseReason)
       (old new : ReplayState W) : Type 0 where
     pub state : State

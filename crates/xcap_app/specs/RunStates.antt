@@ -41,11 +41,11 @@ pub record RunState (W : Type 0) : Type 0 where
   pub watchers : W
 
 -- the part that serves connections
-abbrev pub serving : {W : Type 0} → ServeState W → ServiceState W
-serving state = record { port = state.port; watchers = state.watchers }
+abbrev pub serve_service_state : {W : Type 0} → ServeState W → ServiceState W
+serve_service_state state = record { port = state.port; watchers = state.watchers }
 
-abbrev pub keeping : {W : Type 0} → KeepState W → ServiceState W
-keeping state = record { port = state.port; watchers = state.watchers }
+abbrev pub keep_service_state : {W : Type 0} → KeepState W → ServiceState W
+keep_service_state state = record { port = state.port; watchers = state.watchers }
 
 -- the old journal and the new one
 abbrev pub journals : {W : Type 0} → KeepState W → IoStreams

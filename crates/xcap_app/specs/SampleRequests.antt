@@ -2,7 +2,7 @@
 -- 6, documents RFC 4826, section 3; which requests are made is the project's own.
 use Rattle.std.specs.Prelude.{ℕ, zero, suc, ◌+◌, ◌-◌, ◌*◌, ◌/◌, ◌%◌, ◌==◌, min, List, [], ◌∷◌, ◌++◌}
 use Rattle.std.specs.Prelude.{codes, decimal, length, if◌then◌else◌}
-use Rattle.http_wire.specs.Limits.{max_requests}
+use Rattle.http_wire.specs.declared.limits.TheConstants.{MAX_REQUESTS}
 
 -- the root of the server
 unfoldable pub root_text : List ℕ
@@ -83,7 +83,7 @@ requests_from first (suc more) = numbered_request first ++ requests_from (first 
 -- have, and the last connection has the rest
 abbrev pub connection_bytes : ℕ → ℕ → List ℕ
 connection_bytes requests number =
-    requests_from (number * max_requests) (min max_requests (requests - number * max_requests))
+    requests_from (number * MAX_REQUESTS) (min MAX_REQUESTS (requests - number * MAX_REQUESTS))
 
 -- this many connections, from this one on
 abbrev pub connections_from : ℕ → ℕ → ℕ → List (List ℕ)
@@ -94,4 +94,4 @@ connections_from requests number (suc more) =
 -- all connections of this many requests
 abbrev pub all_connections : ℕ → List (List ℕ)
 all_connections requests =
-    connections_from requests 0 ((requests + (max_requests - 1)) / max_requests)
+    connections_from requests 0 ((requests + (MAX_REQUESTS - 1)) / MAX_REQUESTS)

@@ -3,7 +3,7 @@
 use Rattle.std.specs.Prelude.{◌≡◌, ℕ, ◌-◌, ◌==◌, true, List, ◌++◌, codes, decimal, length, map}
 use Rattle.std.specs.Prelude.{count_by, sum_by}
 use Rattle.xcap_io.specs.Histories.{Traffic}
-use Rattle.http_wire.specs.ServedConnections.{ServesAll}
+use Rattle.http_wire.specs.ServedConnections.{ServesAll, without_faults}
 use Rattle.http_serve.specs.FixedReplies.{fixed_reply}
 use Rattle.http_serve.specs.ReplyBytes.{InBytes}
 use Rattle.edit_ops.specs.declared.edit.Edit.{Edit}
@@ -46,8 +46,8 @@ pub record Samples (requests : ℕ) (summary : Summary) : Type 0 where
   pub next : Noted
   pub edits : List Edit
   pub kept : IsValidState next.state
-  pub serves : ServesAll (InBytes (NotedStep root_text)) fixed_reply none_noted connections
-      next edits 0 0 0 0
+  pub serves : ServesAll (InBytes (NotedStep root_text)) fixed_reply (without_faults none_noted)
+      (without_faults next) connections edits
   pub sums : summary ≡ summary_of requests next.statuses (stock_of next.state)
 
 -- the lines about the replies, four

@@ -12,7 +12,7 @@ use Rattle.http_serve.specs.declared.accept_loop.ServeSummary.{ServeSummary}
 use Rattle.http_serve.specs.declared.accept_loop.StopReason.{StopReason}
 use Rattle.http_serve.specs.declared.accept_loop.StopReason.TheVariants.{Count, NoMore, PortFailed}
 use Rattle.client_commands.specs.Outputs.{TakesAll, TakesSome}
-use Rattle.xcap_app.specs.RunStates.{ServeState, ServiceState, serving}
+use Rattle.xcap_app.specs.RunStates.{ServeState, ServiceState, serve_service_state}
 use Rattle.xcap_app.specs.declared.exit.Exit.{Exit}
 use Rattle.xcap_app.specs.declared.exit.Exit.TheVariants.{Done, OutputFailed, NetworkFailed}
 use Rattle.xcap_app.specs.declared.exit.Exit.TheVariants.{OutOfMemory}
@@ -58,14 +58,17 @@ module _ {W : Type 0} (Keeps : List Edit → W → W → Type 0) where
   -- or memory ran out, and nothing was done.
   abbrev pub ServesCommand : ServiceArguments → Exit → ServeState W → ServeState W → Type 0
   ServesCommand arguments Done old new =
-      (served : ServeSummary) × ServesAddress arguments served (serving old) (serving new)
+      (served : ServeSummary) × ServesAddress arguments served (serve_service_state old)
+      (serve_service_state new)
       × IsComplete served.stop × TakesAll (served_line served.connections) old.output new.output
   ServesCommand arguments OutputFailed old new =
-      (served : ServeSummary) × ServesAddress arguments served (serving old) (serving new)
+      (served : ServeSummary) × ServesAddress arguments served (serve_service_state old)
+      (serve_service_state new)
       × IsComplete served.stop × TakesSome (served_line served.connections) old.output new.output
   ServesCommand arguments NetworkFailed old new =
       ((ListenFailed old.port new.port × (new.watchers ≡ old.watchers))
-      ⊎ ((served : ServeSummary) × ServesAddress arguments served (serving old) (serving new)
+      ⊎ ((served : ServeSummary) × ServesAddress arguments served (serve_service_state old)
+      (serve_service_state new)
       × (served.stop ≡ PortFailed)))
       × (new.output ≡ old.output)
   ServesCommand arguments OutOfMemory old new = new ≡ old

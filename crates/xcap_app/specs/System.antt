@@ -7,12 +7,12 @@ use Rattle.http_wire.specs.declared.request.Request.{Request}
 use Rattle.edit_journal.specs.Texts.{IsTorn, Whole, text}
 use Rattle.edit_journal.specs.LoggedMachines.{LoggedStep}
 use Rattle.xcap_server.specs.ReplayedRequests.{Redoing}
-use Rattle.http_wire.specs.ServedConnections.{Serves, ServesAll}
+use Rattle.http_wire.specs.ServedConnections.{Serves, ServesAll, on_stream}
 use Rattle.http_wire.specs.declared.close_reason.CloseReason.TheVariants.{Closed}
 use Rattle.http_serve.specs.FixedReplies.{fixed_reply}
 use Rattle.xcap_machine.specs.Machine.{ValidStep}
 use Rattle.http_serve.specs.ReplyBytes.{InBytes}
-use Rattle.xcap_io.specs.Connections.{carried}
+use Rattle.xcap_io.specs.Connections.{port_traffic}
 use Rattle.doc_names.specs.declared.doc_id.DocId.{DocId}
 use Rattle.client_commands.specs.Endings.{CallStreams, MakesOneCall, delete_call, fetch_call}
 use Rattle.client_commands.specs.Follows.{Follows}
@@ -44,9 +44,9 @@ module _ {W : Type 0} (Keeps : List Edit → W → W → Type 0) where
   pub record AnswersAll (root : List ℕ) (old new : RunState W) : Type 0 where
     pub state : State
     pub edits : List Edit
-    pub serves : ServesAll (InBytes (ValidStep root)) fixed_reply (first_state 1)
-        (carried new.port) state edits
-        old.port.read_faults new.port.read_faults old.port.write_faults new.port.write_faults
+    pub serves : ServesAll (InBytes (ValidStep root)) fixed_reply
+        (on_stream (first_state 1) old.port) (on_stream state new.port) (port_traffic new.port)
+        edits
     pub told : Keeps edits old.watchers new.watchers
 
   -- The machine answered likewise on the one connection of the input and the output, which was
@@ -78,10 +78,10 @@ module _ {W : Type 0} (Keeps : List Edit → W → W → Type 0) where
     pub torn : IsTorn rest
     pub redone : Redoing root (first_state 1) requests state
     pub serves : ServesAll (InBytes (LoggedStep (ValidStep root))) fixed_reply
-        (record { machine = state; requests = requests; failures = 0 }) (carried new.port)
-        (record { machine = next; requests = accepted; failures = 0 }) edits
-        old.port.read_faults new.port.read_faults old.port.write_faults new.port.write_faults
-    pub counted : length (carried new.port) ≡ count
+        (on_stream (record { machine = state; requests = requests; failures = 0 }) old.port)
+        (on_stream (record { machine = next; requests = accepted; failures = 0 }) new.port)
+        (port_traffic new.port) edits
+    pub counted : length (port_traffic new.port) ≡ count
     pub all_redone : Redoing root (first_state 1) accepted next
     pub took : new.output.taken ≡ text accepted
     pub told : Keeps edits old.watchers new.watchers
@@ -91,7 +91,7 @@ module _ {W : Type 0} (Keeps : List Edit → W → W → Type 0) where
   IsDone None old new = ⊥
   IsDone (Some (Replay root)) old new = AnswersInput root old new
   IsDone (Some (Serve address root count)) old new =
-      AnswersAll root old new × (length (carried new.port) ≡ count)
+      AnswersAll root old new × (length (port_traffic new.port) ≡ count)
       × (new.output.taken ≡ served_line count)
   IsDone (Some (Keep address root count)) old new = AnswersKept root count old new
   IsDone (Some (Check usage)) old new =

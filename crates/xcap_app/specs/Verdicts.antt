@@ -9,7 +9,7 @@ use Rattle.usage_docs.specs.Validation.{HasFirstFault}
 use Rattle.usage_docs.specs.declared.validation.Fault.{Fault}
 use Rattle.doc_names.specs.declared.usages.Usage.{Usage}
 use Rattle.xml_tree.specs.Tree.{Tree}
-use Rattle.xml_names.specs.Limits.{max_levels}
+use Rattle.xml_names.specs.declared.limits.TheConstants.{MAX_LEVELS}
 use Rattle.xcap_app.specs.declared.exit.Exit.{Exit}
 use Rattle.xcap_app.specs.declared.exit.Exit.TheVariants as exits
 use Rattle.xcap_app.specs.declared.refusal.Refusal.{Refusal}
@@ -35,9 +35,9 @@ AnswerVerdict usage (Ok t) exit =
     (fault : Option Fault) × HasFirstFault usage t fault × (exit ≡ exit_of_judgement fault)
 AnswerVerdict usage (Err fault) exit = exit ≡ exits.Refused (refusal_of_text fault)
 
--- The verdict on a text, by the one answer of the grammar: the tree of at most `max_levels` levels
+-- The verdict on a text, by the one answer of the grammar: the tree of at most `MAX_LEVELS` levels
 -- that it is parsed as, or its first fault.
 pub record TextVerdict (usage : Usage) (text : List ℕ) (exit : Exit) : Type 0 where
   pub answer : Result Tree TextFault
-  pub by_grammar : TextAnswer max_levels [] text answer
+  pub by_grammar : TextAnswer MAX_LEVELS [] text answer
   pub verdict : AnswerVerdict usage answer exit

@@ -8,14 +8,14 @@ use crate::report::print;
 use client_commands::{InputFault, read_text};
 use doc_names::Usage;
 use std::alloc::Global;
-use store_core::MAX_BYTES;
+use store_core::MAX_DOCUMENT_BYTES;
 use xcap_io::{Line, Sink, Source};
 
 // Reads the input as a document, and returns the verdict.
 fn examine<I: Source>(alloc: Global, usage: Usage, input: &mut I) -> Exit
     ensures examines_input { Examines usage result (I.state input.old) (I.state input.new) }
 {
-    match read_text(alloc, input, MAX_BYTES) {
+    match read_text(alloc, input, MAX_DOCUMENT_BYTES) {
         Ok(text) => judge_text(alloc, usage, &text),
         Err(InputFault::Failed) => Exit::InputFailed,
         Err(InputFault::TooLong) => Exit::Refused(Refusal::TooLarge),

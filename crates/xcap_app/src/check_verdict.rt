@@ -1,6 +1,5 @@
 // Whether a text is a document of a usage, and why it isn't.
 ghost use Rattle.std.specs.Prelude.{◌≡◌, ◌≤◌, ◌⊎◌, Ok};
-ghost use Rattle.xml_names.specs.Limits.{max_levels};
 ghost use Rattle.xml_tree.specs.Tree.{height};
 ghost use Rattle.xcap_app.specs.Verdicts.{AnswerVerdict, TextVerdict, exit_of_judgement};
 ghost use Rattle.xcap_app.specs.Verdicts.{refusal_of_text};
@@ -26,7 +25,7 @@ fn exit_of(judged: Option<Fault>) -> Exit
 
 // The verdict on a text that is parsed as this tree.
 fn judge_tree(alloc: Global, usage: Usage, root: &Element) -> Exit
-    requires { height root.now ≤ max_levels }
+    requires { height root.now ≤ MAX_LEVELS }
     ensures has_first_fault { AnswerVerdict usage (Ok root.now) result }
 {
     let fault = usage_docs::first_fault(alloc, usage, root);

@@ -8,7 +8,7 @@ ghost use Rattle.xcap_app.specs.ClientCommands.{document_to_follow, exit_of_clie
 
 use crate::exit::Exit;
 use crate::refusal::Refusal;
-use client_commands::{CommandEnd, Requester, delete_at, fetch_from, follow, put_at};
+use client_commands::{CommandEnd, Requester, delete_at, fetch_at, follow, put_at};
 use doc_names::{DocId, Home};
 use std::alloc::{AllocError, Global};
 use xcap_io::{Line, Peer, Sink, Source};
@@ -41,7 +41,7 @@ pub(crate) fn run_fetch<C: Peer, O: Sink>(
         (record { peer = C.state peer.old; output = O.state output.old })
         (record { peer = C.state peer.new; output = O.state output.new }) }
 {
-    exit_of(fetch_from(alloc, requester, path, peer, output))
+    exit_of(fetch_at(alloc, requester, path, peer, output))
 }
 
 /// Removes the resource at a path, and writes the status.

@@ -11,7 +11,7 @@ pub enum JournalRefusal {
     Damaged(u64),
     /// The request of this record, counted from 1, makes no change after those before it.
     Refused(u64),
-    /// It has more than `MAX_JOURNAL` bytes.
+    /// It has more than `MAX_JOURNAL_BYTES` bytes.
     TooLong,
 }
 

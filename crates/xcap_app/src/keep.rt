@@ -2,7 +2,7 @@
 // an address are served by a server that adds accepted requests to the new journal.
 ghost use Rattle.std.specs.Prelude.{◌≡◌, ◌<◌, ◌≤◌, [], length, false, All};
 ghost use Rattle.edit_journal.specs.Journals.{IsJournalProgress};
-ghost use Rattle.edit_journal.specs.Limits.{max_journal_bytes};
+ghost use Rattle.edit_journal.specs.declared.limits.TheConstants.{MAX_JOURNAL_BYTES};
 ghost use Rattle.edit_journal.specs.Texts.{IsRecordedRequest, text};
 ghost use Rattle.store_core.specs.Contents.{Represents};
 ghost use Rattle.store_core.specs.ValidStates.{IsValidState};
@@ -51,7 +51,7 @@ fn serve_logged<'a, O: Sink, P: Port, W: Watchers<Edit>>(
     requires not_torn { log.old.is_torn ≡ false }
     requires fits { length (⟦<StreamJournal<'a, O> as Journal>⟧.state journal.old).held
         ≡ log.old.len }
-    requires length_bounded { log.old.len ≤ max_journal_bytes }
+    requires length_bounded { log.old.len ≤ MAX_JOURNAL_BYTES }
     requires no_fault { (⟦<StreamJournal<'a, O> as Journal>⟧.state journal.old).faults ≡ 0 }
     ensures keeps_on { (read : OldJournal) → IsValidState read.state
         → Represents server.old.content read.state

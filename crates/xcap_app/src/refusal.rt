@@ -9,7 +9,7 @@ use xml_tree::print_path;
 /// Why the input of `check` is no valid document, the first reason in this order.
 #[derive(Drop)]
 pub enum Refusal {
-    /// It has more than `MAX_BYTES` bytes.
+    /// It has more than `MAX_DOCUMENT_BYTES` bytes.
     TooLarge,
     /// It isn't UTF-8.
     NotUtf8,

@@ -1,6 +1,5 @@
 //! A sample, run on a server in memory.
 ghost use Rattle.std.specs.Prelude.{◌≡◌, ◌≤◌, ◌*◌, length, IfOk};
-ghost use Rattle.http_wire.specs.Limits.{max_requests};
 ghost use Rattle.xcap_app.specs.StatusRecorders.{Noted};
 ghost use Rattle.xcap_app.specs.SampleRequests.{all_connections};
 ghost use Rattle.xcap_app.specs.Samples.{Samples};
@@ -23,7 +22,7 @@ fn serve_them(
     buffers: &mut ConnectionBuffers,
     connections: Vec<Bytes>,
 )
-    requires room_left { HasRoomFor noting.old (length connections.items * max_requests) }
+    requires room_left { HasRoomFor noting.old (length connections.items * MAX_REQUESTS) }
     ensures serves_all { (m : Noted) → RepresentsRecorded noting.old.server.root noting.old m
         → ServesThem noting.old.server.root connections.items noting.new m }
 {

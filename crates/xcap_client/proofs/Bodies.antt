@@ -12,7 +12,7 @@ use Rattle.xcap_client.specs.declared.response_fault.FillError.{FillError}
 use Rattle.xcap_client.specs.declared.response_fault.FillError.TheVariants.{ReadFailed, NoMemory}
 use Rattle.xcap_client.specs.declared.body_length.BodyLength.{BodyLength}
 use Rattle.xcap_client.specs.declared.body_length.BodyLength.TheVariants.{Empty, Exactly, ToEnd}
-use Rattle.xcap_client.specs.Limits.{max_response_body_bytes}
+use Rattle.xcap_client.specs.declared.body_length.TheConstants.{MAX_RESPONSE_BODY_BYTES}
 use Rattle.xcap_client.specs.Stops.{ByCause, fault_of}
 use Rattle.xcap_client.specs.BodyLengths.{body_by, LacksMore}
 use Rattle.xcap_client.specs.inner.ReadBuffer.{Settles}
@@ -47,10 +47,10 @@ module _ (held held' : List ℕ) (left left' : InputState) (gains : Gains held h
       rw (le-ltb (length (held' ++ more)) len (omega (arith, length-append held' more, all))) (ap Ok (take-append-le len held' more all))))
 
   -- more bytes came than the limit allows
-  pub too_many : max_response_body_bytes + 1 ≤ length held' → GivesBody ToEnd held left left' (Err (TooLong (max_response_body_bytes + 1)))
-  too_many over = by_held ToEnd held held' left left' gains (Err (TooLong (max_response_body_bytes + 1))) (inl (λ more.
-      rw (lt-ltb max_response_body_bytes (length (held' ++ more)) (omega (arith, length-append held' more, over))) refl))
+  pub too_many : MAX_RESPONSE_BODY_BYTES + 1 ≤ length held' → GivesBody ToEnd held left left' (Err (TooLong (MAX_RESPONSE_BODY_BYTES + 1)))
+  too_many over = by_held ToEnd held held' left left' gains (Err (TooLong (MAX_RESPONSE_BODY_BYTES + 1))) (inl (λ more.
+      rw (lt-ltb MAX_RESPONSE_BODY_BYTES (length (held' ++ more)) (omega (arith, length-append held' more, over))) refl))
 
   -- all bytes came, to their end
-  pub to_end : length held' < max_response_body_bytes + 1 → IsEnded left' → GivesBody ToEnd held left left' (Ok held')
-  to_end within ended = by_held ToEnd held held' left left' gains (Ok held') (inr (rw (le-ltb max_response_body_bytes (length held') (omega (arith, within))) refl, ended))
+  pub to_end : length held' < MAX_RESPONSE_BODY_BYTES + 1 → IsEnded left' → GivesBody ToEnd held left left' (Ok held')
+  to_end within ended = by_held ToEnd held held' left left' gains (Ok held') (inr (rw (le-ltb MAX_RESPONSE_BODY_BYTES (length held') (omega (arith, within))) refl, ended))

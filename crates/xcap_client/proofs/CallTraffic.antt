@@ -1,7 +1,7 @@
 -- The traffic on the connection of a call.
 use Rattle.std.proofs.Common.{◌≡◌, ℕ, inl, inr, List, [], ◌++◌, Result, Err, encode_utf8_all, sym, ap, subst, ◌∙◌}
 use Rattle.xcap_io.specs.Causes.{Begun, InputState, StreamState, PeerState}
-use Rattle.xcap_io.specs.Connections.{Connects, asked, traffic}
+use Rattle.xcap_io.specs.Connections.{Connects, peer_traffic, traffic}
 use Rattle.xcap_io.specs.Histories.{Traffic, carried_by}
 use Rattle.xcap_io.specs.Streams.{TookProperPrefix}
 use Rattle.xcap_client.specs.declared.request.Ask.{Ask}
@@ -29,7 +29,7 @@ one_began root old begun new connects same = record {
 
 by_exchange : (root : List ℕ) (ask : Ask) (old new : StreamState) (given result : Result Response ClientFault) → Exchanges root ask old new given → JudgesAll given result → ConnectsOnce root ask old new result
 by_exchange root ask old new given result (not_begun same is) judged =
-    none_began (record { same = ap asked same; same_addresses = ap (λ (l : StreamState). l.peer.addresses) same }) (inl (fault_stays given result NoMemory is judged))
+    none_began (record { same = ap peer_traffic same; same_addresses = ap (λ (l : StreamState). l.peer.addresses) same }) (inl (fault_stays given result NoMemory is judged))
 by_exchange root ask old new given result (not_connected failed is) judged =
     none_began (record { same = failed.keeps; same_addresses = failed.same_addresses }) (inr (fault_stays given result PeerFault is judged))
 by_exchange root ask old new given result (not_sent begun connects writes rose prefix is) judged =

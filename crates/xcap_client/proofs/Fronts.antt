@@ -36,7 +36,7 @@ lies_in_front front behind text rest same short =
 split_at : (n : ℕ) (bytes more : List ℕ) → take n bytes ++ (drop n bytes ++ more) ≡ bytes ++ more
 split_at n bytes more = sym (append_assoc (take n bytes) (drop n bytes) more) ∙ ap (λ (l : List ℕ). l ++ more) (take-append-drop n bytes)
 
--- with no head in the first `MAX_HEAD` bytes there is none, whatever follows
+-- with no head in the first `MAX_HEAD_BYTES` bytes there is none, whatever follows
 pub never_behind_full : (bytes : List ℕ) → 16_384 ≤ length bytes → HasNoResponse (take 16_384 bytes) → NeverHasHead bytes
 never_behind_full bytes long none more head rest begins =
     let front : List ℕ = take 16_384 bytes in
@@ -93,7 +93,7 @@ head_at-append front more headers spans head at =
       };
     }
 
--- the head that the parser finds in the first n bytes, with `MAX_FIELDS` header slots
+-- the head that the parser finds in the first n bytes, with `MAX_FIELD_LINES` header slots
 pub head_in_front : (bytes : List ℕ) (n : ℕ) (headers : List HeaderSpan) (spans : ResponseSpans) → length headers ≡ 64 → length (take n bytes) ≤ 16_384 → IsResponseWithin (take n bytes) headers spans → IsResponseOf (take n bytes) headers spans → (head : ResponseHead) × IsHeadAt bytes headers spans head
 head_in_front bytes n headers spans slots short inside (head, parts) =
     let front : List ℕ = take n bytes in

@@ -11,7 +11,7 @@ use Rattle.xcap_client.specs.declared.response.Response.{Response}
 use Rattle.xcap_client.specs.Heads.{BeginsWithHead}
 use Rattle.xcap_client.specs.Tags.{GivesTag, IsTagWith, TagIs}
 use Rattle.xcap_client.specs.BodyLengths.{body_to}
-use Rattle.xcap_client.specs.Responses.{extent_of, response_of, SaysResponse, no_head, refused, responds}
+use Rattle.xcap_client.specs.Responses.{extent_of, response_of, IsResponseOf, no_head, refused, responds}
 use Rattle.xcap_client.proofs.QuoteLemmas.{one_value}
 
 abbrev first_of_text : List ℕ → ℕ
@@ -60,7 +60,7 @@ ok_is x y r s same one two = let e : Ok x ≡ s = sym one ∙ same in let e' = e
 never_both : (x : List ℕ) (f : ResponseFault) (r s : Result (List ℕ) ResponseFault) → r ≡ s → r ≡ Ok x → s ≡ Err f → ⊥
 never_both x f r s same one two = let e : Ok x ≡ Err f = sym one ∙ same ∙ two in cc
 
-pub one_meaning : (bytes : List ℕ) (a b : Result Response ResponseFault) → SaysResponse bytes a → SaysResponse bytes b → a ≡ b
+pub one_meaning : (bytes : List ℕ) (a b : Result Response ResponseFault) → IsResponseOf bytes a → IsResponseOf bytes b → a ≡ b
 one_meaning bytes a b (no_head none is) (no_head none' is') = is ∙ sym is'
 one_meaning bytes a b (no_head none is) (refused h r f begins said is') = absurd (none h r begins)
 one_meaning bytes a b (no_head none is) (responds h r t x begins tagged said is') = absurd (none h r begins)

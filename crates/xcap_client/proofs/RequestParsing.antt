@@ -17,7 +17,7 @@ use Rattle.http_wire.specs.declared.framing.Framing.TheVariants.{Length}
 use Rattle.http_wire.specs.declared.request.Request.{Request}
 use Rattle.http_wire.specs.Fields.{is_number, has_close, asks_to_close}
 use Rattle.http_wire.specs.Framing.{framing, lacks_host, coding_by, length_by}
-use Rattle.http_wire.specs.Items.{AsksFor, Opens, field_of, request_of, with_length}
+use Rattle.http_wire.specs.Items.{AsksFor, BeginsWithFramedHead, field_of, request_of, with_length}
 use Rattle.xcap_uri.specs.Roots.{IsRoot, path_of, authority_of, slash}
 use Rattle.xcap_client.specs.declared.request.Ask.{Ask}
 use Rattle.xcap_client.specs.Requests.{IsLawful, user_field, content_fields, fields_of, field_line, request_line, target_of, head_bytes}
@@ -211,7 +211,7 @@ understood root ask is lawful sendable =
     let all = are_sent host ask.body ask.user ask.media (in_utf8 (authority_of root) (root_authority_visible root _ _ is)) sendable.user sendable.media sendable.short_body in
     let back : map name_and_value head.fields ≡ fields = come_back fields all in
     let printed : print_request head ≡ head_bytes root ask = prints_head (encode_utf8_all ask.method) target fields in
-    let opens : Opens (head_bytes root ask ++ ask.body) head (Length (length ask.body)) (ask.body ++ []) = record {
+    let opens : BeginsWithFramedHead (head_bytes root ask ++ ask.body) head (Length (length ask.body)) (ask.body ++ []) = record {
       begins = record {
         reads = (
           record {

@@ -4,7 +4,7 @@ use Rattle.std.proofs.lemmas.Bool.{true≢false}
 use Rattle.std.specs.Str.{chars}
 use Rattle.xcap_client.specs.declared.request.Ask.{Ask}
 use Rattle.xcap_client.specs.Requests.{IsLawful}
-use Rattle.xcap_client.specs.Asks.{bare, getting, removing, putting}
+use Rattle.xcap_client.specs.Asks.{bare, get_ask, delete_ask, put_ask}
 
 pub get : chars (codes "GET") ≡ codes "GET"
 unfolding chars
@@ -47,13 +47,13 @@ no_put method user path other = record {
   body = λ _. refl;
 }
 
-pub getting_is_lawful : (user : Option (List ℕ)) (path : List ℕ) → IsLawful (getting user path)
+pub getting_is_lawful : (user : Option (List ℕ)) (path : List ℕ) → IsLawful (get_ask user path)
 getting_is_lawful user path = no_put (codes "GET") user path (λ same. let never : 71 ≡ 80 = heads 71 80 (69 ∷ 84 ∷ []) (85 ∷ 84 ∷ []) same in omega (arith, never))
 
-pub removing_is_lawful : (user : Option (List ℕ)) (path : List ℕ) → IsLawful (removing user path)
+pub removing_is_lawful : (user : Option (List ℕ)) (path : List ℕ) → IsLawful (delete_ask user path)
 removing_is_lawful user path = no_put (codes "DELETE") user path (λ same. let never : 68 ≡ 80 = heads 68 80 (69 ∷ 76 ∷ 69 ∷ 84 ∷ 69 ∷ []) (85 ∷ 84 ∷ []) same in omega (arith, never))
 
-pub putting_is_lawful : (user : Option (List ℕ)) (path media body : List ℕ) → IsLawful (putting user path media body)
+pub putting_is_lawful : (user : Option (List ℕ)) (path media body : List ℕ) → IsLawful (put_ask user path media body)
 putting_is_lawful user path media body = record {
   media = (λ _. refl, λ _. refl);
   body = λ other. absurd (other refl);

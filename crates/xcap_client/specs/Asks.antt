@@ -8,14 +8,14 @@ bare method user path =
     record { method = method; path = path; user = user; media = None; body = [] }
 
 -- GET
-abbrev pub getting : Option (List ℕ) → List ℕ → Ask
-getting user path = bare (codes "GET") user path
+abbrev pub get_ask : Option (List ℕ) → List ℕ → Ask
+get_ask user path = bare (codes "GET") user path
 
 -- DELETE
-abbrev pub removing : Option (List ℕ) → List ℕ → Ask
-removing user path = bare (codes "DELETE") user path
+abbrev pub delete_ask : Option (List ℕ) → List ℕ → Ask
+delete_ask user path = bare (codes "DELETE") user path
 
 -- PUT of a body of that media type
-abbrev pub putting : Option (List ℕ) → List ℕ → List ℕ → List ℕ → Ask
-putting user path media body =
+abbrev pub put_ask : Option (List ℕ) → List ℕ → List ℕ → List ℕ → Ask
+put_ask user path media body =
     record { method = codes "PUT"; path = path; user = user; media = Some media; body = body }

@@ -10,7 +10,7 @@ use Rattle.xcap_client.specs.declared.response_fault.ResponseFault.TheVariants.{
 use Rattle.xcap_client.specs.declared.response_fault.ResponseFault.TheVariants.{TooLong, Short}
 use Rattle.xcap_client.specs.declared.body_length.BodyLength.{BodyLength}
 use Rattle.xcap_client.specs.declared.body_length.BodyLength.TheVariants.{Empty, Exactly, ToEnd}
-use Rattle.xcap_client.specs.Limits.{max_response_body_bytes}
+use Rattle.xcap_client.specs.declared.body_length.TheConstants.{MAX_RESPONSE_BODY_BYTES}
 
 -- the number that digits write, or the greatest of 64 bits where the number is greater
 abbrev pub capped_value : List ℕ → ℕ
@@ -18,7 +18,7 @@ capped_value digits = min (digits_value 10 digits) u64_max
 
 -- a body of this many bytes, where they are within the limit
 abbrev pub within_limit : ℕ → Result BodyLength ResponseFault
-within_limit n = if nat_lt max_response_body_bytes n then Err (TooLong n) else Ok (Exactly n)
+within_limit n = if nat_lt MAX_RESPONSE_BODY_BYTES n then Err (TooLong n) else Ok (Exactly n)
 
 -- By the values of `Content-Length`: without one the body goes to the end of the bytes; more than
 -- one, or one that is no number, is a fault, also where a status has no body.
@@ -43,7 +43,7 @@ body_by Empty rest = Ok []
 body_by (Exactly n) rest =
     if nat_lt (length rest) n then Err (Short (length rest) n) else Ok (take n rest)
 body_by ToEnd rest =
-    if nat_lt max_response_body_bytes (length rest) then Err (TooLong (max_response_body_bytes + 1))
+    if nat_lt MAX_RESPONSE_BODY_BYTES (length rest) then Err (TooLong (MAX_RESPONSE_BODY_BYTES + 1))
     else Ok rest
 
 -- the body, where the head may have a fault
@@ -55,4 +55,4 @@ body_to (Err fault) rest = Err fault
 abbrev pub LacksMore : BodyLength → List ℕ → Type 0
 LacksMore Empty rest = ⊥
 LacksMore (Exactly n) rest = length rest < n
-LacksMore ToEnd rest = length rest ≤ max_response_body_bytes
+LacksMore ToEnd rest = length rest ≤ MAX_RESPONSE_BODY_BYTES

@@ -2,7 +2,7 @@
 -- is named by the error).
 use Rattle.std.specs.Prelude.{◌≡◌, ℕ, Bool, List, [], ◌∷◌, Option, None, Some, Result, Ok, Err}
 use Rattle.std.specs.Prelude.{codes, option_map, slice_get, if◌then◌else◌}
-use Rattle.xml_names.specs.Limits.{max_levels}
+use Rattle.xml_names.specs.declared.limits.TheConstants.{MAX_LEVELS}
 use Rattle.xml_tree.specs.Tree.{Tree, child_elements_of}
 use Rattle.xml_names.specs.ExpandedNames.{element_name, same_expanded}
 use Rattle.tree_text.specs.declared.fault.TextFault.{TextFault}
@@ -28,8 +28,8 @@ error_document_of (Ok root) =
     else None
 error_document_of (Err fault) = None
 
--- parsed as a document of at most `max_levels` levels, the body names this error, or none
+-- parsed as a document of at most `MAX_LEVELS` levels, the body names this error, or none
 pub record NamesError (body : List ℕ) (name : Option (List ℕ)) : Type 0 where
   pub document : Result Tree TextFault
-  pub read : TextAnswer max_levels [] body document
+  pub read : TextAnswer MAX_LEVELS [] body document
   pub told : name ≡ error_document_of document

@@ -1,7 +1,7 @@
 -- What a call does on a peer's connections, as the peer's state shows it (RFC 9112, section 9).
 use Rattle.std.specs.Prelude.{◌≡◌, ℕ, ◌⊎◌, List, [], ◌∷◌, ◌++◌, Result, Err, encode_utf8_all}
 use Rattle.xcap_io.specs.Causes.{StreamState, CountRises}
-use Rattle.xcap_io.specs.Connections.{asked}
+use Rattle.xcap_io.specs.Connections.{peer_traffic}
 use Rattle.xcap_io.specs.Histories.{Traffic}
 use Rattle.xcap_io.specs.Streams.{TookProperPrefix}
 use Rattle.xcap_client.specs.declared.response_fault.ResponseFault.{ResponseFault}
@@ -18,12 +18,12 @@ use Rattle.xcap_client.specs.Exchanges.{answer_to}
 
 -- no connection began
 pub record NoneBegan (old new : StreamState) : Type 0 where
-  pub same : asked new ≡ asked old
+  pub same : peer_traffic new ≡ peer_traffic old
   pub same_addresses : new.peer.addresses ≡ old.peer.addresses
 
 -- one connection began, at the root's address, with this traffic
 pub record OneBegan (root : List ℕ) (old new : StreamState) (passed : Traffic) : Type 0 where
-  pub behind : asked new ≡ asked old ++ passed ∷ []
+  pub behind : peer_traffic new ≡ peer_traffic old ++ passed ∷ []
   pub dialled : new.peer.addresses ≡ encode_utf8_all (address_of root) ∷ old.peer.addresses
 
 -- A call began no connection, and has no response; or it began one, and the request was written in

@@ -2,13 +2,13 @@
 -- the grammar of `httparse` and within the limits of any head.
 use Rattle.std.specs.Prelude.{ℕ, ◌≤◌, List, length}
 use Rattle.httparse.specs.Grammar.{ResponseHead, ReadsResponse, print_response}
-use Rattle.http_wire.specs.Limits.{max_field_lines, max_head_bytes}
+use Rattle.http_wire.specs.declared.limits.TheConstants.{MAX_FIELD_LINES, MAX_HEAD_BYTES}
 
 -- the bytes are a head within the limits, and then the rest
 pub record BeginsWithHead (bytes : List ℕ) (head : ResponseHead) (rest : List ℕ) : Type 0 where
   pub reads : ReadsResponse bytes head rest
-  pub short : length (print_response head) ≤ max_head_bytes
-  pub few : length head.fields ≤ max_field_lines
+  pub short : length (print_response head) ≤ MAX_HEAD_BYTES
+  pub few : length head.fields ≤ MAX_FIELD_LINES
 
 -- no prefix of the bytes is such a head
 abbrev pub HasNoHead : List ℕ → Type 0

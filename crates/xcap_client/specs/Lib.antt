@@ -6,7 +6,6 @@ pub mod Conflicts
 pub mod Connections
 pub mod Exchanges
 pub mod Heads
-pub mod Limits
 pub mod ParsedRequests
 pub mod Requests
 pub mod Responses

@@ -5,8 +5,8 @@ use Rattle.std.specs.Prelude.{length, codes}
 use Rattle.std.specs.List.{list_any, list_all}
 use Rattle.std.specs.Char.{is_ascii_alphanumeric}
 use Rattle.http_wire.specs.declared.request.Request.{Request}
-use Rattle.http_wire.specs.Items.{asks, field_of, Talk}
-use Rattle.http_wire.specs.Limits.{max_body_bytes, max_head_bytes}
+use Rattle.http_wire.specs.Items.{asks, field_of, IsItemSequence}
+use Rattle.http_wire.specs.declared.limits.TheConstants.{MAX_BODY_BYTES, MAX_HEAD_BYTES}
 use Rattle.xcap_client.specs.declared.request.Ask.{Ask}
 use Rattle.xcap_client.specs.Requests.{target_of, fields_of, head_bytes, request_bytes}
 
@@ -24,8 +24,8 @@ pub record IsSendable (root : List ℕ) (ask : Ask) : Type 0 where
   pub path : IsPlain ask.path
   pub user : IfSome ask.user IsPlain
   pub media : IfSome ask.media IsPlain
-  pub short_body : length ask.body ≤ max_body_bytes
-  pub short_head : length (head_bytes root ask) ≤ max_head_bytes
+  pub short_body : length ask.body ≤ MAX_BODY_BYTES
+  pub short_head : length (head_bytes root ask) ≤ MAX_HEAD_BYTES
 
 -- the request that is meant: one that ends its connection, with the fields that were written
 abbrev pub meant : List ℕ → Ask → Request
@@ -39,4 +39,4 @@ meant root ask = record {
 
 -- the bytes of a connection are that request and nothing else
 abbrev pub IsUnderstood : List ℕ → Ask → Type 0
-IsUnderstood root ask = Talk 0 (request_bytes root ask) (asks (meant root ask) ∷ [])
+IsUnderstood root ask = IsItemSequence 0 (request_bytes root ask) (asks (meant root ask) ∷ [])

@@ -25,22 +25,22 @@ response_of head tag body = record { status = status_code head; tag = tag; body 
 
 -- The meaning of all bytes of a connection: there is no head; or the head, or the bytes after it,
 -- have a fault; or they are a response, with any bytes after its body.
-pub data SaysResponse (bytes : List ℕ) (answer : Result Response ResponseFault) : Type 0 where
-  no_head : HasNoHead bytes → answer ≡ Err Head → SaysResponse bytes answer
+pub data IsResponseOf (bytes : List ℕ) (answer : Result Response ResponseFault) : Type 0 where
+  no_head : HasNoHead bytes → answer ≡ Err Head → IsResponseOf bytes answer
   refused : (head : ResponseHead) (rest : List ℕ) (fault : ResponseFault)
       → BeginsWithHead bytes head rest
-      → body_to (extent_of head) rest ≡ Err fault → answer ≡ Err fault → SaysResponse bytes answer
+      → body_to (extent_of head) rest ≡ Err fault → answer ≡ Err fault → IsResponseOf bytes answer
   responds : (head : ResponseHead) (rest : List ℕ) (tag : Option (List ℕ)) (body : List ℕ)
       → BeginsWithHead bytes head rest
       → TagIs (map name_and_value head.fields) tag → body_to (extent_of head) rest ≡ Ok body
-      → answer ≡ Ok (response_of head tag body) → SaysResponse bytes answer
+      → answer ≡ Ok (response_of head tag body) → IsResponseOf bytes answer
 
 -- These bytes were given, and this is the meaning of the connection's bytes: however they go on,
 -- or as a read found their end.
 abbrev pub IsDecided : List ℕ → Bool → Result Response ResponseFault → Type 0
 IsDecided given ended answer =
-    ((more : List ℕ) → SaysResponse (given ++ more) answer)
-    ⊎ ((ended ≡ true) × SaysResponse given answer)
+    ((more : List ℕ) → IsResponseOf (given ++ more) answer)
+    ⊎ ((ended ≡ true) × IsResponseOf given answer)
 
 -- These bytes don't decide the meaning: there is no head in them, or more of the body is due.
 pub data DecidesNothing (bytes : List ℕ) : Type 0 where

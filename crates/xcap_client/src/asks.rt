@@ -1,7 +1,7 @@
 // The requests of the client's calls.
 ghost use Rattle.std.specs.Prelude.{◌≡◌, chars, option_map, IfOk};
 ghost use Rattle.xcap_client.specs.Requests.{IsLawful};
-ghost use Rattle.xcap_client.specs.Asks.{bare, getting, removing, putting};
+ghost use Rattle.xcap_client.specs.Asks.{bare, get_ask, delete_ask, put_ask};
 
 use crate::Ask;
 use std::alloc::Global;
@@ -36,23 +36,23 @@ fn bare(alloc: Global, method: &str, user: Option<&str>, path: &str) -> Result<A
     })
 }
 
-pub fn getting(alloc: Global, user: Option<&str>, path: &str) -> Result<Ask, NoMemory>
+pub fn get_ask(alloc: Global, user: Option<&str>, path: &str) -> Result<Ask, NoMemory>
     ensures ok { IfOk result
-        (λ ask. ask ≡ getting (option_map (λ name. chars name.now) user.entry) (chars path.now)) }
+        (λ ask. ask ≡ get_ask (option_map (λ name. chars name.now) user.entry) (chars path.now)) }
     ensures lawful_ask { IfOk result IsLawful }
 {
     bare(alloc, "GET", user, path)
 }
 
-pub fn removing(alloc: Global, user: Option<&str>, path: &str) -> Result<Ask, NoMemory>
+pub fn delete_ask(alloc: Global, user: Option<&str>, path: &str) -> Result<Ask, NoMemory>
     ensures ok { IfOk result
-        (λ ask. ask ≡ removing (option_map (λ name. chars name.now) user.entry) (chars path.now)) }
+        (λ ask. ask ≡ delete_ask (option_map (λ name. chars name.now) user.entry) (chars path.now)) }
     ensures lawful_ask { IfOk result IsLawful }
 {
     bare(alloc, "DELETE", user, path)
 }
 
-pub fn putting(
+pub fn put_ask(
     alloc: Global,
     user: Option<&str>,
     path: &str,
@@ -60,7 +60,7 @@ pub fn putting(
     body: &[u8],
 ) -> Result<Ask, NoMemory>
     ensures ok { IfOk result
-        (λ ask. ask ≡ putting (option_map (λ name. chars name.now) user.entry) (chars path.now)
+        (λ ask. ask ≡ put_ask (option_map (λ name. chars name.now) user.entry) (chars path.now)
         (chars media.now) body.now) }
     ensures lawful_ask { IfOk result IsLawful }
 {

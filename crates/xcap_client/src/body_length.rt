@@ -11,8 +11,9 @@ use crate::ResponseFault;
 use http_wire::{FieldLookup, find};
 use httparse::spans::HeaderSpan;
 
-/// The greatest length of a response's body, in bytes.
-pub const MAX_RESPONSE_BODY: usize = 16_777_216;
+/// The greatest length of a response's body, in bytes: 16,777,216. It is this client's own limit; a
+/// longer body is refused as too long.
+pub const MAX_RESPONSE_BODY_BYTES: usize = 16_777_216;
 
 // How far a body goes.
 #[derive(Clone, Copy)]
@@ -49,7 +50,7 @@ fn within_limit(len: u64) -> Result<BodyLength, ResponseFault>
     ensures fields_extent { result ≡ within_limit len }
     ensures err_of_fields { IfErr result IsOfFields }
 {
-    if len > MAX_RESPONSE_BODY as u64 {
+    if len > MAX_RESPONSE_BODY_BYTES as u64 {
         return Err(ResponseFault::TooLong(len));
     }
     Ok(BodyLength::Exactly(len as usize))

@@ -1,10 +1,10 @@
 // The calls that fetch, put and remove a resource at a path under the root (RFC 4825, section 7).
 ghost use Rattle.std.specs.Prelude.{◌≡◌, chars, option_map};
 ghost use Rattle.xcap_client.specs.Requests.{IsLawful};
-ghost use Rattle.xcap_client.specs.Asks.{getting, removing, putting};
+ghost use Rattle.xcap_client.specs.Asks.{get_ask, delete_ask, put_ask};
 ghost use Rattle.xcap_client.specs.Calls.{Calls, Judges, is_success};
 
-use crate::asks::{getting, putting, removing};
+use crate::asks::{delete_ask, get_ask, put_ask};
 use crate::conflicts::error_document_of;
 use crate::exchanges::exchange;
 use crate::{Ask, ClientFault, Response};
@@ -57,10 +57,10 @@ pub fn fetch<C: Peer>(
     path: &str,
 ) -> Result<Response, ClientFault>
     ensures calls_get { Calls root.now
-        (getting (option_map (λ name. chars name.now) user.entry) (chars path.now))
+        (get_ask (option_map (λ name. chars name.now) user.entry) (chars path.now))
         (C.state peer.old) (C.state peer.new) result }
 {
-    let ask = getting(alloc, user, path)?;
+    let ask = get_ask(alloc, user, path)?;
     call(alloc, peer, root, &ask)
 }
 
@@ -78,10 +78,10 @@ pub fn put<C: Peer>(
     body: &[u8],
 ) -> Result<Response, ClientFault>
     ensures calls_put { Calls root.now
-        (putting (option_map (λ name. chars name.now) user.entry) (chars path.now)
+        (put_ask (option_map (λ name. chars name.now) user.entry) (chars path.now)
         (chars media.now) body.now) (C.state peer.old) (C.state peer.new) result }
 {
-    let ask = putting(alloc, user, path, media, body)?;
+    let ask = put_ask(alloc, user, path, media, body)?;
     call(alloc, peer, root, &ask)
 }
 
@@ -97,9 +97,9 @@ pub fn remove<C: Peer>(
     path: &str,
 ) -> Result<Response, ClientFault>
     ensures calls_delete { Calls root.now
-        (removing (option_map (λ name. chars name.now) user.entry) (chars path.now))
+        (delete_ask (option_map (λ name. chars name.now) user.entry) (chars path.now))
         (C.state peer.old) (C.state peer.new) result }
 {
-    let ask = removing(alloc, user, path)?;
+    let ask = delete_ask(alloc, user, path)?;
     call(alloc, peer, root, &ask)
 }

@@ -9,7 +9,7 @@ ghost use Rattle.xcap_client.specs.declared.response_fault.ResponseFault.{Respon
 ghost use Rattle.xcap_client.specs.declared.response.Response.{Response};
 ghost use Rattle.xcap_client.specs.Stops.{ByCause};
 ghost use Rattle.xcap_client.specs.Requests.{IsLawful};
-ghost use Rattle.xcap_client.specs.Responses.{AnswersRead, DecidesNothing, SaysResponse};
+ghost use Rattle.xcap_client.specs.Responses.{AnswersRead, DecidesNothing, IsResponseOf};
 ghost use Rattle.xcap_client.specs.ParsedRequests.{IsSendable, IsUnderstood};
 
 use xcap_uri::roots_are_spelled_by_the_grammar;
@@ -17,7 +17,7 @@ use xcap_uri::roots_are_spelled_by_the_grammar;
 /// The bytes of a connection have one meaning: one response, or one fault.
 pub fn bytes_say_one_thing()
     ensures at_most_one { (bytes : List ℕ) (a b : Result Response ResponseFault)
-        → SaysResponse bytes a → SaysResponse bytes b → a ≡ b }
+        → IsResponseOf bytes a → IsResponseOf bytes b → a ≡ b }
 {}
 
 /// Over a stream whose bytes are all known, an answer is the meaning of them all; where a read
@@ -27,7 +27,7 @@ pub fn known_bytes_decide()
         (result : Result Response ResponseFault)
         → source.left ≡ Some bytes → IsTruthful source → AnswersRead source source' result
         → ByCause result ((given : List ℕ) × (left : List ℕ) × (bytes ≡ given ++ left)
-        × DecidesNothing given) (SaysResponse bytes) }
+        × DecidesNothing given) (IsResponseOf bytes) }
 {}
 
 /// A server parses the bytes of a request as that request alone, with its method, target, fields

@@ -8,7 +8,7 @@ ghost use Rattle.xcap_client.specs.inner.ReadBuffer.{IsFront, HeadOrNone};
 
 use crate::read_buffer::ReadBuffer;
 use crate::response_fault::FillError;
-use http_wire::{MAX_FIELDS, MAX_HEAD};
+use http_wire::{MAX_FIELD_LINES, MAX_HEAD_BYTES};
 use httparse::Status;
 use httparse::spans::{HeaderSpan, ResponseSpans, parse_response};
 use xcap_io::{Line, Source};
@@ -24,13 +24,13 @@ pub enum HeadScan {
 }
 
 fn scan_head(bytes: &[u8], headers: &mut [HeaderSpan]) -> HeadScan
-    requires { length headers.old ≡ MAX_FIELDS }
+    requires { length headers.old ≡ MAX_FIELD_LINES }
     ensures head_of_bytes { IsFront bytes.now headers.new result }
 {
-    let start = &bytes[..bytes.len().min(MAX_HEAD)];
+    let start = &bytes[..bytes.len().min(MAX_HEAD_BYTES)];
     match parse_response(start, headers) {
         Ok(Status::Complete(spans)) => HeadScan::Head(spans),
-        Ok(Status::Partial) if bytes.len() < MAX_HEAD => HeadScan::Open,
+        Ok(Status::Partial) if bytes.len() < MAX_HEAD_BYTES => HeadScan::Open,
         Err(_) => HeadScan::Hopeless,
         _ => HeadScan::Hopeless,
     }
@@ -39,12 +39,12 @@ fn scan_head(bytes: &[u8], headers: &mut [HeaderSpan]) -> HeadScan
 // Scans again after a read. A head ends with a line feed: where the first bytes had no head, and
 // no line feed came after them, there is still none.
 fn look_on(bytes: &[u8], seen: usize, headers: &mut [HeaderSpan]) -> HeadScan
-    requires slots { length headers.old ≡ MAX_FIELDS }
+    requires slots { length headers.old ≡ MAX_FIELD_LINES }
     requires inside { seen ≤ length bytes.now }
     requires no_head_yet { HasNoHead (take seen bytes.now) }
     ensures head_of_all { IsFront bytes.now headers.new result }
 {
-    if bytes.len() < MAX_HEAD && !bytes[seen..].contains(&b'\n') {
+    if bytes.len() < MAX_HEAD_BYTES && !bytes[seen..].contains(&b'\n') {
         return HeadScan::Open;
     }
     scan_head(bytes, headers)
@@ -56,7 +56,7 @@ pub fn read_head<S: Source>(
     read_buffer: &mut ReadBuffer,
     headers: &mut [HeaderSpan],
 ) -> Result<Option<ResponseSpans>, FillError>
-    requires { length headers.old ≡ MAX_FIELDS }
+    requires { length headers.old ≡ MAX_FIELD_LINES }
     ensures gains_source_bytes { Gains read_buffer.old read_buffer.new (S.state source.old).inward
         (S.state source.new).inward }
     ensures head_or_none { IfOk result

@@ -3,7 +3,7 @@
 //! over a connection of its own.
 //! Promises upward that on the connection the peer took exactly the request, or a proper prefix of
 //! it where a write failed (`write_request`, `ConnectsOnce`); that the answer is the meaning of
-//! the response's bytes, of which there is one (`SaysResponse`, `bytes_say_one_thing`); and that
+//! the response's bytes, of which there is one (`IsResponseOf`, `bytes_say_one_thing`); and that
 //! each fault has its cause (`peer_faults_have_causes`).
 //! The standards are RFC 4825, sections 7, 8 and 11, RFC 9110 and RFC 9112.
 //! A fault of the length comes before the status. Bytes after the body don't count, and a tag
@@ -27,6 +27,7 @@ mod response;
 mod response_fault;
 
 pub use asks::copy_user;
+pub use body_length::MAX_RESPONSE_BODY_BYTES;
 pub use calls::{fetch, put, remove};
 pub use exchange_laws::{bytes_say_one_thing, known_bytes_decide, requests_are_understood};
 pub use fault::ClientFault;

@@ -7,11 +7,11 @@ ghost use Rattle.xcap_client.specs.Responses.{AnswersRead};
 ghost use Rattle.xcap_client.specs.inner.Responses.{GivesBody};
 
 use crate::ResponseFault;
-use crate::body_length::{BodyLength, MAX_RESPONSE_BODY, read_body_length};
+use crate::body_length::{BodyLength, MAX_RESPONSE_BODY_BYTES, read_body_length};
 use crate::etags::read_tag;
 use crate::head_scan::read_head;
 use crate::read_buffer::ReadBuffer;
-use http_wire::MAX_FIELDS;
+use http_wire::MAX_FIELD_LINES;
 use httparse::spans::EMPTY_HEADER_SPAN;
 use std::alloc::Global;
 use xcap_io::{Bytes, Line, Source};
@@ -55,8 +55,8 @@ fn read_to_end<S: Source>(
     ensures faults_never_fall { CountsFault (S.state source.old).read_faults
         (S.state source.new).read_faults result }
 {
-    if read_buffer.fill_to(source, MAX_RESPONSE_BODY + 1)? {
-        return Err(ResponseFault::TooLong(MAX_RESPONSE_BODY as u64 + 1));
+    if read_buffer.fill_to(source, MAX_RESPONSE_BODY_BYTES + 1)? {
+        return Err(ResponseFault::TooLong(MAX_RESPONSE_BODY_BYTES as u64 + 1));
     }
     let len = read_buffer.len();
     Ok(read_buffer.split_to_front(len))
@@ -88,8 +88,8 @@ fn read_body<S: Source>(
 /// # Errors
 /// `ReadFailed` where a read failed before the bytes given decided; the source's count of such
 /// faults rose. `NoMemory` when out of memory. Else the first of these that applies: `Head` where
-/// there is no head of at most `MAX_HEAD` bytes and `MAX_FIELDS` field lines, `Coding`, `Length`,
-/// `TooLong` for a body of more than `MAX_RESPONSE_BODY` bytes, `Short`.
+/// there is no head of at most `MAX_HEAD_BYTES` bytes and `MAX_FIELD_LINES` field lines, `Coding`,
+/// `Length`, `TooLong` for a body of more than `MAX_RESPONSE_BODY_BYTES` bytes, `Short`.
 pub fn read_response<S: Source>(alloc: Global, source: &mut S) -> Result<Response, ResponseFault>
     ensures answers_read { AnswersRead (S.state source.old).inward
         (S.state source.new).inward result }
@@ -98,7 +98,7 @@ pub fn read_response<S: Source>(alloc: Global, source: &mut S) -> Result<Respons
         (S.state source.new).read_faults result }
 {
     let mut read_buffer = ReadBuffer::new(alloc);
-    let mut headers = [EMPTY_HEADER_SPAN; MAX_FIELDS];
+    let mut headers = [EMPTY_HEADER_SPAN; MAX_FIELD_LINES];
     let Some(spans) = read_head(source, &mut read_buffer, &mut headers)? else {
         return Err(ResponseFault::Head);
     };

@@ -6,7 +6,8 @@ use Rattle.xml_tree.specs.Tree.{Tree, height}
 use Rattle.xml_names.specs.Memory.{OfFault}
 use Rattle.xml_names.specs.declared.read_error.ReadError.{ReadError}
 use Rattle.xml_names.specs.declared.read_error.ReadError.TheVariants.{Fault, NoMemory}
-use Rattle.usage_docs.specs.Services.{service_elements, index_of, index_of_documents, index_len, index_limit, document_len, RefusesServices}
+use Rattle.usage_docs.specs.Services.{service_elements, index_of, index_of_documents, index_len, document_len, RefusesServices}
+use Rattle.usage_docs.specs.declared.service_index.TheConstants.{INDEX_LIMIT}
 use Rattle.usage_docs.specs.declared.service_index.IndexFault.{IndexFault}
 use Rattle.usage_docs.specs.declared.service_index.IndexFault.TheVariants.{TooLarge}
 use Rattle.xcap_get.proofs.Heights.{index_low}
@@ -17,7 +18,7 @@ pub record Gathered (trees left ss : List Tree) : Type 0 where
   pub rest : ss ++ flat_map service_elements left ≡ flat_map service_elements trees
   pub lows : AllByRecursion (λ t. height t ≤ 64) left
   pub low : height (index_of ss) ≤ 64
-  pub fits : index_len ss ≤ index_limit
+  pub fits : index_len ss ≤ INDEX_LIMIT
 
 -- the trees of these documents
 abbrev pub shown : List (Bor Tree) → List Tree
@@ -36,7 +37,7 @@ gathered_none trees roots left same is lows = record {
 next : (trees left ss : List Tree) (t : Tree) → Gathered trees (t ∷ left) ss → (ss ++ service_elements t) ++ flat_map service_elements left ≡ flat_map service_elements trees
 next trees left ss t g = append_assoc ss (service_elements t) (flat_map service_elements left) ∙ g.rest
 
-pub gathered_more : (trees left ss : List Tree) (t : Tree) (new : List Tree) → Gathered trees (t ∷ left) ss → new ≡ ss ++ service_elements t → index_len new ≤ index_limit → Gathered trees left new
+pub gathered_more : (trees left ss : List Tree) (t : Tree) (new : List Tree) → Gathered trees (t ∷ left) ss → new ≡ ss ++ service_elements t → index_len new ≤ INDEX_LIMIT → Gathered trees left new
 gathered_more trees left ss t new g is fits = record {
   rest = ap (λ ts. ts ++ flat_map service_elements left) is ∙ next trees left ss t g;
   lows = g.lows.1;
@@ -46,12 +47,12 @@ gathered_more trees left ss t new g is fits = record {
 
 -- where the next document makes the index too long, so do all
 pub beyond : (trees left ss : List Tree) (t : Tree) (error : ReadError IndexFault) → Gathered trees (t ∷ left) ss → OfFault (RefusesServices (ss ++ service_elements t)) error
-    → OfFault (λ (fault : IndexFault). index_limit < document_len (index_of_documents trees)) error
+    → OfFault (λ (fault : IndexFault). INDEX_LIMIT < document_len (index_of_documents trees)) error
 beyond trees left ss t (Fault (TooLarge len)) g refuses =
     let grows : index_len (ss ++ service_elements t) ≤ index_len (flat_map service_elements trees) =
     subst (λ (ts : List Tree). index_len (ss ++ service_elements t) ≤ index_len ts) (next trees left ss t g) (index_grows (ss ++ service_elements t) (flat_map service_elements left)) in
     longer (index_len (ss ++ service_elements t)) (index_len (flat_map service_elements trees)) refuses.0 grows
   where
-    longer : (a b : ℕ) → index_limit < a → a ≤ b → index_limit < b
+    longer : (a b : ℕ) → INDEX_LIMIT < a → a ≤ b → INDEX_LIMIT < b
     longer a b h grows = omega (arith, h, grows)
 beyond trees left ss t NoMemory g refuses = tt

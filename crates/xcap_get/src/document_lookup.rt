@@ -45,7 +45,7 @@ fn stored_document<'a>(store: &'a Store, doc: &DocId) -> DocumentLookup<'a>
 }
 
 // The index of services, unless it is beyond its limit. Its tag is the last number given.
-fn index_found<'a>(alloc: Global, store: &'a Store) -> Result<DocumentLookup<'a>, NoMemory>
+fn find_index<'a>(alloc: Global, store: &'a Store) -> Result<DocumentLookup<'a>, NoMemory>
     ensures leads_there { IfOk result
         (λ f. LeadsUnderGlobal store.now.content RlsServices true (resource_of f)) }
     ensures found_within_levels { IfOk result (λ f. IsWithinLevels f) }
@@ -58,7 +58,7 @@ fn index_found<'a>(alloc: Global, store: &'a Store) -> Result<DocumentLookup<'a>
 }
 
 // The capabilities, which never change.
-fn caps_found<'a>(alloc: Global) -> Result<DocumentLookup<'a>, NoMemory>
+fn find_capabilities<'a>(alloc: Global) -> Result<DocumentLookup<'a>, NoMemory>
     ensures leads_there { IfOk result (λ f. resource_of f ≡ there capabilities 0) }
     ensures found_within_levels { IfOk result (λ f. IsWithinLevels f) }
 {
@@ -78,8 +78,8 @@ fn computed_document<'a>(
 {
     match auid {
         Auid::ResourceLists => Ok(DocumentLookup::Absent),
-        Auid::RlsServices => index_found(alloc, store),
-        Auid::XcapCaps => caps_found(alloc),
+        Auid::RlsServices => find_index(alloc, store),
+        Auid::XcapCaps => find_capabilities(alloc),
     }
 }
 

@@ -5,7 +5,7 @@ ghost use Rattle.xml_tree.specs.Print.{document_print};
 ghost use Rattle.request_checks.specs.MediaTypes.{document_media};
 ghost use Rattle.request_checks.specs.Methods.{for_method};
 ghost use Rattle.xcap_machine.specs.Answers.{found, unchanged};
-ghost use Rattle.xcap_machine.specs.ReadRequests.{ReadsDocument, SendsFound};
+ghost use Rattle.xcap_machine.specs.ReadRequests.{ReadsDocument, AnswersWithFound};
 ghost use Rattle.xcap_machine.specs.Resources.{IsResourceOf, there};
 ghost use Rattle.xcap_get.specs.inner.StoredDocuments.{IsHeldWith};
 
@@ -31,7 +31,7 @@ fn document_reply(
     request: &Request,
 ) -> Result<Reply, NoMemory>
     ensures sends_found { IfOk result
-        (λ r. SendsFound (Some (encode_utf8_all (document_print root.now))) tag media
+        (λ r. AnswersWithFound (Some (encode_utf8_all (document_print root.now))) tag media
         (record { method = method; request = request.now }) (unchanged r)) }
 {
     if let Some(reply) = condition_reply(alloc, request, Some(tag), true, true)? {

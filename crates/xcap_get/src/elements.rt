@@ -33,9 +33,12 @@ pub fn get_element_feed(
         (record { root = root.now; content = store.now.content })
         (record {
           tag = watch.entry.tag;
-          id = watch.entry.doc.now;
-          selector = watch.entry.selector.now;
-          raw = watch.entry.raw.now;
+          watched =
+              record {
+                doc = watch.entry.doc.now;
+                selector = watch.entry.selector.now;
+                raw = watch.entry.raw.now;
+              };
         })
         (record { method = method; request = request.now }) (unchanged r)) }
 {

@@ -1,10 +1,10 @@
 //! GET and HEAD of nodes of documents (RFC 4825, sections 7.6, 7.9, 7.10 and 8.3).
 ghost use Rattle.std.specs.Prelude.{◌≤◌, IfOk};
-ghost use Rattle.xml_names.specs.Limits.{max_levels};
+ghost use Rattle.xml_names.specs.declared.limits.TheConstants.{MAX_LEVELS};
 ghost use Rattle.xml_tree.specs.Tree.{height};
 ghost use Rattle.reply_bodies.specs.Nodes.{encoded, found_text, node_media};
 ghost use Rattle.xcap_machine.specs.Answers.{unchanged};
-ghost use Rattle.xcap_machine.specs.ReadRequests.{ReadsNode, SendsFound};
+ghost use Rattle.xcap_machine.specs.ReadRequests.{ReadsNode, AnswersWithFound};
 
 use crate::NoMemory;
 use crate::document_lookup::{DocumentLookup, find_resource};
@@ -29,9 +29,9 @@ fn node_reply(
     method: Method,
     request: &Request,
 ) -> Result<Reply, NoMemory>
-    requires height_bounded { height root.now ≤ max_levels }
+    requires height_bounded { height root.now ≤ MAX_LEVELS }
     ensures sends_found { IfOk result
-        (λ r. SendsFound (encoded (found_text root.now selector.now)) tag
+        (λ r. AnswersWithFound (encoded (found_text root.now selector.now)) tag
         (node_media selector.now.end) (record { method = method; request = request.now })
         (unchanged r)) }
 {

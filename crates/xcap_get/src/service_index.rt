@@ -1,9 +1,10 @@
 //! The index of all services (RFC 4826, sections 4.4.7 and 4.4.8).
 ghost use Rattle.std.specs.Prelude.{◌≤◌, IfErr, IfOk};
-ghost use Rattle.xml_names.specs.Limits.{max_levels};
+ghost use Rattle.xml_names.specs.declared.limits.TheConstants.{MAX_LEVELS};
 ghost use Rattle.xml_names.specs.Memory.{OfFault};
 ghost use Rattle.xml_tree.specs.Tree.{height};
-ghost use Rattle.usage_docs.specs.Services.{document_len, index_limit};
+ghost use Rattle.usage_docs.specs.Services.{document_len};
+ghost use Rattle.usage_docs.specs.declared.service_index.TheConstants.{INDEX_LIMIT};
 ghost use Rattle.xcap_machine.specs.Resources.{IsIndexOfServices};
 ghost use Rattle.xcap_get.specs.inner.FoundResources.{HasLongIndex};
 
@@ -19,8 +20,8 @@ use xml_tree::Element;
 /// `TooLarge` exactly where the index would be beyond its limit, else `NoMemory`.
 pub fn index_of_services(alloc: Global, store: &Store) -> Result<Element, ReadError<IndexFault>>
     ensures lists_services { IfOk result (λ root. IsIndexOfServices store.now.content root) }
-    ensures within_limit { IfOk result (λ root. document_len root ≤ index_limit) }
-    ensures found_within_levels { IfOk result (λ root. height root ≤ max_levels) }
+    ensures within_limit { IfOk result (λ root. document_len root ≤ INDEX_LIMIT) }
+    ensures found_within_levels { IfOk result (λ root. height root ≤ MAX_LEVELS) }
     ensures refused_beyond_limit { IfErr result
         (λ error. OfFault (λ _. HasLongIndex store.now.content) error) }
 {

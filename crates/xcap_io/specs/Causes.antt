@@ -68,7 +68,7 @@ no_peer = record { to_come = None; begun = none_begun; addresses = []; faults = 
 -- What a stream made of two others hides of one of them: of an input, what it has taken and its
 -- count of failed writes; of an output, what it has given and its count of failed reads; of both,
 -- their connections, and the references and hidden states that they have themselves.
-pub record Aside : Type 0 where
+pub record HiddenState : Type 0 where
   pub inward : InputState
   pub taken : List ℕ
   pub faults : ℕ
@@ -89,7 +89,7 @@ pub record StreamState : Type 0 where
   -- the references inside the stream, by name: no call replaces one of them
   pub holds : List GName
   -- what the stream hides of those that it is made of: no call changes it
-  pub aside : List Aside
+  pub aside : List HiddenState
   pub port : PortState
   pub peer : PeerState
 

@@ -31,12 +31,12 @@ abbrev pub traffic : StreamState → Traffic
 traffic line = record { given = line.inward.given; ended = line.inward.ended; taken = line.taken }
 
 -- what passed over each connection that a port accepted, the present one last
-abbrev pub carried : StreamState → List Traffic
-carried line = carried_by line.port.begun.earlier line.port.begun.is_present (traffic line)
+abbrev pub port_traffic : StreamState → List Traffic
+port_traffic line = carried_by line.port.begun.earlier line.port.begun.is_present (traffic line)
 
 -- what passed over each connection that a peer made, the present one last
-abbrev pub asked : StreamState → List Traffic
-asked line = carried_by line.peer.begun.earlier line.peer.begun.is_present (traffic line)
+abbrev pub peer_traffic : StreamState → List Traffic
+peer_traffic line = carried_by line.peer.begun.earlier line.peer.begun.is_present (traffic line)
 
 -- the first of the connections still to come has begun, and its bytes are left to read
 abbrev pub Comes : Option (List (List ℕ)) → Option (List (List ℕ)) → Option (List ℕ) → Type 0
@@ -48,7 +48,7 @@ Comes old new left =
 -- The present connection of a port ended, and the next one began.
 pub record Next (old new : StreamState) : Type 0 where
   pub comes : Comes old.port.to_come new.port.to_come new.inward.left
-  pub begins : new.port.begun ≡ record { earlier = carried old; is_present = true }
+  pub begins : new.port.begun ≡ record { earlier = port_traffic old; is_present = true }
   pub nothing_passed : traffic new ≡ no_traffic
   pub same_listening : new.port.listening ≡ old.port.listening
   pub same_faults : new.port.faults ≡ old.port.faults
@@ -61,7 +61,7 @@ pub record Next (old new : StreamState) : Type 0 where
 -- No connection began, and the port's fault counter rose. The present connection may have ended,
 -- but what passed over it and the earlier ones is unchanged.
 pub record NextFailed (old new : StreamState) : Type 0 where
-  pub keeps : carried new ≡ carried old
+  pub keeps : port_traffic new ≡ port_traffic old
   pub rose : CountRises old.port.faults new.port.faults
   pub same_to_come : new.port.to_come ≡ old.port.to_come
   pub same_listening : new.port.listening ≡ old.port.listening
@@ -81,7 +81,7 @@ OnlyNext old new (Err e) = NextFailed old new
 -- The present connection of a peer ended, and one at this address began.
 pub record Connects (old new : StreamState) (address : List ℕ) : Type 0 where
   pub comes : Comes old.peer.to_come new.peer.to_come new.inward.left
-  pub begins : new.peer.begun ≡ record { earlier = asked old; is_present = true }
+  pub begins : new.peer.begun ≡ record { earlier = peer_traffic old; is_present = true }
   pub dialled : new.peer.addresses ≡ address ∷ old.peer.addresses
   pub nothing_passed : traffic new ≡ no_traffic
   pub same_faults : new.peer.faults ≡ old.peer.faults
@@ -94,7 +94,7 @@ pub record Connects (old new : StreamState) (address : List ℕ) : Type 0 where
 -- No connection began, and the peer's fault counter rose. The present connection may have ended,
 -- but what passed over it and the earlier ones is unchanged.
 pub record ConnectFailed (old new : StreamState) : Type 0 where
-  pub keeps : asked new ≡ asked old
+  pub keeps : peer_traffic new ≡ peer_traffic old
   pub same_addresses : new.peer.addresses ≡ old.peer.addresses
   pub rose : CountRises old.peer.faults new.peer.faults
   pub same_to_come : new.peer.to_come ≡ old.peer.to_come

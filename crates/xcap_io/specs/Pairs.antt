@@ -1,11 +1,11 @@
 -- What contracts see of a source and a sink joined to one stream. This is the project's own.
 use Rattle.std.specs.Prelude.{List, [], ◌∷◌, ◌++◌, length}
 use Rattle.std.specs.Borrow.{GName}
-use Rattle.xcap_io.specs.Causes.{Aside, StreamState, no_inward, no_peer, no_port}
+use Rattle.xcap_io.specs.Causes.{HiddenState, StreamState, no_inward, no_peer, no_port}
 
 -- what reads of an input don't touch
-abbrev pub unread : StreamState → Aside
-unread input =
+abbrev pub hidden_by_input : StreamState → HiddenState
+hidden_by_input input =
     record {
       inward = no_inward;
       taken = input.taken;
@@ -17,8 +17,8 @@ unread input =
     }
 
 -- what writes to an output don't touch
-abbrev pub unwritten : StreamState → Aside
-unwritten output =
+abbrev pub hidden_by_output : StreamState → HiddenState
+hidden_by_output output =
     record {
       inward = output.inward;
       taken = [];
@@ -37,7 +37,7 @@ pair_state input output names = record {
   read_faults = input.read_faults;
   write_faults = output.write_faults;
   holds = names ++ (input.holds ++ output.holds);
-  aside = unread input ∷ unwritten output ∷ (input.aside ++ output.aside);
+  aside = hidden_by_input input ∷ hidden_by_output output ∷ (input.aside ++ output.aside);
   port = no_port;
   peer = no_peer;
 }

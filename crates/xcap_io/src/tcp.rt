@@ -5,7 +5,7 @@ ghost use Rattle.std.specs.Prelude.{OnErr, IsSome, IfSome, IsTrue, MatchResult};
 ghost use Rattle.std.specs.Io.{ReadsAtMost};
 ghost use Rattle.xcap_io.specs.Causes.{Counts, OnlyReads, OnlyWrites, inward_of, no_inward};
 ghost use Rattle.xcap_io.specs.Causes.{no_peer, none_begun};
-ghost use Rattle.xcap_io.specs.Connections.{Listens, OnlyNext, carried};
+ghost use Rattle.xcap_io.specs.Connections.{Listens, OnlyNext, port_traffic};
 ghost use Rattle.xcap_io.specs.Histories.{with_given, with_taken};
 ghost use Rattle.xcap_io.specs.Memory.{latest};
 ghost use Rattle.xcap_io.specs.StreamTraffic.{GivesReadBytes, TakesWrittenBytes};
@@ -273,7 +273,7 @@ impl<N: Net + Clock + Drop> Port for TcpPort<N> {
         ensures none_present { OnErr result
             ((⟦<TcpPort<N> as Line>⟧.state self.new).port.begun
             ≡ record {
-              earlier = carried (⟦<TcpPort<N> as Line>⟧.state self.old);
+              earlier = port_traffic (⟦<TcpPort<N> as Line>⟧.state self.old);
               is_present = false;
             }) }
     {

@@ -3,7 +3,7 @@ ghost use Rattle.std.specs.Prelude.{◌≡◌, ◌<◌, [], None, false, length,
 ghost use Rattle.std.specs.Io.{ReadsAtMost};
 ghost use Rattle.xcap_io.specs.Causes.{OnlyReads, OnlyWrites, inward_of, no_inward, no_port};
 ghost use Rattle.xcap_io.specs.Causes.{no_peer};
-ghost use Rattle.xcap_io.specs.Connections.{ConnectsOnly, asked};
+ghost use Rattle.xcap_io.specs.Connections.{ConnectsOnly, peer_traffic};
 ghost use Rattle.xcap_io.specs.StreamTraffic.{GivesReadBytes, TakesWrittenBytes};
 ghost use Rattle.xcap_io.specs.Sockets.{ReadsStream, WritesStream};
 ghost use Rattle.xcap_io.specs.Streams.{WritesSome};
@@ -124,7 +124,7 @@ impl<N: Net + Drop> Peer for TcpPeer<N> {
         ensures none_present { OnErr result
             ((⟦<TcpPeer<N> as Line>⟧.state self.new).peer.begun
             ≡ record {
-              earlier = asked (⟦<TcpPeer<N> as Line>⟧.state self.old);
+              earlier = peer_traffic (⟦<TcpPeer<N> as Line>⟧.state self.old);
               is_present = false;
             }) }
     {

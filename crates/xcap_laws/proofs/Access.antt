@@ -11,7 +11,7 @@ use Rattle.store_core.specs.State.{State}
 use Rattle.xcap_uri.specs.declared.target.Target.{Target}
 use Rattle.xcap_machine.specs.Answers.{Answer, Made, not_allowed, unchanged}
 use Rattle.xcap_machine.specs.Laws.{ChangesNothing}
-use Rattle.xcap_machine.specs.Machine.{Step, after_answer, answer_as, told_as}
+use Rattle.xcap_machine.specs.Machine.{Step, after_answer, answer_as, made_from}
 use Rattle.xcap_machine.specs.Requests.{ByMethod, IsAnswer, auid_of, home_of, is_read_only, takes}
 use Rattle.xcap_machine.specs.inner.Records.{server_of}
 use Rattle.xcap_machine.proofs.AcceptedRequests.{by_target}
@@ -32,9 +32,9 @@ forbidden_answer root c request target a f is =
 pub forbidden_alike : (root : List ℕ) (c d : StoreContents) (request : Request) (target : Target) (a b : Answer) → IsForbidden root request target → IsAnswer root c request a → IsAnswer root d request b → a ≡ b
 forbidden_alike root c d request target a b f is other = forbidden_answer root c request target a f is ∙ sym (forbidden_answer root d request target b f other)
 
-unmade : (m next : State) (edit : Option Edit) (reply r : SentReply) → answer_as reply edit ≡ unchanged r → next ≡ after_answer m (option_map told_as edit) → ChangesNothing m next edit
+unmade : (m next : State) (edit : Option Edit) (reply r : SentReply) → answer_as reply edit ≡ unchanged r → next ≡ after_answer m (option_map made_from edit) → ChangesNothing m next edit
 unmade m next None reply r same goes = (goes, refl)
-unmade m next (Some e) reply r same goes = let z : ◌≡◌ {A = Option Made} (Some (told_as e)) None = ap (λ (x : Answer). x.made) same in absurd cc
+unmade m next (Some e) reply r same goes = let z : ◌≡◌ {A = Option Made} (Some (made_from e)) None = ap (λ (x : Answer). x.made) same in absurd cc
 
 pub forbidden_unchanged : (root : List ℕ) (m next : State) (request : Request) (target : Target) (reply : SentReply) (edit : Option Edit) → IsForbidden root request target → Step root m request reply next edit → ChangesNothing m next edit
 forbidden_unchanged root m next request target reply edit f s = unmade m next edit reply (forbidden_reply target request) (forbidden_answer root (stock_of m) request target (answer_as reply edit) f s.answers) s.goes_on

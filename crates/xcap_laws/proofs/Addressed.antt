@@ -14,7 +14,7 @@ use Rattle.xcap_uri.specs.declared.target.Target.TheVariants.{Document, Node, De
 use Rattle.xcap_machine.specs.Answers.{Answer}
 use Rattle.xcap_machine.specs.DocumentWrites.{deleted_reply, put_change, put_reply}
 use Rattle.xcap_machine.specs.Laws.{tells_change}
-use Rattle.xcap_machine.specs.Machine.{Does, answer_as, told_as}
+use Rattle.xcap_machine.specs.Machine.{Does, answer_as, made_from}
 use Rattle.xcap_machine.specs.NodeWrites.{cut_reply, is_there}
 use Rattle.xcap_machine.specs.Resources.{version_of}
 use Rattle.xcap_machine.proofs.AcceptedRequests.{Accepts, NodePut, accepted, by_target, delete_enters, document_deleted, document_put, node_deleted, node_put, of_element, of_value, put_enters, stopped_never, store_made}
@@ -25,60 +25,60 @@ module _ (root : List ℕ) (c next : Content) (request : Request) (edit : Edit) 
   put_in : (target : Target) → Accepts root c request Put target next edit → IsTargetIn edit.doc target
   put_in (Document id) a =
       let answer = answer_as a.reply (Some edit) in
-      let e = put_enters root c request (Document id) answer (told_as edit) refl (by_target root c request answer (Document id) Put a.means a.asks a.does.answers) in
-      let d = document_put c id e.usage request answer (told_as edit) refl e.does in
-      sym (store_made c id (put_change (is_some (version_of c id)) d.tree) request.closes (put_reply (is_some (version_of c id)) request.closes) answer (told_as edit) refl d.answers).of_document
+      let e = put_enters root c request (Document id) answer (made_from edit) refl (by_target root c request answer (Document id) Put a.means a.asks a.does.answers) in
+      let d = document_put c id e.usage request answer (made_from edit) refl e.does in
+      sym (store_made c id (put_change (is_some (version_of c id)) d.tree) request.closes (put_reply (is_some (version_of c id)) request.closes) answer (made_from edit) refl d.answers).of_document
   put_in (Node id selector) a =
       let answer = answer_as a.reply (Some edit) in
-      let e = put_enters root c request (Node id selector) answer (told_as edit) refl (by_target root c request answer (Node id selector) Put a.means a.asks a.does.answers) in
-      let n = node_put root c id e.usage selector (version_of c id) request answer (told_as edit) refl e.does in
+      let e = put_enters root c request (Node id selector) answer (made_from edit) refl (by_target root c request answer (Node id selector) Put a.means a.asks a.does.answers) in
+      let n = node_put root c id e.usage selector (version_of c id) request answer (made_from edit) refl e.does in
       by e.usage n.tree answer refl n.put.put
     where
-      by : (usage : _) (t : _) (answer : Answer) → answer.made ≡ Some (told_as edit) → NodePut c id usage selector t request answer → id ≡ edit.doc
+      by : (usage : _) (t : _) (answer : Answer) → answer.made ≡ Some (made_from edit) → NodePut c id usage selector t request answer → id ≡ edit.doc
       by usage t answer is (of_element spot ends_so place e spelled change plan answers) =
-          sym (store_made c id change request.closes (put_reply (is_there t selector) request.closes) answer (told_as edit) is answers).of_document
+          sym (store_made c id change request.closes (put_reply (is_there t selector) request.closes) answer (made_from edit) is answers).of_document
       by usage t answer is (of_value p uri local value ends_so place spelled change plan answers) =
-          sym (store_made c id change request.closes (put_reply (is_there t selector) request.closes) answer (told_as edit) is answers).of_document
+          sym (store_made c id change request.closes (put_reply (is_there t selector) request.closes) answer (made_from edit) is answers).of_document
   put_in (Deep auid home) a =
       let answer = answer_as a.reply (Some edit) in
-      absurd (stopped_never answer _ (told_as edit) refl (put_enters root c request (Deep auid home) answer (told_as edit) refl (by_target root c request answer (Deep auid home) Put a.means a.asks a.does.answers)).does)
+      absurd (stopped_never answer _ (made_from edit) refl (put_enters root c request (Deep auid home) answer (made_from edit) refl (by_target root c request answer (Deep auid home) Put a.means a.asks a.does.answers)).does)
   put_in (Feed mode tag id) a =
       let answer = answer_as a.reply (Some edit) in
-      absurd (put_enters root c request (Feed mode tag id) answer (told_as edit) refl (by_target root c request answer (Feed mode tag id) Put a.means a.asks a.does.answers)).does
+      absurd (put_enters root c request (Feed mode tag id) answer (made_from edit) refl (by_target root c request answer (Feed mode tag id) Put a.means a.asks a.does.answers)).does
   put_in (ElementFeed tag id selector raw) a =
       let answer = answer_as a.reply (Some edit) in
-      absurd (put_enters root c request (ElementFeed tag id selector raw) answer (told_as edit) refl (by_target root c request answer (ElementFeed tag id selector raw) Put a.means a.asks a.does.answers)).does
+      absurd (put_enters root c request (ElementFeed tag id selector raw) answer (made_from edit) refl (by_target root c request answer (ElementFeed tag id selector raw) Put a.means a.asks a.does.answers)).does
   put_in (Flat id service) a =
       let answer = answer_as a.reply (Some edit) in
-      absurd (put_enters root c request (Flat id service) answer (told_as edit) refl (by_target root c request answer (Flat id service) Put a.means a.asks a.does.answers)).does
+      absurd (put_enters root c request (Flat id service) answer (made_from edit) refl (by_target root c request answer (Flat id service) Put a.means a.asks a.does.answers)).does
 
   delete_in : (target : Target) → Accepts root c request Delete target next edit → IsTargetIn edit.doc target
   delete_in (Document id) a =
       let answer = answer_as a.reply (Some edit) in
-      let e = delete_enters root c request (Document id) answer (told_as edit) refl (by_target root c request answer (Document id) Delete a.means a.asks a.does.answers) in
-      let d = document_deleted c id (version_of c id) request answer (told_as edit) refl e.does in
-      sym (store_made c id RemoveDocument request.closes (deleted_reply request.closes) answer (told_as edit) refl d.answers).of_document
+      let e = delete_enters root c request (Document id) answer (made_from edit) refl (by_target root c request answer (Document id) Delete a.means a.asks a.does.answers) in
+      let d = document_deleted c id (version_of c id) request answer (made_from edit) refl e.does in
+      sym (store_made c id RemoveDocument request.closes (deleted_reply request.closes) answer (made_from edit) refl d.answers).of_document
   delete_in (Node id selector) a =
       let answer = answer_as a.reply (Some edit) in
-      let e = delete_enters root c request (Node id selector) answer (told_as edit) refl (by_target root c request answer (Node id selector) Delete a.means a.asks a.does.answers) in
-      let d = node_deleted c id e.usage selector (version_of c id) request answer (told_as edit) refl e.does in
-      sym (store_made c id d.change request.closes (cut_reply request.closes) answer (told_as edit) refl d.answers).of_document
+      let e = delete_enters root c request (Node id selector) answer (made_from edit) refl (by_target root c request answer (Node id selector) Delete a.means a.asks a.does.answers) in
+      let d = node_deleted c id e.usage selector (version_of c id) request answer (made_from edit) refl e.does in
+      sym (store_made c id d.change request.closes (cut_reply request.closes) answer (made_from edit) refl d.answers).of_document
   delete_in (Deep auid home) a =
       let answer = answer_as a.reply (Some edit) in
-      absurd (stopped_never answer _ (told_as edit) refl (delete_enters root c request (Deep auid home) answer (told_as edit) refl (by_target root c request answer (Deep auid home) Delete a.means a.asks a.does.answers)).does)
+      absurd (stopped_never answer _ (made_from edit) refl (delete_enters root c request (Deep auid home) answer (made_from edit) refl (by_target root c request answer (Deep auid home) Delete a.means a.asks a.does.answers)).does)
   delete_in (Feed mode tag id) a =
       let answer = answer_as a.reply (Some edit) in
-      absurd (delete_enters root c request (Feed mode tag id) answer (told_as edit) refl (by_target root c request answer (Feed mode tag id) Delete a.means a.asks a.does.answers)).does
+      absurd (delete_enters root c request (Feed mode tag id) answer (made_from edit) refl (by_target root c request answer (Feed mode tag id) Delete a.means a.asks a.does.answers)).does
   delete_in (ElementFeed tag id selector raw) a =
       let answer = answer_as a.reply (Some edit) in
-      absurd (delete_enters root c request (ElementFeed tag id selector raw) answer (told_as edit) refl (by_target root c request answer (ElementFeed tag id selector raw) Delete a.means a.asks a.does.answers)).does
+      absurd (delete_enters root c request (ElementFeed tag id selector raw) answer (made_from edit) refl (by_target root c request answer (ElementFeed tag id selector raw) Delete a.means a.asks a.does.answers)).does
   delete_in (Flat id service) a =
       let answer = answer_as a.reply (Some edit) in
-      absurd (delete_enters root c request (Flat id service) answer (told_as edit) refl (by_target root c request answer (Flat id service) Delete a.means a.asks a.does.answers)).does
+      absurd (delete_enters root c request (Flat id service) answer (made_from edit) refl (by_target root c request answer (Flat id service) Delete a.means a.asks a.does.answers)).does
 
   -- a method whose replies never report a change makes none
   never : (method : Method) (reply : SentReply) → Way method request.closes c (answer_as reply (Some edit)) → ((status : ℕ) → tells_change method status ≡ false) → ⊥
-  never method reply (stays same tells closes is) silent = let z : Some (told_as edit) ≡ None = ap (λ (a : Answer). a.made) is in cc
+  never method reply (stays same tells closes is) silent = let z : Some (made_from edit) ≡ None = ap (λ (a : Answer). a.made) is in cc
   never method reply (changes same tells closes id change note held asks made is) silent = let z : true ≡ false = sym tells ∙ silent same.status in cc
 
 pub addressed : (root : List ℕ) (c next : Content) (request : Request) (reply : SentReply) (e : Edit) → Does root c request reply next (Some e)

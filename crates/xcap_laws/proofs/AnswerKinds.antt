@@ -41,7 +41,7 @@ use Rattle.request_checks.specs.declared.method.Method.{Method}
 use Rattle.request_checks.specs.declared.method.Method.TheVariants.{Get, Head, Put, Delete, Other}
 use Rattle.request_checks.specs.declared.verdicts.Verdict.TheVariants as verdicts
 use Rattle.store_core.specs.Contents.{StoreContents as Content}
-use Rattle.store_core.specs.DocumentChanges.{act_of, against, changing, content_after, document_in, note_for, stored_name}
+use Rattle.store_core.specs.DocumentChanges.{act_of, refusal_of, change_result, content_after, document_in, note_for, stored_name}
 use Rattle.store_core.specs.Since.{ChangesSince, Gone, Unknown, ReportedChanges, since}
 use Rattle.store_core.specs.declared.refusal.StoreRefusal.{StoreRefusal}
 use Rattle.store_core.specs.declared.refusal.StoreRefusal.TheVariants as refusals
@@ -52,13 +52,13 @@ use Rattle.xcap_laws.proofs.FreshTags.{answered_note, note_number}
 use Rattle.xcap_laws.specs.Unmodified.{document_of, not_modified}
 use Rattle.xcap_machine.proofs.Cases.{either}
 use Rattle.xcap_machine.proofs.ChangeAnswers.{as_the_store, told_by_store}
-use Rattle.xcap_machine.specs.Answers.{Answer, BehindConditions, Made, conflict, found, not_allowed, unchanged}
+use Rattle.xcap_machine.specs.Answers.{Answer, AfterConditions, Made, conflict, found, not_allowed, unchanged}
 use Rattle.xcap_machine.specs.DocumentWrites.{IfStored, PutsBody, PutsDocument, PutsSpelled, change_answer, clash_field, deleted_reply, fault_conflict, put_answer, put_change, put_reply, refusal_reply, text_conflict}
 use Rattle.xcap_machine.specs.ElementFeeds.{TellsElement}
 use Rattle.xcap_machine.specs.Feeds.{changes_since_answer, sends_notice}
 use Rattle.xcap_machine.specs.FlatLists.{sends_flat}
 use Rattle.xcap_machine.specs.NodeWrites.{CutsNode, PutsAt, PutsFragment, PutsFrom, cut_reply, is_there, plan_answer, value_conflict}
-use Rattle.xcap_machine.specs.ReadRequests.{SendsDocument, SendsFound, SendsNode}
+use Rattle.xcap_machine.specs.ReadRequests.{SendsDocument, AnswersWithFound, SendsNode}
 use Rattle.xcap_machine.specs.Requests.{ByMethod, ByTarget, ByUser, Deletes, IsAnswer, Puts, ReadsTarget as Reads, auid_of, fault_status, home_of, is_read_only, takes}
 use Rattle.xcap_machine.specs.Resources.{IsResourceOf, Resource, absent, beyond_limit, there, version_of}
 use Rattle.xcap_machine.specs.inner.Cases.{Behind, DeletesDocumentIn, DeletesNodeIn, IsAnswered, PutsElementText, PutsNodeIn, PutsText, PutsValueText, by_judgement, version_tag as tag_of}
@@ -151,7 +151,7 @@ module _ (root : List ℕ) (c : Content) (request : Request) (a : Answer) where
   write_outcome tag exists NotModified P has so is = absurd (never_same tag exists has.0 has.2)
   write_outcome tag exists Failed P has so is = only 412 refl refl is
 
-  behind : (tag : Option ℕ) (exists : Bool) (P : Type 0) → (P → K) → BehindConditions request (representation tag exists) false a P → K
+  behind : (tag : Option ℕ) (exists : Bool) (P : Type 0) → (P → K) → AfterConditions request (representation tag exists) false a P → K
   behind tag exists P so is = write_outcome tag exists is.1.0 P is.1.1 so (subst (λ (stop : Option SentReply). Behind stop a P) is.1.2 is.2)
 
   no_usage : (u : Option Usage) (P : Usage → Type 0) → ((usage : Usage) → P usage → K) → IfStored u request a P → K
@@ -171,17 +171,17 @@ module _ (root : List ℕ) (c : Content) (request : Request) (a : Answer) where
     number note is None h = tt
     number note is (Some t) h = h ∙ is
 
-    by_store : (change : Change) (made : Result (Note × Content) StoreRefusal) → changing c id change ≡ made → a ≡ told_by_store id request.closes reply made → K
+    by_store : (change : Change) (made : Result (Note × Content) StoreRefusal) → change_result c id change ≡ made → a ≡ told_by_store id request.closes reply made → K
     by_store change (Err refusal) e is = store_refuses refusal is
     by_store change (Ok (note, next)) e is =
         let held = document_in stored_name c.documents id in
-        let told : note ≡ note_for c id change held = answered_note (against c id change held (act_of change)) (note_for c id change held) note (content_after c id change) next e in
+        let told : note ≡ note_for c id change held = answered_note (refusal_of c id change held (act_of change)) (note_for c id change held) note (content_after c id change) next e in
         let next_is : note.next ≡ c.next = ap (λ (n : Note). n.next) told ∙ note_number c id change held in
         let made : Made = (id, note) in
         writes (fields note) [] made (frames note) (number note next_is (fields note).tag (says note)) (other note) (is ∙ ap (λ (r : SentReply). let x : Answer = record { reply = r; made = Some made } in x) (made_as note))
 
     by_change : (change : Change) → a ≡ change_answer c id change request.closes reply → K
-    by_change change is = by_store change (changing c id change) refl (is ∙ as_the_store c id change request.closes reply)
+    by_change change is = by_store change (change_result c id change) refl (is ∙ as_the_store c id change request.closes reply)
 
     by_plan : (plan : Result Change EditRefusal) → a ≡ plan_answer c id request.closes reply plan → K
     by_plan (Err plans.NotFound) is = only 404 refl refl is
@@ -212,7 +212,7 @@ module _ (root : List ℕ) (c : Content) (request : Request) (a : Answer) where
     read_outcome tag NotModified media text has shown is = unmodified tag is shown has
     read_outcome tag Failed media text has shown is = only 412 refl refl is
 
-    found_so : (text : Option (List ℕ)) (tag : ℕ) (media : MediaType) → Shown root c request tag → SendsFound text tag media (read_by method request) a → K
+    found_so : (text : Option (List ℕ)) (tag : ℕ) (media : MediaType) → Shown root c request tag → AnswersWithFound text tag media (read_by method request) a → K
     found_so None tag media shown is = only 404 refl refl is
     found_so (Some text) tag media shown is =
         let Last : Type 0 = a ≡ unchanged (for_method method (found (Some tag) media text request.closes)) in
@@ -352,7 +352,7 @@ module _ (root : List ℕ) (c : Content) (request : Request) (a : Answer) where
     node_deleted_so usage selector None is = only 404 refl refl is
     node_deleted_so usage selector (Some (t, tag)) is =
         let Last : Type 0 = CutsNode c (write_of id usage selector request) t a in
-        either (is_there t selector) (BehindConditions request (representation (Some tag) true) false a Last) (a ≡ unchanged (plain 404 request.closes))
+        either (is_there t selector) (AfterConditions request (representation (Some tag) true) false a Last) (a ≡ unchanged (plain 404 request.closes))
         (λ _. behind (Some tag) true Last (cut_so usage selector t)) (λ _. only 404 refl refl) is
 
   -- ---- all in order

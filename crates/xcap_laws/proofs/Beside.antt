@@ -19,12 +19,12 @@ use Rattle.request_checks.specs.declared.method.Method.{Method}
 use Rattle.store_core.specs.Contents.{Represents, StoredDocument, StoreContents as Content}
 use Rattle.store_core.specs.DocumentChanges.{Act, Makes, Edits, Removes, act_of, after_act, content_after, document_in, document_name, held_after, stored_name, without_document}
 use Rattle.store_core.specs.Queries.{Asks, AsksAct, MayBeFor}
-use Rattle.store_core.specs.State.{Document, State, created, renewed}
+use Rattle.store_core.specs.State.{Document, State, created, document_after}
 use Rattle.store_core.specs.ValidStates.{IsValidState}
 use Rattle.store_core.proofs.HeldAfter.{by_act, edited_there, removed_there}
 use Rattle.store_core.proofs.SoundHeld.{AllSound, all_sound}
 use Rattle.xcap_machine.specs.Answers.{Answer, Made}
-use Rattle.xcap_machine.specs.Machine.{Does, Step, answer_as, told_as}
+use Rattle.xcap_machine.specs.Machine.{Does, Step, answer_as, made_from}
 use Rattle.xcap_machine.proofs.Steps.{made_change}
 use Rattle.xcap_machine.proofs.Ways.{Way, changes, stays, way_of}
 
@@ -60,7 +60,7 @@ module _ (id : DocId) where
 
   others_after : (m : State) (change : Change) (act : Act) → others (after_act m id change act).documents ≡ others m.documents
   others_after m change (Makes root) = others_added m.documents (created id m.next root) (id_self id)
-  others_after m change Edits = others_edited (λ d. renewed m.next d (note_of d.now.tag m.next d.now.tree change)) (λ d. refl) m.documents
+  others_after m change Edits = others_edited (λ d. document_after m.next d (note_of d.now.tag m.next d.now.tree change)) (λ d. refl) m.documents
   others_after m change Removes = others_again m.documents
 
 pub other_documents_stay : (root : List ℕ) (m next : State) (request : Request) (reply : SentReply) (e : Edit) → Step root m request reply next (Some e)
@@ -85,9 +85,9 @@ module _ (c : Content) (id : DocId) (change : Change) (before after : StoredDocu
 
 module _ (root : List ℕ) (c : Content) (request : Request) (reply : SentReply) (e : Edit) where
   asks_by : (method : Method) → Way method request.closes c (answer_as reply (Some e)) → AllSound c → Asks c e.doc e.note.change
-  asks_by method (stays same tells closes is) all = let z : Some (told_as e) ≡ None = ap (λ (a : Answer). a.made) is in cc
+  asks_by method (stays same tells closes is) all = let z : Some (made_from e) ≡ None = ap (λ (a : Answer). a.made) is in cc
   asks_by method (changes same tells closes id change note next asks made is) all =
-      let so : told_as e ≡ (id, note) = same_Some (told_as e) (id, note) (ap (λ (a : Answer). a.made) is) in
+      let so : made_from e ≡ (id, note) = same_Some (made_from e) (id, note) (ap (λ (a : Answer). a.made) is) in
       let of_change : e.note.change ≡ change = ap (λ (x : Made). x.1.change) so ∙ made_change c id change note next made in
       let of_document : e.doc ≡ id = ap (λ (x : Made). x.0) so in
       subst (λ (d : DocId). Asks c d e.note.change) (sym of_document) (subst (λ (x : Change). Asks c id x) (sym of_change) (asks all))

@@ -36,7 +36,7 @@ use Rattle.request_checks.specs.declared.method.Method.TheVariants.{Get, Head, P
 use Rattle.request_checks.specs.declared.verdicts.Verdict.TheVariants.{Go, Same, Failed}
 use Rattle.store_core.proofs.SoundHeld.{AllSound}
 use Rattle.store_core.specs.Contents.{StoredDocument, StoreContents as Content}
-use Rattle.store_core.specs.DocumentChanges.{Act, Makes, Edits, Removes, act_of, against, against_number, against_tree, answered, changing, content_after, document_in, note_for, only_if, stored_name}
+use Rattle.store_core.specs.DocumentChanges.{Act, Makes, Edits, Removes, act_of, refusal_of, refusal_of_number, refusal_of_tree, refusal_or, change_result, content_after, document_in, note_for, only_if, stored_name}
 use Rattle.store_core.specs.Queries.{Asks}
 use Rattle.store_core.specs.declared.refusal.StoreRefusal.{StoreRefusal}
 use Rattle.store_core.specs.declared.refusal.StoreRefusal.TheVariants.{NoNumber}
@@ -45,10 +45,10 @@ use Rattle.xcap_machine.proofs.AcceptedRequests.{NodePut, accepted, by_target, d
 use Rattle.xcap_machine.proofs.ChangeAnswers.{as_the_store, told_by_store}
 use Rattle.xcap_machine.proofs.Steps.{made_change}
 use Rattle.xcap_machine.proofs.Ways.{Way, changes, stays, way_of}
-use Rattle.xcap_machine.specs.Answers.{Answer, BehindConditions, Made, unchanged}
+use Rattle.xcap_machine.specs.Answers.{Answer, AfterConditions, Made, unchanged}
 use Rattle.xcap_machine.specs.DocumentWrites.{PutsBody, PutsDocument, change_answer, deleted_reply, put_answer, put_change, put_reply}
 use Rattle.xcap_machine.specs.Laws.{tells_change}
-use Rattle.xcap_machine.specs.Machine.{Does, answer_as, told_as}
+use Rattle.xcap_machine.specs.Machine.{Does, answer_as, made_from}
 use Rattle.xcap_machine.specs.NodeWrites.{CutsNode, PutsFragment, PutsFrom, cut_reply, is_there}
 use Rattle.xcap_machine.specs.Requests.{Deletes, Puts}
 use Rattle.xcap_machine.specs.Resources.{version_of}
@@ -63,26 +63,26 @@ use Rattle.xml_tree.specs.Tree.{Tree}
 -- the change of the edit may be asked for, and there is no reason against it
 pub record ChangeMade (c : Content) (e : Edit) : Type 0 where
   pub asked : AllSound c → Asks c e.doc e.note.change
-  pub unrefused : against c e.doc e.note.change (document_in stored_name c.documents e.doc) (act_of e.note.change) ≡ None
+  pub unrefused : refusal_of c e.doc e.note.change (document_in stored_name c.documents e.doc) (act_of e.note.change) ≡ None
 
-answered_free : (refusal : Option StoreRefusal) (note : Note) (c : Content) (x : Note × Content) → answered refusal note c ≡ Ok x → refusal ≡ None
+answered_free : (refusal : Option StoreRefusal) (note : Note) (c : Content) (x : Note × Content) → refusal_or refusal note c ≡ Ok x → refusal ≡ None
 answered_free None note c x h = refl
 answered_free (Some refusal) note c x h = let z : ◌≡◌ {A = Result (Note × Content) StoreRefusal} (Err refusal) (Ok x) = h in cc
 
-made_by : (method : Method) (closes : Bool) (c : Content) (a : Answer) (e : Edit) → a.made ≡ Some (told_as e) → Way method closes c a → ChangeMade c e
-made_by method closes c a e told (stays reply tells same is) = absurd (stopped_never a reply (told_as e) told is)
+made_by : (method : Method) (closes : Bool) (c : Content) (a : Answer) (e : Edit) → a.made ≡ Some (made_from e) → Way method closes c a → ChangeMade c e
+made_by method closes c a e told (stays reply tells same is) = absurd (stopped_never a reply (made_from e) told is)
 made_by method closes c a e told (changes reply tells same id change note next asks made is) =
-    let so : ◌≡◌ {A = Option Made} (Some (told_as e)) (Some (id, note)) = sym told ∙ ap (λ (x : Answer). x.made) is in
-    let both : ◌≡◌ {A = Made} (told_as e) (id, note) = cc in
+    let so : ◌≡◌ {A = Option Made} (Some (made_from e)) (Some (id, note)) = sym told ∙ ap (λ (x : Answer). x.made) is in
+    let both : ◌≡◌ {A = Made} (made_from e) (id, note) = cc in
     let doc : e.doc ≡ id = ap (λ (x : Made). x.0) both in
     let is_note : e.note ≡ note = ap (λ (x : Made). x.1) both in
     let same_change : e.note.change ≡ change = ap (λ (n : Note). n.change) is_note ∙ made_change c id change note next made in
-    let free : against c id change (document_in stored_name c.documents id) (act_of change) ≡ None =
-    answered_free (against c id change (document_in stored_name c.documents id) (act_of change)) (note_for c id change (document_in stored_name c.documents id)) (content_after c id change) (note, next) made in
+    let free : refusal_of c id change (document_in stored_name c.documents id) (act_of change) ≡ None =
+    answered_free (refusal_of c id change (document_in stored_name c.documents id) (act_of change)) (note_for c id change (document_in stored_name c.documents id)) (content_after c id change) (note, next) made in
     record {
       asked = subst (λ (x : DocId). AllSound c → Asks c x e.note.change) (sym doc) (subst (λ (x : Change). AllSound c → Asks c id x) (sym same_change) asks);
-      unrefused = subst (λ (x : DocId). against c x e.note.change (document_in stored_name c.documents x) (act_of e.note.change) ≡ None) (sym doc)
-          (subst (λ (x : Change). against c id x (document_in stored_name c.documents id) (act_of x) ≡ None) (sym same_change) free);
+      unrefused = subst (λ (x : DocId). refusal_of c x e.note.change (document_in stored_name c.documents x) (act_of e.note.change) ≡ None) (sym doc)
+          (subst (λ (x : Change). refusal_of c id x (document_in stored_name c.documents id) (act_of x) ≡ None) (sym same_change) free);
     }
 
 pub change_made : (root : List ℕ) (c next : Content) (request : Request) (reply : SentReply) (e : Edit) → Does root c request reply next (Some e) → ChangeMade c e
@@ -92,12 +92,12 @@ or_none : {A : Type 0} (a b : Option A) → option_or a b ≡ None → b ≡ Non
 or_none None b h = h
 or_none (Some x) b h = cc
 
-number_free : (c : Content) (id : DocId) (change : Change) (h : StoredDocument) (act : Act) → against c id change (Some h) act ≡ None → against_number c ≡ None
-number_free c id change h (Makes root) free = or_none (against_tree c id true root) (against_number c) free
-number_free c id change h Edits free = or_none (against_tree c id false (edited h.tree change)) (against_number c) free
+number_free : (c : Content) (id : DocId) (change : Change) (h : StoredDocument) (act : Act) → refusal_of c id change (Some h) act ≡ None → refusal_of_number c ≡ None
+number_free c id change h (Makes root) free = or_none (refusal_of_tree c id true root) (refusal_of_number c) free
+number_free c id change h Edits free = or_none (refusal_of_tree c id false (edited h.tree change)) (refusal_of_number c) free
 number_free c id change h Removes free = free
 
-fits : (c : Content) → against_number c ≡ None → c.next < 18446744073709551616
+fits : (c : Content) → refusal_of_number c ≡ None → c.next < 18446744073709551616
 fits c h = by (nat_le 18446744073709551616 c.next) refl h
   where
     by : (b : Bool) → nat_le 18446744073709551616 c.next ≡ b → only_if b NoNumber ≡ None → c.next < 18446744073709551616
@@ -106,11 +106,11 @@ fits c h = by (nat_le 18446744073709551616 c.next) refl h
 
 pub low_number : (c : Content) (e : Edit) (h : StoredDocument) → ChangeMade c e → document_in stored_name c.documents e.doc ≡ Some h → c.next < 18446744073709551616
 low_number c e h made there =
-    fits c (number_free c e.doc e.note.change h (act_of e.note.change) (subst (λ (o : Option StoredDocument). against c e.doc e.note.change o (act_of e.note.change) ≡ None) there made.unrefused))
+    fits c (number_free c e.doc e.note.change h (act_of e.note.change) (subst (λ (o : Option StoredDocument). refusal_of c e.doc e.note.change o (act_of e.note.change) ≡ None) there made.unrefused))
 
 -- ---- the conditions
 
-behind_free : (request : Request) (tag : Option ℕ) (exists : Bool) (P : Type 0) (a : Answer) (made : Made) → a.made ≡ Some made → BehindConditions request (representation tag exists) false a P → IsStop request tag exists false None
+behind_free : (request : Request) (tag : Option ℕ) (exists : Bool) (P : Type 0) (a : Answer) (made : Made) → a.made ≡ Some made → AfterConditions request (representation tag exists) false a P → IsStop request tag exists false None
 behind_free request tag exists P a made is h = by h.0 h.1 h.2
   where
     by : (stop : Option SentReply) → IsStop request tag exists false stop → Behind stop a P → IsStop request tag exists false None
@@ -123,7 +123,7 @@ either_so false P a reply made is h = absurd (stopped_never a reply made is h)
 
 -- the reply is made from the record of the change
 reply_made : (c : Content) (id : DocId) (change : Change) (closes : Bool) (reply : Note → SentReply) (a : Answer) (made : Made) → a.made ≡ Some made → a ≡ change_answer c id change closes reply → (note : Note) × (a.reply ≡ reply note)
-reply_made c id change closes reply a made is same = by (changing c id change) (same ∙ as_the_store c id change closes reply)
+reply_made c id change closes reply a made is same = by (change_result c id change) (same ∙ as_the_store c id change closes reply)
   where
     by : (r : Result (Note × Content) StoreRefusal) → a ≡ told_by_store id closes reply r → (note : Note) × (a.reply ≡ reply note)
     by (Err refusal) h = absurd (stopped_never a _ made is h)
@@ -139,25 +139,25 @@ pub record Passes (c : Content) (request : Request) (a : Answer) (e : Edit) : Ty
   pub is_new : exists ≡ false → a.reply.status ≡ 201
   pub free : IsStop request (tag_of (version_of c e.doc)) exists false None
 
-module _ (root : List ℕ) (c : Content) (request : Request) (a : Answer) (e : Edit) (told : a.made ≡ Some (told_as e)) where
+module _ (root : List ℕ) (c : Content) (request : Request) (a : Answer) (e : Edit) (told : a.made ≡ Some (made_from e)) where
   passes_of : (id : DocId) (exists : Bool) → (exists ≡ false → a.reply.status ≡ 201) → e.doc ≡ id → IsStop request (tag_of (version_of c id)) exists false None → Passes c request a e
   passes_of id exists is_new doc free = record { exists = exists; is_new = is_new; free = subst (λ (x : DocId). IsStop request (tag_of (version_of c x)) exists false None) (sym doc) free }
 
   document_put_passes : (id : DocId) (usage : Usage) → PutsDocument c id usage request a → Passes c request a e
   document_put_passes id usage h =
-      let put = document_put c id usage request a (told_as e) told h in
+      let put = document_put c id usage request a (made_from e) told h in
       let exists = is_some (version_of c id) in
-      let made = store_made c id (put_change exists put.tree) request.closes (put_reply exists request.closes) a (told_as e) told put.answers in
-      let replied = reply_made c id (put_change exists put.tree) request.closes (put_reply exists request.closes) a (told_as e) told put.answers in
-      passes_of id exists (λ none. ap (λ (r : SentReply). r.status) replied.1 ∙ created exists request.closes replied.0 none) made.of_document (behind_free request (tag_of (version_of c id)) exists (PutsBody usage (document_media id.auid) request (put_answer c id request.closes) a) a (told_as e) told h)
+      let made = store_made c id (put_change exists put.tree) request.closes (put_reply exists request.closes) a (made_from e) told put.answers in
+      let replied = reply_made c id (put_change exists put.tree) request.closes (put_reply exists request.closes) a (made_from e) told put.answers in
+      passes_of id exists (λ none. ap (λ (r : SentReply). r.status) replied.1 ∙ created exists request.closes replied.0 none) made.of_document (behind_free request (tag_of (version_of c id)) exists (PutsBody usage (document_media id.auid) request (put_answer c id request.closes) a) a (made_from e) told h)
 
   node_put_doc : (id : DocId) (usage : Usage) (selector : Selector) (t : Tree) → NodePut c id usage selector t request a → e.doc ≡ id
-  node_put_doc id usage selector t (of_element spot ends_in place x spelled change plan answers) = (store_made c id change request.closes (put_reply (is_there t selector) request.closes) a (told_as e) told answers).of_document
-  node_put_doc id usage selector t (of_value p uri local value ends_in place spelled change plan answers) = (store_made c id change request.closes (put_reply (is_there t selector) request.closes) a (told_as e) told answers).of_document
+  node_put_doc id usage selector t (of_element spot ends_in place x spelled change plan answers) = (store_made c id change request.closes (put_reply (is_there t selector) request.closes) a (made_from e) told answers).of_document
+  node_put_doc id usage selector t (of_value p uri local value ends_in place spelled change plan answers) = (store_made c id change request.closes (put_reply (is_there t selector) request.closes) a (made_from e) told answers).of_document
 
   node_put_new : (id : DocId) (usage : Usage) (selector : Selector) (t : Tree) (change : Change) → a ≡ change_answer c id change request.closes (put_reply (is_there t selector) request.closes) → is_there t selector ≡ false → a.reply.status ≡ 201
   node_put_new id usage selector t change answers none =
-      let replied = reply_made c id change request.closes (put_reply (is_there t selector) request.closes) a (told_as e) told answers in
+      let replied = reply_made c id change request.closes (put_reply (is_there t selector) request.closes) a (made_from e) told answers in
       ap (λ (r : SentReply). r.status) replied.1 ∙ created (is_there t selector) request.closes replied.0 none
 
   node_new : (id : DocId) (usage : Usage) (selector : Selector) (t : Tree) → NodePut c id usage selector t request a → is_there t selector ≡ false → a.reply.status ≡ 201
@@ -165,13 +165,13 @@ module _ (root : List ℕ) (c : Content) (request : Request) (a : Answer) (e : E
   node_new id usage selector t (of_value p uri local value ends_in place spelled change plan answers) = node_put_new id usage selector t change answers
 
   from_free : (id : DocId) (usage : Usage) (selector : Selector) (t : Tree) (tag : ℕ) (spot : Result Spot NoParent) → PutsFrom (server_of root c) (write_of id usage selector request) (t, tag) spot a → IsStop request (Some tag) (is_there t selector) false None
-  from_free id usage selector t tag (Err none) h = absurd (stopped_never a _ (told_as e) told h)
-  from_free id usage selector t tag (Ok spot) h = behind_free request (Some tag) (is_there t selector) (PutsFragment c (write_of id usage selector request) t spot a) a (told_as e) told h
+  from_free id usage selector t tag (Err none) h = absurd (stopped_never a _ (made_from e) told h)
+  from_free id usage selector t tag (Ok spot) h = behind_free request (Some tag) (is_there t selector) (PutsFragment c (write_of id usage selector request) t spot a) a (made_from e) told h
 
   node_put_passes : (id : DocId) (usage : Usage) (selector : Selector) (version : Option (Tree × ℕ)) → version_of c id ≡ version → PutsNodeIn (server_of root c) (write_of id usage selector request) version a → Passes c request a e
-  node_put_passes id usage selector None is h = absurd (stopped_never a _ (told_as e) told h)
+  node_put_passes id usage selector None is h = absurd (stopped_never a _ (made_from e) told h)
   node_put_passes id usage selector (Some (t, tag)) is h =
-      let held = node_put root c id usage selector (Some (t, tag)) request a (told_as e) told h in
+      let held = node_put root c id usage selector (Some (t, tag)) request a (made_from e) told h in
       let some : ◌≡◌ {A = Option (Tree × ℕ)} (Some (t, tag)) (Some (held.tree, held.tag)) = held.held in
       let both : ◌≡◌ {A = Tree × ℕ} (t, tag) (held.tree, held.tag) = cc in
       let put : NodePut c id usage selector t request a = subst (λ (x : Tree). NodePut c id usage selector x request a) (sym (ap (λ (x : Tree × ℕ). x.0) both)) held.put.put in
@@ -181,32 +181,32 @@ module _ (root : List ℕ) (c : Content) (request : Request) (a : Answer) (e : E
   put_passes : (target : Target) (usage : Usage) → Puts (server_of root c) target usage request a → Passes c request a e
   put_passes (Document id) usage h = document_put_passes id usage h
   put_passes (Node id selector) usage h = node_put_passes id usage selector (version_of c id) refl h
-  put_passes (Deep auid home) usage h = absurd (stopped_never a _ (told_as e) told h)
+  put_passes (Deep auid home) usage h = absurd (stopped_never a _ (made_from e) told h)
   put_passes (Feed mode tag id) usage h = absurd h
   put_passes (ElementFeed tag id selector raw) usage h = absurd h
   put_passes (Flat id service) usage h = absurd h
 
   document_deleted_passes : (id : DocId) (version : Option (Tree × ℕ)) → version_of c id ≡ version → DeletesDocumentIn c id version request a → Passes c request a e
-  document_deleted_passes id None is h = absurd (stopped_never a _ (told_as e) told h)
+  document_deleted_passes id None is h = absurd (stopped_never a _ (made_from e) told h)
   document_deleted_passes id (Some (t, tag)) is h =
-      let deleted = document_deleted c id (Some (t, tag)) request a (told_as e) told h in
-      let made = store_made c id RemoveDocument request.closes (deleted_reply request.closes) a (told_as e) told deleted.answers in
-      let free = behind_free request (Some tag) true (a ≡ change_answer c id RemoveDocument request.closes (deleted_reply request.closes)) a (told_as e) told h in
+      let deleted = document_deleted c id (Some (t, tag)) request a (made_from e) told h in
+      let made = store_made c id RemoveDocument request.closes (deleted_reply request.closes) a (made_from e) told deleted.answers in
+      let free = behind_free request (Some tag) true (a ≡ change_answer c id RemoveDocument request.closes (deleted_reply request.closes)) a (made_from e) told h in
       passes_of id true (λ none. let z : true ≡ false = none in absurd cc) made.of_document (subst (λ (v : Option (Tree × ℕ)). IsStop request (tag_of v) true false None) (sym is) free)
 
   node_deleted_passes : (id : DocId) (usage : Usage) (selector : Selector) (version : Option (Tree × ℕ)) → version_of c id ≡ version → DeletesNodeIn c (write_of id usage selector request) version a → Passes c request a e
-  node_deleted_passes id usage selector None is h = absurd (stopped_never a _ (told_as e) told h)
+  node_deleted_passes id usage selector None is h = absurd (stopped_never a _ (made_from e) told h)
   node_deleted_passes id usage selector (Some (t, tag)) is h =
-      let deleted = node_deleted c id usage selector (Some (t, tag)) request a (told_as e) told h in
-      let made = store_made c id deleted.change request.closes (cut_reply request.closes) a (told_as e) told deleted.answers in
+      let deleted = node_deleted c id usage selector (Some (t, tag)) request a (made_from e) told h in
+      let made = store_made c id deleted.change request.closes (cut_reply request.closes) a (made_from e) told deleted.answers in
       let Last : Type 0 = CutsNode c (write_of id usage selector request) t a in
-      let there = either_so (is_there t selector) (BehindConditions request (representation (Some tag) true) false a Last) a (plain 404 request.closes) (told_as e) told h in
-      passes_of id true (λ none. let z : true ≡ false = none in absurd cc) made.of_document (subst (λ (v : Option (Tree × ℕ)). IsStop request (tag_of v) true false None) (sym is) (behind_free request (Some tag) true Last a (told_as e) told there))
+      let there = either_so (is_there t selector) (AfterConditions request (representation (Some tag) true) false a Last) a (plain 404 request.closes) (made_from e) told h in
+      passes_of id true (λ none. let z : true ≡ false = none in absurd cc) made.of_document (subst (λ (v : Option (Tree × ℕ)). IsStop request (tag_of v) true false None) (sym is) (behind_free request (Some tag) true Last a (made_from e) told there))
 
   delete_passes : (target : Target) (usage : Usage) → Deletes c target usage request a → Passes c request a e
   delete_passes (Document id) usage h = document_deleted_passes id (version_of c id) refl h
   delete_passes (Node id selector) usage h = node_deleted_passes id usage selector (version_of c id) refl h
-  delete_passes (Deep auid home) usage h = absurd (stopped_never a _ (told_as e) told h)
+  delete_passes (Deep auid home) usage h = absurd (stopped_never a _ (made_from e) told h)
   delete_passes (Feed mode tag id) usage h = absurd h
   delete_passes (ElementFeed tag id selector raw) usage h = absurd h
   delete_passes (Flat id service) usage h = absurd h
@@ -220,7 +220,7 @@ pub passes : (root : List ℕ) (c next : Content) (request : Request) (reply : S
 passes root c next request reply e does = by (method_of request.method) refl
   where
     never : (method : Method) → ((status : ℕ) → tells_change method status ≡ false) → method_of request.method ≡ method → ⊥
-    never method quiet asks = quiet_never method request.closes c (answer_as reply (Some e)) (told_as e) quiet refl (subst (λ (m : Method). Way m request.closes c (answer_as reply (Some e))) asks (way_of root c request (answer_as reply (Some e)) does.answers))
+    never method quiet asks = quiet_never method request.closes c (answer_as reply (Some e)) (made_from e) quiet refl (subst (λ (m : Method). Way m request.closes c (answer_as reply (Some e))) asks (way_of root c request (answer_as reply (Some e)) does.answers))
 
     by : (method : Method) → method_of request.method ≡ method → Passes c request (answer_as reply (Some e)) e
     by Get asks = absurd (never Get (λ _. refl) asks)
@@ -228,11 +228,11 @@ passes root c next request reply e does = by (method_of request.method) refl
     by Other asks = absurd (never Other (λ _. refl) asks)
     by Put asks =
         let t = accepted root c next request reply e Put does asks in
-        let enters = put_enters root c request t.0 (answer_as reply (Some e)) (told_as e) refl (by_target root c request (answer_as reply (Some e)) t.0 Put t.1.means asks does.answers) in
+        let enters = put_enters root c request t.0 (answer_as reply (Some e)) (made_from e) refl (by_target root c request (answer_as reply (Some e)) t.0 Put t.1.means asks does.answers) in
         put_passes root c request (answer_as reply (Some e)) e refl t.0 enters.usage enters.does
     by Delete asks =
         let t = accepted root c next request reply e Delete does asks in
-        let enters = delete_enters root c request t.0 (answer_as reply (Some e)) (told_as e) refl (by_target root c request (answer_as reply (Some e)) t.0 Delete t.1.means asks does.answers) in
+        let enters = delete_enters root c request t.0 (answer_as reply (Some e)) (made_from e) refl (by_target root c request (answer_as reply (Some e)) t.0 Delete t.1.means asks does.answers) in
         delete_passes root c request (answer_as reply (Some e)) e refl t.0 enters.usage enters.does
 
 -- ---- If-Match

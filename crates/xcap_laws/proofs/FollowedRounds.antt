@@ -1,6 +1,7 @@
 -- A round whose last connection the machine served leaves the follower with the present document.
-use Rattle.std.proofs.Common.{◌≡◌, ◌⊎◌, inl, inr, ℕ, ◌≤◌, ◌<◌, zero, suc, Bool, true, false, List, [], ◌∷◌, ◌++◌, length, Option, None, Some, Result, Ok, Err, codes, decimal, slice_get, refl, sym, ap, ◌∙◌, subst, arith, append-nil, length-append}
+use Rattle.std.proofs.Common.{◌≡◌, ◌⊎◌, inl, inr, ℕ, ◌≤◌, ◌<◌, zero, suc, Bool, true, false, List, [], ◌∷◌, ◌++◌, length, Option, None, Some, option_map, Result, Ok, Err, codes, decimal, slice_get, refl, sym, ap, ◌∙◌, subst, arith, append-nil, length-append}
 use Rattle.std.specs.List.{AllByRecursion}
+use Rattle.std.proofs.lemmas.Bool.{cases_lt}
 use Rattle.std.specs.Str.{chars}
 use Rattle.xml_names.specs.Limits.{u64_max}
 use Rattle.xml_tree.specs.Tree.{Tree}
@@ -11,14 +12,16 @@ use Rattle.doc_names.specs.declared.doc_id.Home.{Home}
 use Rattle.doc_names.specs.declared.doc_id.Home.TheVariants.{User}
 use Rattle.http_wire.specs.declared.request.Request.{Request}
 use Rattle.request_checks.specs.Methods.{method_of}
-use Rattle.request_checks.specs.declared.method.Method.TheVariants.{Get}
+use Rattle.reply_text.specs.ReplyHeads.{HeadFields, SentReply, bytes_of, sent}
+use Rattle.request_checks.specs.declared.method.Method.TheVariants.{Get, Head}
+use Rattle.store_core.specs.Contents.{stock_of}
 use Rattle.store_core.specs.State.{Document, State, Version, versions}
 use Rattle.store_core.specs.ValidStates.{IsKept, IsUserDocument, IsValidState}
 use Rattle.patch_rules.specs.Replay.{ReplicaContents}
 use Rattle.patch_apply.specs.Views.{stored_in}
 use Rattle.patch_apply.specs.declared.replica.ReplicaVersion.{ReplicaVersion}
 use Rattle.xcap_io.specs.Causes.{StreamState}
-use Rattle.xcap_io.specs.Connections.{asked}
+use Rattle.xcap_io.specs.Connections.{peer_traffic}
 use Rattle.xcap_io.specs.Histories.{Traffic}
 use Rattle.xcap_uri.specs.Roots.{IsRoot, authority_of, path_of, slash}
 use Rattle.xcap_uri.specs.Targets.{TargetResult}
@@ -27,13 +30,14 @@ use Rattle.xcap_uri.specs.declared.target.Mode.{Mode}
 use Rattle.xcap_uri.specs.declared.target.Mode.TheVariants.{Aggregate}
 use Rattle.xcap_uri.specs.declared.target.Target.TheVariants.{Feed}
 use Rattle.xcap_uri.specs.declared.target.Target.TheVariants.{Document as a_document}
-use Rattle.xcap_client.specs.Asks.{getting}
+use Rattle.xcap_client.specs.Asks.{get_ask}
 use Rattle.xcap_client.specs.Calls.{Calls, Judges, JudgesAll}
 use Rattle.xcap_client.specs.Connections.{ConnectsOnce, none_began, broke_off, responded}
-use Rattle.xcap_client.specs.Exchanges.{answer_to}
+use Rattle.xcap_client.specs.Exchanges.{answer_to, exchange_fault}
 use Rattle.xcap_client.specs.ParsedRequests.{meant}
-use Rattle.xcap_client.specs.Responses.{DecidesNothing, IsDecided, SaysResponse}
+use Rattle.xcap_client.specs.Responses.{DecidesNothing, IsDecided, IsResponseOf}
 use Rattle.xcap_client.specs.Stops.{ByCause}
+use Rattle.xcap_client.specs.declared.body_length.TheConstants.{MAX_RESPONSE_BODY_BYTES}
 use Rattle.xcap_client.specs.declared.fault.ClientFault.{ClientFault}
 use Rattle.xcap_client.specs.declared.fault.ClientFault.TheVariants as clients
 use Rattle.xcap_client.specs.declared.request.Ask.{Ask}
@@ -51,12 +55,17 @@ use Rattle.client_follower.specs.States.{Following}
 use Rattle.client_follower.specs.declared.fault.FollowerFault.{FollowerFault}
 use Rattle.client_follower.specs.declared.feed_rounds.Round.{Round}
 use Rattle.client_theorem.specs.FeedRequests.{AsksForFeed, HasFeed, feed_address, feed_request}
+use Rattle.xcap_machine.specs.Answers.{unchanged}
+use Rattle.xcap_machine.specs.Machine.{ValidStep}
 use Rattle.xcap_machine.specs.Subscribers.{subscribed}
 use Rattle.xcap_machine.specs.Versions.{ComesTo, HasVersion}
 use Rattle.xcap_machine.proofs.OneVersion.{found_all}
 use Rattle.xcap_laws.specs.Followers.{HoldsVersion, IsAnsweredIn, IsPresentIn, IsServedIn}
 use Rattle.xcap_laws.proofs.FollowedAddresses.{document_asked, feed_asked}
-use Rattle.xcap_laws.proofs.Followers.{document_leads, emptied, feed_leads, no_outcome}
+use Rattle.xcap_laws.specs.ReadReplies.{IsWhole, answer as of_the_machine, response_to}
+use Rattle.xcap_laws.proofs.Followers.{IsReceivedAs, document_leads, emptied, feed_leads, no_outcome}
+use Rattle.xcap_laws.proofs.ReplyKinds.{framed_reply, is_refused}
+use Rattle.xcap_laws.proofs.ReplyReadings.{IsFramedBy, says_back}
 
 -- ---- the last connection
 
@@ -66,48 +75,80 @@ last_alike [] (b ∷ ys) x y e = absurd (omega (arith, ap length e, length-appen
 last_alike (a ∷ xs) [] x y e = absurd (omega (arith, ap length e, length-append xs (x ∷ [])))
 last_alike (a ∷ xs) (b ∷ ys) x y e = let tail : xs ++ x ∷ [] ≡ ys ++ y ∷ [] = cc in last_alike xs ys x y tail
 
-said : (given : List ℕ) (ended : Bool) (answer : Result Response ResponseFault) → IsDecided given ended answer → SaysResponse given answer
-said given ended answer (inl always) = subst (λ (b : List ℕ). SaysResponse b answer) (append-nil given) (always [])
+said : (given : List ℕ) (ended : Bool) (answer : Result Response ResponseFault) → IsDecided given ended answer → IsResponseOf given answer
+said given ended answer (inl always) = subst (λ (b : List ℕ). IsResponseOf b answer) (append-nil given) (always [])
 said given ended answer (inr here) = here.1
 
-no_answer : (fault : ResponseFault) (response : Response) (passed : Traffic) → SaysResponse passed.given (Ok response) → IsDecided passed.given passed.ended (Err fault) → ⊥
-no_answer fault response passed says decided =
-    let never : ◌≡◌ {A = Result Response ResponseFault} (Err fault) (Ok response) = one_meaning passed.given (Err fault) (Ok response) (said passed.given passed.ended (Err fault) decided) says in
-    cc
+-- a client that read a response on a connection whose bytes begin with the machine's reply received that reply
+module _ (root : List ℕ) (n : State) (ask : Ask) (get : method_of (meant root ask).method ≡ Get) (given : List ℕ) (a : IsAnsweredIn root n ask given) (r : Response) (says : IsResponseOf given (Ok r)) where
+  whole : IsWhole a.reply
+  whole = of_the_machine root (stock_of n) (meant root ask) (unchanged a.reply) a.answers.1.answers (λ head. let never : Get ≡ Head = sym get ∙ head in cc) refl
 
--- the result of a call over a connection on which a response was read
-module _ (given : Result Response ClientFault) (memory : given ≡ Err clients.NoMemory → ⊥) (peer : given ≡ Err clients.PeerFault → ⊥) (passed : Traffic) (response : Response) (says : SaysResponse passed.given (Ok response)) where
-  by_answer : (answer : Result Response ResponseFault) → ByCause answer (DecidesNothing passed.given) (IsDecided passed.given passed.ended) → JudgesAll (answer_to answer) given → Judges response given
-  by_answer (Ok r) cause judged =
-      let same : ◌≡◌ {A = Result Response ResponseFault} (Ok r) (Ok response) = one_meaning passed.given (Ok r) (Ok response) (said passed.given passed.ended (Ok r) cause) says in
-      let one : r ≡ response = cc in
-      subst (λ (x : Response). Judges x given) one judged
-  by_answer (Err faults.ReadFailed) cause judged = absurd (peer judged)
-  by_answer (Err faults.NoMemory) cause judged = absurd (memory judged)
-  by_answer (Err faults.Head) cause judged = absurd (no_answer faults.Head response passed says cause)
-  by_answer (Err faults.Coding) cause judged = absurd (no_answer faults.Coding response passed says cause)
-  by_answer (Err faults.Length) cause judged = absurd (no_answer faults.Length response passed says cause)
-  by_answer (Err (faults.TooLong k)) cause judged = absurd (no_answer (faults.TooLong k) response passed says cause)
-  by_answer (Err (faults.Short k l)) cause judged = absurd (no_answer (faults.Short k l) response passed says cause)
+  is_read : IsResponseOf (bytes_of a.reply ++ a.more) (Ok r)
+  is_read = subst (λ (b : List ℕ). IsResponseOf b (Ok r)) a.begins says
+
+  -- a body beyond the client's limit would have been refused
+  short : length a.reply.body ≤ MAX_RESPONSE_BODY_BYTES
+  short = elim (cases_lt MAX_RESPONSE_BODY_BYTES (length a.reply.body)) [
+    | inl long ↦ (let never : ◌≡◌ {A = Result Response ResponseFault} (Err (faults.TooLong (length a.reply.body))) (Ok r) = one_meaning (bytes_of a.reply ++ a.more) (Err (faults.TooLong (length a.reply.body))) (Ok r) (is_refused a.reply a.more (record { whole = whole; countable = a.countable }) long) is_read in cc)
+    | inr within ↦ within
+  ]
+
+  read_as : (fields : HeadFields) → a.reply ≡ sent fields a.reply.body → IsFramedBy fields a.reply.body → r ≡ response_to a.reply fields.tag
+  read_as fields is framed =
+      let here = subst (λ (x : SentReply). IsResponseOf (bytes_of x ++ a.more) (Ok (response_to x fields.tag))) (sym is) (says_back fields a.reply.body a.more framed short) in
+      let same : ◌≡◌ {A = Result Response ResponseFault} (Ok r) (Ok (response_to a.reply fields.tag)) = one_meaning (bytes_of a.reply ++ a.more) (Ok r) (Ok (response_to a.reply fields.tag)) is_read here in
+      cc
+
+  received : IsReceivedAs a.reply r
+  received =
+      let f = framed_reply a.reply whole in
+      let body : f.body ≡ a.reply.body = ap (λ (x : SentReply). x.body) (sym f.is_sent) in
+      let is = read_as f.fields (f.is_sent ∙ ap (sent f.fields) body) (subst (IsFramedBy f.fields) body f.framed) in
+      record {
+        status = ap (λ (x : Response). x.status) is;
+        body = ap (λ (x : Response). x.body) is;
+        tag = λ fields number sends framed tagged. ap (λ (x : Response). x.tag) (read_as fields sends framed) ∙ ap (option_map decimal) tagged;
+      }
 
 -- a call over the last connection is judged by the machine's reply
 record IsCalled (root : List ℕ) (n : State) (ask : Ask) (given : Result Response ClientFault) : Type 0 where
+  reply : SentReply
+  answers : ValidStep root n (meant root ask) reply n None
   response : Response
-  answered : IsAnsweredIn root n ask response
+  received_as : IsReceivedAs reply response
   judged : Judges response given
 
-called : (root : List ℕ) (n : State) (ask : Ask) (old new : StreamState) (given : Result Response ClientFault) (earlier : List Traffic) (last : Traffic) → Calls root ask old new given → asked new ≡ earlier ++ last ∷ []
-    → IsServedIn root n last → (given ≡ Err clients.NoMemory → ⊥) → (given ≡ Err clients.PeerFault → ⊥) → IsCalled root n ask given
-called root n ask old new given earlier last call ends served memory peer = by (connects_once root ask old new given call)
+called : (root : List ℕ) (n : State) (ask : Ask) → method_of (meant root ask).method ≡ Get → (old new : StreamState) (given : Result Response ClientFault) (earlier : List Traffic) (last : Traffic) → Calls root ask old new given → peer_traffic new ≡ earlier ++ last ∷ []
+    → IsServedIn root n last → (given ≡ Err clients.NoMemory → ⊥) → (given ≡ Err clients.PeerFault → ⊥) → ((fault : ResponseFault) → given ≡ Err (clients.BadResponse fault) → ⊥) → IsCalled root n ask given
+called root n ask get old new given earlier last call ends served memory peer broken = by (connects_once root ask old new given call)
   where
+    no_fault : (fault : ResponseFault) → given ≡ Err (exchange_fault fault) → ⊥
+    no_fault faults.ReadFailed e = peer e
+    no_fault faults.NoMemory e = memory e
+    no_fault faults.Head e = broken faults.Head e
+    no_fault faults.Coding e = broken faults.Coding e
+    no_fault faults.Length e = broken faults.Length e
+    no_fault (faults.TooLong k) e = broken (faults.TooLong k) e
+    no_fault (faults.Short k l) e = broken (faults.Short k l) e
+
+    by_answer : (passed : Traffic) → IsAnsweredIn root n ask passed.given → (answer : Result Response ResponseFault) → ByCause answer (DecidesNothing passed.given) (IsDecided passed.given passed.ended) → JudgesAll (answer_to answer) given → IsCalled root n ask given
+    by_answer passed a (Ok r) cause judged = record {
+      reply = a.reply;
+      answers = a.answers;
+      response = r;
+      received_as = received root n ask get passed.given a r (said passed.given passed.ended (Ok r) cause);
+      judged = judged;
+    }
+    by_answer passed a (Err fault) cause judged = absurd (no_fault fault judged)
+
     by : ConnectsOnce root ask old new given → IsCalled root n ask given
     by (none_began none (inl e)) = absurd (memory e)
     by (none_began none (inr e)) = absurd (peer e)
     by (broke_off passed began prefix e) = absurd (peer e)
     by (responded passed answer began taken cause judged) =
-        let same : last ≡ passed = last_alike earlier (asked old) last passed (sym ends ∙ began.behind) in
-        let here : IsServedIn root n passed = subst (λ (t : Traffic). IsServedIn root n t) same served in
-        record { response = here.response; answered = here.answered ask taken; judged = by_answer given memory peer passed here.response here.says answer cause judged }
+        let same : last ≡ passed = last_alike earlier (peer_traffic old) last passed (sym ends ∙ began.behind) in
+        by_answer passed (subst (λ (t : Traffic). IsServedIn root n t) same served ask taken) answer cause judged
 
 -- ---- tags
 
@@ -138,31 +179,31 @@ is_users doc has = subst (λ (h : Home). IsUserDocument h) (sym has.users) tt
 module _ (f f' : Following) (n : State) (is : IsRoot f.root (authority_of f.root) (path_of f.root)) (has : HasFeed f.doc) (below : TargetResult f.root (path_of f.root ++ (slash ∷ id_text f.doc)) (Ok (a_document f.doc)))
     (feeds : (number : ℕ) → tag_spelled (decimal number) ≡ Some number → TargetResult f.root (feed_address f.root Aggregate (decimal number) f.doc) (Ok (Feed Aggregate number f.doc))) (earlier : List Traffic) (last : Traffic) (served : IsServedIn f.root n last) where
   by_feed_call : (m : State) (v : Version) → IsValidState m → ComesTo f.root m n → HasVersion m f.doc v → v.tag ≤ u64_max → (old new : StreamState) (given : Result Response ClientFault) (round : Round)
-      → Calls f.root (getting f.user (feed_path (decimal v.tag) f.doc)) old new given → asked new ≡ earlier ++ last ∷ [] → TakesFeed f.doc given (subscribed v) f'.held (Ok (Some round)) → IsPresentIn n f.doc f'.held
+      → Calls f.root (get_ask f.user (feed_path (decimal v.tag) f.doc)) old new given → peer_traffic new ≡ earlier ++ last ∷ [] → TakesFeed f.doc given (subscribed v) f'.held (Ok (Some round)) → IsPresentIn n f.doc f'.held
   by_feed_call m v kept way there small old new given round call ends takes =
-      let ask = getting f.user (feed_path (decimal v.tag) f.doc) in
-      let c = called f.root n ask old new given earlier last call ends served (λ e. no_fault clients.NoMemory e) (λ e. no_fault clients.PeerFault e) in
-      feed_leads f.root is n f.doc (meant f.root ask) c.answered.reply c.answered.answers reads c.response c.answered.received m v kept way there
+      let ask = get_ask f.user (feed_path (decimal v.tag) f.doc) in
+      let c = called f.root n ask reads old new given earlier last call ends served (λ e. no_fault clients.NoMemory e) (λ e. no_fault clients.PeerFault e) (λ fault e. no_fault (clients.BadResponse fault) e) in
+      feed_leads f.root is n f.doc (meant f.root ask) c.reply c.answers reads c.response c.received_as m v kept way there
       (feed_asked f.root is v.tag f.doc (has_tag m f.doc v kept there) small f.user (feeds v.tag)) given c.judged f'.held round takes
     where
       no_fault : (fault : ClientFault) → given ≡ Err fault → ⊥
       no_fault fault e = no_outcome (is_refused_with 410 fault) (of_client fault) round (subst (λ (g : Result Response ClientFault). TakesFeed f.doc g (subscribed v) f'.held (Ok (Some round))) e takes).1
 
-  fed : (old new : StreamState) (round : Round) → HoldsVersion f.root n f.doc f.held → AsksFeed f f' old new (Ok (Some round)) → asked new ≡ earlier ++ last ∷ [] → IsPresentIn n f.doc f'.held
+  fed : (old new : StreamState) (round : Round) → HoldsVersion f.root n f.doc f.held → AsksFeed f f' old new (Ok (Some round)) → peer_traffic new ≡ earlier ++ last ∷ [] → IsPresentIn n f.doc f'.held
   fed old new round holds (holds_nothing none same stays e) ends = let never : ⊥ = cc in absurd never
   fed old new round (inl none) (asks tag tree given held call takes stays) ends = let never : ◌≡◌ {A = ReplicaContents} None (Some (tag, tree)) = sym none ∙ held in let none_so : ⊥ = cc in absurd none_so
   fed old new round (inr (m, v, kept, way, there, small, is_held)) (asks tag tree given held call takes stays) ends =
       let same : ◌≡◌ {A = ReplicaContents} (Some (tag, tree)) (Some (decimal v.tag, v.tree)) = sym held ∙ is_held in
       let tag_is : tag ≡ decimal v.tag = ap tag_in same in
-      by_feed_call m v kept way there small old new given round (subst (λ (t : List ℕ). Calls f.root (getting f.user (feed_path t f.doc)) old new given) tag_is call) ends
+      by_feed_call m v kept way there small old new given round (subst (λ (t : List ℕ). Calls f.root (get_ask f.user (feed_path t f.doc)) old new given) tag_is call) ends
       (subst (λ (h : ReplicaContents). TakesFeed f.doc given h f'.held (Ok (Some round))) is_held takes)
 
-  by_document_call : (old new : StreamState) (given : Result Response ClientFault) (fetched : Option ReplicaVersion) → Calls f.root (getting f.user (id_text f.doc)) old new given → asked new ≡ earlier ++ last ∷ []
+  by_document_call : (old new : StreamState) (given : Result Response ClientFault) (fetched : Option ReplicaVersion) → Calls f.root (get_ask f.user (id_text f.doc)) old new given → peer_traffic new ≡ earlier ++ last ∷ []
       → TakesDocument given (Ok fetched) → IsPresentIn n f.doc (stored_in fetched)
   by_document_call old new given fetched call ends takes =
-      let ask = getting f.user (id_text f.doc) in
-      let c = called f.root n ask old new given earlier last call ends served (λ e. no_fault clients.NoMemory refl e) (λ e. no_fault clients.PeerFault refl e) in
-      document_leads f.root n f.doc (meant f.root ask) c.answered.reply c.answered.answers reads c.response c.answered.received (document_asked f.root is f.user f.doc below) (is_users f.doc has) given c.judged fetched takes
+      let ask = get_ask f.user (id_text f.doc) in
+      let c = called f.root n ask reads old new given earlier last call ends served (λ e. no_fault clients.NoMemory refl e) (λ e. no_fault clients.PeerFault refl e) (λ fault e. no_fault (clients.BadResponse fault) refl e) in
+      document_leads f.root n f.doc (meant f.root ask) c.reply c.answers reads c.response c.received_as (document_asked f.root is f.user f.doc below) (is_users f.doc has) given c.judged fetched takes
     where
       no_fault : (fault : ClientFault) → is_refused_with 404 fault ≡ false → given ≡ Err fault → ⊥
       no_fault fault differs e =
@@ -175,7 +216,7 @@ module _ (f f' : Following) (n : State) (is : IsRoot f.root (authority_of f.root
   fetched_so (Ok None) round (is_now, e) present = ap (λ (x : Following). x.held) is_now ∙ present None refl
   fetched_so (Err fault) round (is_now, e) present = let never : ⊥ = cc in absurd never
 
-  rounds : (old new : StreamState) (round : Round) → HoldsVersion f.root n f.doc f.held → Rounds f f' old new (Ok round) → asked new ≡ earlier ++ last ∷ [] → IsPresentIn n f.doc f'.held
+  rounds : (old new : StreamState) (round : Round) → HoldsVersion f.root n f.doc f.held → Rounds f f' old new (Ok round) → peer_traffic new ≡ earlier ++ last ∷ [] → IsPresentIn n f.doc f'.held
   rounds old new round holds (by_feed other feed e) ends = fed old new other holds feed ends
   rounds old new round holds (by_document between feed fetch) ends =
       fetched_so fetch.fetched round fetch.holds
@@ -185,7 +226,7 @@ module _ (f f' : Following) (n : State) (is : IsRoot f.root (authority_of f.root
 pub converges : (root : List ℕ) (doc : DocId) → IsRoot root (authority_of root) (path_of root) → (IsAddressable doc → TargetResult root (path_of root ++ (slash ∷ id_text doc)) (Ok (a_document doc)))
     → ((mode : Mode) (tag : List ℕ) (number : ℕ) → HasFeed doc → tag_spelled tag ≡ Some number → AsksForFeed root mode number doc (feed_request root mode tag doc))
     → (n : State) (f f' : Following) (old new : StreamState) (round : Round) (earlier : List Traffic) (last : Traffic) → f.root ≡ root → f.doc ≡ doc → HasFeed doc → HoldsVersion f.root n f.doc f.held
-    → Rounds f f' old new (Ok round) → asked new ≡ earlier ++ last ∷ [] → IsServedIn f.root n last → IsPresentIn n f.doc f'.held
+    → Rounds f f' old new (Ok round) → peer_traffic new ≡ earlier ++ last ∷ [] → IsServedIn f.root n last → IsPresentIn n f.doc f'.held
 converges root doc is below asks_feed n f f' old new round earlier last same_root same_doc has holds made ends served =
     let has' : HasFeed f.doc = subst (λ (d : DocId). HasFeed d) (sym same_doc) has in
     let is' : IsRoot f.root (authority_of f.root) (path_of f.root) = subst (λ (r : List ℕ). IsRoot r (authority_of r) (path_of r)) (sym same_root) is in

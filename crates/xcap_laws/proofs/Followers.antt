@@ -4,7 +4,7 @@ use Rattle.std.specs.Option.{option_map_or}
 use Rattle.std.specs.Prelude.{◌==◌, if◌then◌else◌}
 use Rattle.std.specs.Result.{result_map_both}
 use Rattle.std.proofs.lemmas.Bool.{cond-true, eq-eqb}
-use Rattle.xml_names.specs.Limits.{max_levels}
+use Rattle.xml_names.specs.declared.limits.TheConstants.{MAX_LEVELS}
 use Rattle.xml_names.specs.declared.read_error.ReadError.{ReadError}
 use Rattle.xml_names.specs.declared.read_error.ReadError.TheVariants as errors
 use Rattle.xml_tree.specs.Print.{document_print}
@@ -15,7 +15,7 @@ use Rattle.doc_names.specs.declared.doc_id.DocId.{DocId}
 use Rattle.doc_names.specs.declared.doc_id.Home.{Home}
 use Rattle.doc_names.specs.declared.doc_id.Home.TheVariants.{Global, User}
 use Rattle.http_wire.specs.declared.request.Request.{Request}
-use Rattle.reply_text.specs.ReplyHeads.{SentReply, plain}
+use Rattle.reply_text.specs.ReplyHeads.{HeadFields, SentReply, plain, sent}
 use Rattle.request_checks.specs.Conditions.{stopped_by}
 use Rattle.request_checks.specs.MediaTypes.{document_media}
 use Rattle.request_checks.specs.Methods.{method_of}
@@ -73,8 +73,15 @@ use Rattle.xcap_machine.proofs.FeedAnswers.{holds}
 use Rattle.xcap_machine.proofs.Cases.{either}
 use Rattle.xcap_machine.proofs.OneVersion.{held_there}
 use Rattle.xcap_machine.proofs.SubscriberLemmas.{one_of_a_tag}
-use Rattle.xcap_laws.specs.Followers.{IsPresentIn, IsReceivedAs, replica_of}
+use Rattle.xcap_laws.specs.Followers.{IsPresentIn, replica_of}
+use Rattle.xcap_laws.proofs.ReplyReadings.{IsFramedBy}
 use Rattle.xcap_laws.proofs.FetchedVersions.{fetched as fetched_version}
+
+-- the response has the status and the body of the reply, and its etag, where it has one
+pub record IsReceivedAs (reply : SentReply) (response : Response) : Type 0 where
+  pub status : response.status ≡ reply.status
+  pub body : response.body ≡ reply.body
+  pub tag : (fields : HeadFields) (number : ℕ) → reply ≡ sent fields reply.body → IsFramedBy fields reply.body → fields.tag ≡ Some number → response.tag ≡ Some (decimal number)
 
 -- ---- the feed
 
@@ -221,13 +228,13 @@ module _ (root : List ℕ) (n : State) (id : DocId) (request : Request) (reply :
   seen = seen_by (stock_of n) id request (unchanged reply) root follows.1.answers target user method
 
   -- the version that a response brings
-  brought : (tag : List ℕ) (tree : Tree) → response.tag ≡ Some tag → TextAnswer max_levels [] response.body (Ok tree) → reply.status ≡ 200 → IsPresentIn n id (Some (tag, tree))
+  brought : (tag : List ℕ) (tree : Tree) → response.tag ≡ Some tag → TextAnswer MAX_LEVELS [] response.body (Ok tree) → reply.status ≡ 200 → IsPresentIn n id (Some (tag, tree))
   brought tag tree tagged text ok =
       let s = fetched_version root (stock_of n) n request (unchanged reply) id follows.0 refl follows.1.answers target user method ok in
       let number : response.tag ≡ Some (decimal s.document.now.tag) =
-      received.tag (record { status = 200; tag = Some s.document.now.tag; read_only = None; media = Some (document_media id.auid); size = length reply.body; closes = reply.closes }) s.document.now.tag s.tagged refl in
+      received.tag (record { status = 200; tag = Some s.document.now.tag; read_only = None; media = Some (document_media id.auid); size = length reply.body; closes = reply.closes }) s.document.now.tag s.tagged (record { lawful = refl; size = refl; bodiless = λ e. let never : ⊥ = cc in absurd never }) refl in
       let same_tag : tag ≡ decimal s.document.now.tag = cc in
-      let here : TextAnswer max_levels [] reply.body (Ok tree) = subst (λ (b : List ℕ). TextAnswer max_levels [] b (Ok tree)) received.body text in
+      let here : TextAnswer MAX_LEVELS [] reply.body (Ok tree) = subst (λ (b : List ℕ). TextAnswer MAX_LEVELS [] b (Ok tree)) received.body text in
       let read : Ok tree ≡ Ok s.document.now.tree = one_text 64 [] reply.body (Ok tree) (Ok s.document.now.tree) here s.text in
       let same_tree : tree ≡ s.document.now.tree = cc in
       (λ i. Some (same_tag i, same_tree i)) ∙ ap replica_of (sym s.there)

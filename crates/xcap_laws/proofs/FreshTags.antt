@@ -12,12 +12,12 @@ use Rattle.request_checks.specs.Methods.{method_of}
 use Rattle.request_checks.specs.declared.method.Method.{Method}
 use Rattle.std.specs.Prelude.{Bool}
 use Rattle.store_core.specs.Contents.{StoredDocument, StoreContents as Content, stock_of}
-use Rattle.store_core.specs.DocumentChanges.{Act, Makes, Edits, Removes, act_of, after_act, against, answered, content_after, document_in, note_for, stored_name}
+use Rattle.store_core.specs.DocumentChanges.{Act, Makes, Edits, Removes, act_of, after_act, refusal_of, refusal_or, content_after, document_in, note_for, stored_name}
 use Rattle.store_core.specs.State.{State, Version, versions}
 use Rattle.store_core.specs.ValidStates.{IsKept, IsValidState}
 use Rattle.store_core.specs.declared.refusal.StoreRefusal.{StoreRefusal}
 use Rattle.xcap_machine.specs.Answers.{Answer, Made}
-use Rattle.xcap_machine.specs.Machine.{Step, ValidStep, after_answer, answer_as, told_as}
+use Rattle.xcap_machine.specs.Machine.{Step, ValidStep, after_answer, answer_as, made_from}
 use Rattle.xcap_machine.specs.Requests.{IsAnswer}
 use Rattle.xcap_machine.specs.Versions.{ComesTo, HasVersion, goes_on, stays as stays_there}
 use Rattle.xcap_machine.proofs.OneVersion.{found_all}
@@ -25,7 +25,7 @@ use Rattle.xcap_machine.proofs.Ways.{Way, changes, stays, way_of}
 
 -- ---- the record of a change
 
-pub answered_note : (refusal : Option StoreRefusal) (note told : Note) (c next : Content) → answered refusal note c ≡ Ok (told, next) → told ≡ note
+pub answered_note : (refusal : Option StoreRefusal) (note told : Note) (c next : Content) → refusal_or refusal note c ≡ Ok (told, next) → told ≡ note
 answered_note None note told c next h = let both : ◌≡◌ {A = Note × Content} (note, c) (told, next) = cc in sym (ap (λ (x : Note × Content). x.0) both)
 answered_note (Some refusal) note told c next h = cc
 
@@ -34,15 +34,15 @@ pub record NoteMade (c : Content) (e : Edit) : Type 0 where
   pub change : Change
   pub is_note : e.note ≡ note_for c e.doc change (document_in stored_name c.documents e.doc)
 
-note_by : (method : Method) (closes : Bool) (c : Content) (a : Answer) (e : Edit) → a.made ≡ Some (told_as e) → Way method closes c a → NoteMade c e
-note_by method closes c a e told (stays reply tells same is) = let no : None ≡ Some (told_as e) = sym (ap (λ (x : Answer). x.made) is) ∙ told in absurd cc
+note_by : (method : Method) (closes : Bool) (c : Content) (a : Answer) (e : Edit) → a.made ≡ Some (made_from e) → Way method closes c a → NoteMade c e
+note_by method closes c a e told (stays reply tells same is) = let no : None ≡ Some (made_from e) = sym (ap (λ (x : Answer). x.made) is) ∙ told in absurd cc
 note_by method closes c a e told (changes reply tells same id change note next asks made is) =
-    let so : ◌≡◌ {A = Option Made} (Some (told_as e)) (Some (id, note)) = sym told ∙ ap (λ (x : Answer). x.made) is in
-    let both : ◌≡◌ {A = Made} (told_as e) (id, note) = cc in
+    let so : ◌≡◌ {A = Option Made} (Some (made_from e)) (Some (id, note)) = sym told ∙ ap (λ (x : Answer). x.made) is in
+    let both : ◌≡◌ {A = Made} (made_from e) (id, note) = cc in
     let doc : e.doc ≡ id = ap (λ (x : Made). x.0) both in
     let is_note : e.note ≡ note = ap (λ (x : Made). x.1) both in
     let held = document_in stored_name c.documents id in
-    let answer : note ≡ note_for c id change held = answered_note (against c id change held (act_of change)) (note_for c id change held) note (content_after c id change) next made in
+    let answer : note ≡ note_for c id change held = answered_note (refusal_of c id change held (act_of change)) (note_for c id change held) note (content_after c id change) next made in
     record {
       change = change;
       is_note = subst (λ (i : DocId). e.note ≡ note_for c i change (document_in stored_name c.documents i)) (sym doc) (is_note ∙ answer);
@@ -73,7 +73,7 @@ number_is_tag root m next request reply e s = (
   ap (λ (x : State). x.next) s.goes_on ∙ next_number m e.doc e.note.change (act_of e.note.change),
 )
 
-step_up : (m : State) (edit : Option Edit) → m.next ≤ (after_answer m (option_map told_as edit)).next
+step_up : (m : State) (edit : Option Edit) → m.next ≤ (after_answer m (option_map made_from edit)).next
 step_up m None = omega arith
 step_up m (Some e) = omega (arith, next_number m e.doc e.note.change (act_of e.note.change))
 

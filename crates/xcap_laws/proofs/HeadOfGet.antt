@@ -20,11 +20,11 @@ use Rattle.store_core.specs.Contents.{StoreContents as Content}
 use Rattle.store_core.specs.Since.{ChangesSince, Gone, Unknown, ReportedChanges, since}
 use Rattle.xcap_laws.specs.Heads.{with_method, without_body}
 use Rattle.xcap_machine.proofs.OneAnswer.{one_answer}
-use Rattle.xcap_machine.specs.Answers.{Answer, BehindConditions, found, unchanged}
+use Rattle.xcap_machine.specs.Answers.{Answer, AfterConditions, found, unchanged}
 use Rattle.xcap_machine.specs.ElementFeeds.{TellsElement}
 use Rattle.xcap_machine.specs.Feeds.{changes_since_answer}
 use Rattle.xcap_machine.specs.FlatLists.{sends_flat}
-use Rattle.xcap_machine.specs.ReadRequests.{SendsDocument, SendsFound, SendsNode}
+use Rattle.xcap_machine.specs.ReadRequests.{SendsDocument, AnswersWithFound, SendsNode}
 use Rattle.xcap_machine.specs.Requests.{ByMethod, ByTarget, ByUser, IsAnswer, ReadsTarget, auid_of, fault_status, home_of}
 use Rattle.xcap_machine.specs.Resources.{Resource, absent, beyond_limit, there}
 use Rattle.xcap_machine.specs.inner.Cases.{Behind, IsAnswered}
@@ -58,14 +58,14 @@ module _ (root : List ℕ) (c : Content) (request : Request) (name : List ℕ) (
   by_outcome NotModified tag P Q f is = ap (λ (x : Answer). without_body x) is
   by_outcome Failed tag P Q f is = same_as (unchanged (plain 412 request.closes)) is
 
-  behind : (tag : Option ℕ) (exists : Bool) (P Q : Type 0) → (P → Q) → BehindConditions request (representation tag exists) true a P → BehindConditions head (representation tag exists) true bare Q
+  behind : (tag : Option ℕ) (exists : Bool) (P Q : Type 0) → (P → Q) → AfterConditions request (representation tag exists) true a P → AfterConditions head (representation tag exists) true bare Q
   behind tag exists P Q f is = (
     stopped_by is.1.0 tag request.closes,
     (is.1.0, is.1.1, refl),
     by_outcome is.1.0 tag P Q f (subst (λ (stop : Option SentReply). Behind stop a P) is.1.2 is.2),
   )
 
-  found_head : (text : Option (List ℕ)) (tag : ℕ) (media : MediaType) → SendsFound text tag media (read_by Get request) a → SendsFound text tag media (read_by Head head) bare
+  found_head : (text : Option (List ℕ)) (tag : ℕ) (media : MediaType) → AnswersWithFound text tag media (read_by Get request) a → AnswersWithFound text tag media (read_by Head head) bare
   found_head None tag media is = same_as (unchanged (plain 404 request.closes)) is
   found_head (Some text) tag media is =
       let reply = found (Some tag) media text request.closes in

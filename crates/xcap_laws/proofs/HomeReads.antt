@@ -6,7 +6,8 @@ use Rattle.std.specs.Cmp.Lexicographic.{bytes_decides}
 use Rattle.std.specs.Option.{option_map_or}
 use Rattle.std.specs.Str.{bytes_eq}
 use Rattle.xml_tree.specs.Tree.{Tree}
-use Rattle.usage_docs.specs.Services.{document_len, index_limit}
+use Rattle.usage_docs.specs.Services.{document_len}
+use Rattle.usage_docs.specs.declared.service_index.TheConstants.{INDEX_LIMIT}
 use Rattle.doc_names.specs.Equality.{same_auid, same_home, same_id}
 use Rattle.doc_names.specs.declared.doc_id.Auid.{Auid}
 use Rattle.doc_names.specs.declared.doc_id.Auid.TheVariants.{ResourceLists, RlsServices, XcapCaps}
@@ -23,7 +24,7 @@ use Rattle.request_checks.specs.Rights.{is_allowed, is_fixed_usage, is_user}
 use Rattle.request_checks.specs.declared.method.Method.{Method}
 use Rattle.request_checks.specs.declared.method.Method.TheVariants.{Get, Head, Put, Delete, Other}
 use Rattle.list_resolve.specs.FlatLists.{IsFlatList, flat_of, service_of}
-use Rattle.list_resolve.specs.Resolution.{AreLeads, ResolutionContext, ResolvedReference, is_own, lead_at, lead_of, tree_held}
+use Rattle.list_resolve.specs.Resolution.{ResolvesReferences, ResolutionContext, ResolvedReference, is_own, resolve_at, resolve_target, tree_held}
 use Rattle.list_resolve.specs.ScopedElements.{ScopedElement}
 use Rattle.list_resolve.specs.Walks.{walk}
 use Rattle.list_resolve.specs.declared.fault.FlatFault.{FlatFault}
@@ -91,7 +92,7 @@ module _ (c d : StoreContents) where
   global_moved : (auid : Auid) (is_index : Bool) → GlobalAlike c d → (r : Resource) → LeadsUnderGlobal c auid is_index r → LeadsUnderGlobal d auid is_index r
   global_moved ResourceLists is_index alike r h = h
   global_moved RlsServices false alike r h = h
-  global_moved RlsServices true alike r (root, is, e) = (root, alike.index root is, e ∙ ap (λ (n : ℕ). if nat_lt index_limit (document_len root) then beyond_limit else there root (n - 1)) alike.next)
+  global_moved RlsServices true alike r (root, is, e) = (root, alike.index root is, e ∙ ap (λ (n : ℕ). if nat_lt INDEX_LIMIT (document_len root) then beyond_limit else there root (n - 1)) alike.next)
   global_moved XcapCaps false alike r h = h
   global_moved XcapCaps true alike r h = h
 
@@ -130,8 +131,8 @@ module _ (c d : StoreContents) where
     own_alike lead id true false e = refl
     own_alike lead id false element e = refl
 
-    lead_alike : (wanted : _) (read : Result Target UriFault) → lead_of old_context wanted read ≡ lead_of new_context wanted read
-    lead_alike wanted (Ok (Node id selector)) = own_alike (λ root. option_and_then (lead_at wanted id.name root) (selected_in selector.steps root)) id (is_own home id) (is_element selector.end) refl
+    lead_alike : (wanted : _) (read : Result Target UriFault) → resolve_target old_context wanted read ≡ resolve_target new_context wanted read
+    lead_alike wanted (Ok (Node id selector)) = own_alike (λ root. option_and_then (resolve_at wanted id.name root) (selected_in selector.steps root)) id (is_own home id) (is_element selector.end) refl
     lead_alike wanted (Ok (Document id)) = refl
     lead_alike wanted (Ok (Deep auid h)) = refl
     lead_alike wanted (Ok (Feed mode tag id)) = refl
@@ -139,7 +140,7 @@ module _ (c d : StoreContents) where
     lead_alike wanted (Ok (Flat id service)) = refl
     lead_alike wanted (Err fault) = refl
 
-    leads_moved : (resolve_reference : _) → AreLeads old_context resolve_reference → AreLeads new_context resolve_reference
+    leads_moved : (resolve_reference : _) → ResolvesReferences old_context resolve_reference → ResolvesReferences new_context resolve_reference
     leads_moved resolve_reference are = λ r. ((are r).0, (are r).1, (are r).2 ∙ lead_alike r.wanted (are r).0)
 
   flat_moved : (root : List ℕ) (id : DocId) (service : List ℕ) → AreAlikeUnder id.home c d → (answer : Result (List (List ℕ)) FlatFault) → IsFlatList c root id service answer → IsFlatList d root id service answer

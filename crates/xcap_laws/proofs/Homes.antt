@@ -23,7 +23,7 @@ use Rattle.request_checks.specs.declared.method.Method.{Method}
 use Rattle.request_checks.specs.declared.method.Method.TheVariants.{Get, Head, Put, Delete, Other}
 use Rattle.store_core.specs.Contents.{StoreContents, stock_of}
 use Rattle.store_core.specs.DocumentChanges.{Act, Edits, Makes, Removes, act_of, after_act, content_after_act, document_name, held_after, stored_name, with_document, without_document}
-use Rattle.store_core.specs.State.{State, renewed}
+use Rattle.store_core.specs.State.{State, document_after}
 use Rattle.xcap_uri.specs.Targets.{TargetResult}
 use Rattle.xcap_uri.specs.declared.fault.UriFault.{UriFault}
 use Rattle.xcap_uri.specs.declared.target.Target.{Target}
@@ -31,7 +31,7 @@ use Rattle.xcap_uri.specs.declared.target.Target.TheVariants.{Document as Docume
 use Rattle.xcap_machine.specs.Answers.{Answer, Made}
 use Rattle.xcap_machine.specs.DocumentWrites.{deleted_reply, put_change, put_reply}
 use Rattle.xcap_machine.specs.Laws.{tells_change}
-use Rattle.xcap_machine.specs.Machine.{Does, Step, answer_as, told_as}
+use Rattle.xcap_machine.specs.Machine.{Does, Step, answer_as, made_from}
 use Rattle.xcap_machine.specs.NodeWrites.{cut_reply, is_there}
 use Rattle.xcap_machine.specs.Requests.{Deletes, IsAnswer, Puts, auid_of, home_of}
 use Rattle.xcap_machine.specs.Resources.{version_of}
@@ -93,7 +93,7 @@ held_elsewhere c xui id change Removes own = without_kept stored_name (is_elsewh
 versions_elsewhere : (m : State) (xui : List ℕ) (id : DocId) (change : Change) (act : Act) → id.home ≡ User xui
     → documents_elsewhere document_name xui (after_act m id change act).documents ≡ documents_elsewhere document_name xui m.documents
 versions_elsewhere m xui id change (Makes root) own = made_kept document_name (is_elsewhere xui) id (at_home xui id own) (record { id = id; now = record { tag = m.next; tree = root; note = None }; earlier = [] }) refl m.documents
-versions_elsewhere m xui id change Edits own = with_kept document_name (is_elsewhere xui) id (at_home xui id own) (λ d. renewed m.next d (note_of d.now.tag m.next d.now.tree change)) (λ d. refl) m.documents
+versions_elsewhere m xui id change Edits own = with_kept document_name (is_elsewhere xui) id (at_home xui id own) (λ d. document_after m.next d (note_of d.now.tag m.next d.now.tree change)) (λ d. refl) m.documents
 versions_elsewhere m xui id change Removes own = without_kept document_name (is_elsewhere xui) id (at_home xui id own) m.documents
 
 -- ---- who makes a change
@@ -167,7 +167,7 @@ module _ (root : List ℕ) (c : StoreContents) (request : Request) (a : Answer) 
 pub own_change : (root : List ℕ) (c next : StoreContents) (request : Request) (reply : SentReply) (edit : Option Edit) → Does root c request reply next edit → ChangesOwnHome stored_name request edit c.documents next.documents
 own_change root c next request reply None d = ap (λ (x : StoreContents). x.documents) d.goes_on
 own_change root c next request reply (Some e) d =
-    let o = owned root c request (answer_as reply (Some e)) (told_as e) refl d.answers in
+    let o = owned root c request (answer_as reply (Some e)) (made_from e) refl d.answers in
     record {
       xui = o.xui;
       by_user = o.by_user;
@@ -178,7 +178,7 @@ own_change root c next request reply (Some e) d =
 pub own_step : (root : List ℕ) (m next : State) (request : Request) (reply : SentReply) (edit : Option Edit) → Step root m request reply next edit → ChangesOwnHome document_name request edit m.documents next.documents
 own_step root m next request reply None s = ap (λ (x : State). x.documents) s.goes_on
 own_step root m next request reply (Some e) s =
-    let o = owned root (stock_of m) request (answer_as reply (Some e)) (told_as e) refl s.answers in
+    let o = owned root (stock_of m) request (answer_as reply (Some e)) (made_from e) refl s.answers in
     record {
       xui = o.xui;
       by_user = o.by_user;

@@ -21,7 +21,7 @@ use Rattle.doc_names.specs.declared.doc_id.Auid.TheVariants.{ResourceLists, RlsS
 use Rattle.doc_names.specs.declared.doc_id.Home.{Home}
 use Rattle.doc_names.specs.declared.doc_id.Home.TheVariants.{Global, User}
 use Rattle.store_core.specs.Contents.{StoredDocument, stock_of, stored_of}
-use Rattle.store_core.specs.Indexes.{index, indexed, indexed_by}
+use Rattle.store_core.specs.Indexes.{index, index_entry, indexed_by}
 use Rattle.store_core.specs.State.{Document, State}
 use Rattle.store_core.specs.ValidStates.{AreDistinct, IsValidState, addresses, addresses_in}
 use Rattle.store_core.proofs.DistinctItems.{apart-cut, apart-middle, each-append, each-left, each-right, each-weaker}
@@ -73,27 +73,27 @@ listed_tree RlsServices Global true t x h = cc
 listed_tree RlsServices (User xui) true t x h = (sym (ap (λ (p : Pair). p.1) (same_Some {A = Pair} (xui, t) x h)), refl)
 listed_tree XcapCaps home b t x h = cc
 
-of_listed : (h : StoredDocument) (x : Pair) → indexed h ≡ Some x → (x.1 ≡ h.tree) × (addresses_in h.id.auid h.tree ≡ service_uris h.tree)
+of_listed : (h : StoredDocument) (x : Pair) → index_entry h ≡ Some x → (x.1 ≡ h.tree) × (addresses_in h.id.auid h.tree ≡ service_uris h.tree)
 of_listed h x is = listed_tree h.id.auid h.id.home (bytes_eq h.id.name index) h.tree x is
 
 module _ (P : Tree → Type 0) where
-  pub listed-each : (hs : List StoredDocument) → AllByRecursion (λ h. IsSome (indexed h) → P h.tree) hs → AllByRecursion (λ (x : Pair). P x.1) (filter_map indexed hs)
+  pub listed-each : (hs : List StoredDocument) → AllByRecursion (λ h. IsSome (index_entry h) → P h.tree) hs → AllByRecursion (λ (x : Pair). P x.1) (filter_map index_entry hs)
   listed-each [] a = tt
-  listed-each (h ∷ hs) a = by (indexed h) refl (listed-each hs a.1)
+  listed-each (h ∷ hs) a = by (index_entry h) refl (listed-each hs a.1)
     where
-      by : (o : Option Pair) → indexed h ≡ o → AllByRecursion (λ (x : Pair). P x.1) (filter_map indexed hs) → AllByRecursion (λ (x : Pair). P x.1) (cons_option o (filter_map indexed hs))
+      by : (o : Option Pair) → index_entry h ≡ o → AllByRecursion (λ (x : Pair). P x.1) (filter_map index_entry hs) → AllByRecursion (λ (x : Pair). P x.1) (cons_option o (filter_map index_entry hs))
       by None is rest = rest
       by (Some x) is rest = (subst P (sym (of_listed h x is).0) (a.0 (subst (λ (o : Option Pair). IsSome o) (sym is) refl)), rest)
 
-  pub each-listed : (hs : List StoredDocument) → AllByRecursion (λ (x : Pair). P x.1) (filter_map indexed hs) → AllByRecursion (λ h. IsSome (indexed h) → P h.tree) hs
+  pub each-listed : (hs : List StoredDocument) → AllByRecursion (λ (x : Pair). P x.1) (filter_map index_entry hs) → AllByRecursion (λ h. IsSome (index_entry h) → P h.tree) hs
   each-listed [] a = tt
-  each-listed (h ∷ hs) a = by (indexed h) refl a (each-listed hs)
+  each-listed (h ∷ hs) a = by (index_entry h) refl a (each-listed hs)
     where
-      none : indexed h ≡ None → IsSome (indexed h) → P h.tree
+      none : index_entry h ≡ None → IsSome (index_entry h) → P h.tree
       none is some = absurd (let bad : IsSome {T = Pair} None = subst (λ (x : Option Pair). IsSome x) is some in cc)
 
-      by : (o : Option Pair) → indexed h ≡ o → AllByRecursion (λ (x : Pair). P x.1) (cons_option o (filter_map indexed hs))
-          → (AllByRecursion (λ (x : Pair). P x.1) (filter_map indexed hs) → AllByRecursion (λ g. IsSome (indexed g) → P g.tree) hs) → AllByRecursion (λ g. IsSome (indexed g) → P g.tree) (h ∷ hs)
+      by : (o : Option Pair) → index_entry h ≡ o → AllByRecursion (λ (x : Pair). P x.1) (cons_option o (filter_map index_entry hs))
+          → (AllByRecursion (λ (x : Pair). P x.1) (filter_map index_entry hs) → AllByRecursion (λ g. IsSome (index_entry g) → P g.tree) hs) → AllByRecursion (λ g. IsSome (index_entry g) → P g.tree) (h ∷ hs)
       by None is all rest = (none is, rest all)
       by (Some x) is all rest = (λ some. subst P (of_listed h x is).0 all.0, rest all.1)
 
@@ -156,14 +156,14 @@ distinct-order (d ∷ ds) a =
     (across [] (uris d) (flat_map uris ds) a)))
 
 abbrev listed : List Document → List Pair
-listed ds = filter_map indexed (map stored_of ds)
+listed ds = filter_map index_entry (map stored_of ds)
 
 -- the addresses that are listed are among those of all documents
 among : (P : List ℕ → Type 0) (ds : List Document) → AllByRecursion P (addresses ds) → AllByRecursion P (flat_map uris (listed ds))
 among P [] a = tt
-among P (d ∷ ds) a = by (indexed (stored_of d)) refl (among P ds (each-right P (addresses_in d.id.auid d.now.tree) (addresses ds) a))
+among P (d ∷ ds) a = by (index_entry (stored_of d)) refl (among P ds (each-right P (addresses_in d.id.auid d.now.tree) (addresses ds) a))
   where
-    by : (o : Option Pair) → indexed (stored_of d) ≡ o → AllByRecursion P (flat_map uris (listed ds)) → AllByRecursion P (flat_map uris (cons_option o (listed ds)))
+    by : (o : Option Pair) → index_entry (stored_of d) ≡ o → AllByRecursion P (flat_map uris (listed ds)) → AllByRecursion P (flat_map uris (cons_option o (listed ds)))
     by None is rest = rest
     by (Some x) is rest =
         let of = of_listed (stored_of d) x is in
@@ -172,9 +172,9 @@ among P (d ∷ ds) a = by (indexed (stored_of d)) refl (among P ds (each-right P
 
 distinct-listed : (ds : List Document) → AreDistinct (addresses ds) → AreDistinct (flat_map uris (listed ds))
 distinct-listed [] a = tt
-distinct-listed (d ∷ ds) a = by (indexed (stored_of d)) refl (distinct-listed ds (apart-cut [] (addresses_in d.id.auid d.now.tree) (addresses ds) a))
+distinct-listed (d ∷ ds) a = by (index_entry (stored_of d)) refl (distinct-listed ds (apart-cut [] (addresses_in d.id.auid d.now.tree) (addresses ds) a))
   where
-    by : (o : Option Pair) → indexed (stored_of d) ≡ o → AreDistinct (flat_map uris (listed ds)) → AreDistinct (flat_map uris (cons_option o (listed ds)))
+    by : (o : Option Pair) → index_entry (stored_of d) ≡ o → AreDistinct (flat_map uris (listed ds)) → AreDistinct (flat_map uris (cons_option o (listed ds)))
     by None is rest = rest
     by (Some x) is rest =
         let of = of_listed (stored_of d) x is in
@@ -225,12 +225,12 @@ module _ (m : State) (kept : IsValidState m) (root : Tree) (is : IsIndexOfServic
       ap (filter_map uri_of) (services ∙ sym (flat_trees service_elements pairs)) ∙ all_uris (map (λ (x : Pair). x.1) pairs) ∙ flat_trees service_uris pairs in
       subst (λ (us : Uris). AreDistinct us) (sym here) (distinct-order (listed m.documents) (distinct-listed m.documents kept.services))
 
-  only : (P : Tree → Type 0) → AllByRecursion (λ (h : StoredDocument). IsSome (indexed h) → AllByRecursion P (service_elements h.tree)) (map stored_of m.documents) → AllByRecursion P (child_elements_of root)
+  only : (P : Tree → Type 0) → AllByRecursion (λ (h : StoredDocument). IsSome (index_entry h) → AllByRecursion P (service_elements h.tree)) (map stored_of m.documents) → AllByRecursion P (child_elements_of root)
   only P all =
       subst (λ (es : List Tree). AllByRecursion P es) (sym services)
       (each-flat P (λ (x : Pair). service_elements x.1) pairs (each-in-order (λ (x : Pair). AllByRecursion P (service_elements x.1)) (listed m.documents) (listed-each (λ t. AllByRecursion P (service_elements t)) (map stored_of m.documents) all)))
 
-  every : (P : Tree → Type 0) → AllByRecursion P (child_elements_of root) → AllByRecursion (λ (h : StoredDocument). IsSome (indexed h) → AllByRecursion P (service_elements h.tree)) (map stored_of m.documents)
+  every : (P : Tree → Type 0) → AllByRecursion P (child_elements_of root) → AllByRecursion (λ (h : StoredDocument). IsSome (index_entry h) → AllByRecursion P (service_elements h.tree)) (map stored_of m.documents)
   every P all =
       each-listed (λ t. AllByRecursion P (service_elements t)) (map stored_of m.documents)
       (in-order-each (λ (x : Pair). AllByRecursion P (service_elements x.1)) (listed m.documents)
@@ -241,12 +241,12 @@ module _ (m : State) (kept : IsValidState m) (root : Tree) (is : IsIndexOfServic
       record {
         no_others =
             only (IsServiceOf (stock_of m))
-            (each-weaker (λ (h : StoredDocument). Contains (stock_of m).documents h) (λ (h : StoredDocument). IsSome (indexed h) → AllByRecursion (IsServiceOf (stock_of m)) (service_elements h.tree))
+            (each-weaker (λ (h : StoredDocument). Contains (stock_of m).documents h) (λ (h : StoredDocument). IsSome (index_entry h) → AllByRecursion (IsServiceOf (stock_of m)) (service_elements h.tree))
             (λ h there some. each-weaker (λ s. Contains (service_elements h.tree) s) (IsServiceOf (stock_of m)) (λ s here. record { document = h; is_stored = there; is_listed = some; is_in = here }) (service_elements h.tree) (own (service_elements h.tree)))
             (stock_of m).documents (own (stock_of m).documents));
         none_missing = λ service of.
             let all = every (λ s. Contains (child_elements_of root) s) (own (child_elements_of root)) in
             item_of (λ (s : Tree). Contains (child_elements_of root) s) (service_elements of.document.tree) service
-            (item_of (λ (h : StoredDocument). IsSome (indexed h) → AllByRecursion (λ s. Contains (child_elements_of root) s) (service_elements h.tree)) (stock_of m).documents of.document all of.is_stored of.is_listed) of.is_in;
+            (item_of (λ (h : StoredDocument). IsSome (index_entry h) → AllByRecursion (λ s. Contains (child_elements_of root) s) (service_elements h.tree)) (stock_of m).documents of.document all of.is_stored of.is_listed) of.is_in;
         once = listed_once;
       }

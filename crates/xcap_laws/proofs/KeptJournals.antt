@@ -14,7 +14,7 @@ use Rattle.xcap_io.specs.Connections.{listening_at}
 use Rattle.xcap_io.specs.StreamTraffic.{Gave, Took}
 use Rattle.edit_journal.specs.JournalPrefixes.{BreaksOff}
 use Rattle.edit_journal.specs.Journals.{IsFirstOf, JournalState}
-use Rattle.edit_journal.specs.Limits.{max_journal_bytes}
+use Rattle.edit_journal.specs.declared.limits.TheConstants.{MAX_JOURNAL_BYTES}
 use Rattle.edit_journal.specs.LoggedRequests.{Accepts}
 use Rattle.edit_journal.specs.LoggedMachines.{Booked, LoggedStep, answered, not_logged}
 use Rattle.edit_journal.specs.Logs.{LogState}
@@ -25,12 +25,12 @@ use Rattle.edit_journal.specs.declared.journal_restart.RestartFault.TheVariants 
 use Rattle.edit_journal.proofs.Beginnings.{begin_alike}
 use Rattle.edit_journal.proofs.Broken.{breaks_off, first_of_first, is_torn}
 use Rattle.edit_journal.proofs.WholeRecords.{text-append}
-use Rattle.edit_journal.proofs.Wholes.{nothing_in, one_whole}
+use Rattle.edit_journal.proofs.CompleteRequests.{nothing_in, one_whole}
 use Rattle.store_core.specs.Contents.{stock_of}
 use Rattle.store_core.specs.State.{State, first_state}
 use Rattle.store_core.specs.ValidStates.{IsValidState}
 use Rattle.xcap_machine.specs.Answers.{Answer, Made, unchanged}
-use Rattle.xcap_machine.specs.Machine.{ValidStep, answer_as, told_as}
+use Rattle.xcap_machine.specs.Machine.{ValidStep, answer_as, made_from}
 use Rattle.xcap_machine.specs.Requests.{IsAnswer}
 use Rattle.xcap_machine.specs.Servers.{ServerState}
 use Rattle.xcap_machine.specs.Versions.{ComesTo, goes_on as proceeds, stays}
@@ -41,7 +41,7 @@ use Rattle.xcap_server.proofs.RecordedChanges.{comes_to_a_state}
 use Rattle.xcap_server.proofs.Ways.{one_way, over}
 use Rattle.xcap_app.specs.Exits.{IsRefused}
 use Rattle.xcap_app.specs.KeepCommand.{DoesntReadJournal, KeepsCommand, KeepsOn, KeptSummary, OldJournal, ReadsJournal, ReadsRecords, ServesKept, StopsReading, exit_of_restart, no_server, no_journal, keeps_on, none_failed}
-use Rattle.xcap_app.specs.RunStates.{IoStreams, KeepState, ServiceState, journals, keeping}
+use Rattle.xcap_app.specs.RunStates.{IoStreams, KeepState, ServiceState, journals, keep_service_state}
 use Rattle.xcap_app.specs.Serves.{ServiceArguments}
 use Rattle.xcap_app.specs.declared.exit.Exit.{Exit}
 use Rattle.xcap_app.specs.declared.exit.Exit.TheVariants.{Done, Usage, InputFailed, OutputFailed, NetworkFailed, Refused, Client, BadJournal, OutOfMemory}
@@ -150,7 +150,7 @@ module _ {W : Type 0} (Keeps : List Edit → W → W → Type 0) where
   writes_records arguments exit old new bytes (no_journal fault reported read port watchers) took =
       stopped arguments.root fault read.journal (journals old) (journals new) bytes read.records read.stops took
   writes_records arguments exit old new bytes (keeps_on journal reads just on) took =
-      kept_written arguments exit journal (keeping old) (keeping new) old.input new.input old.output.taken new.output.taken bytes (CountRises old.output.write_faults new.output.write_faults) reads.records on took
+      kept_written arguments exit journal (keep_service_state old) (keep_service_state new) old.input new.input old.output.taken new.output.taken bytes (CountRises old.output.write_faults new.output.write_faults) reads.records on took
 
 -- ---- what a next run reads
 
@@ -187,20 +187,20 @@ module _ (root written : List ℕ) (all : List Request) (last : State) (is : IsW
         changes : (others : List Request) → Redoing root state (request ∷ others) last → ⊥
         changes others (reply', mid, edit, step, later) =
             let same = one_answer root (stock_of state) request (answer_as reply' (Some edit)) (unchanged reply) step.1.answers answers in
-            let no : ◌≡◌ {A = Option Made} (Some (told_as edit)) None = ap (λ (a : Answer). a.made) same in
+            let no : ◌≡◌ {A = Option Made} (Some (made_from edit)) None = ap (λ (a : Answer). a.made) same in
             cc
 
 module _ {W : Type 0} (Keeps : List Edit → W → W → Type 0) where
   bad_stop : (arguments : ServiceArguments) (fault : RestartFault) (refusal : JournalRefusal) (old new : IoStreams) (journal : OldJournal) (written : List ℕ) (all : List Request) (last : State)
-      → IsWrittenJournal arguments.root written all last → IsFirstOf (take max_journal_bytes journal.bytes) written → ReadsRecords arguments.root journal old.input new.input
+      → IsWrittenJournal arguments.root written all last → IsFirstOf (take MAX_JOURNAL_BYTES journal.bytes) written → ReadsRecords arguments.root journal old.input new.input
       → StopsReading arguments.root fault journal old new → exit_of_restart fault ≡ BadJournal refusal → refusal ≡ refusals.TooLong
   bad_stop arguments faults.ReadFailed refusal old new journal written all last is begins records stops e = absurd (let no : ⊥ = cc in no)
   bad_stop arguments faults.AppendFailed refusal old new journal written all last is begins records stops e = absurd (let no : ⊥ = cc in no)
   bad_stop arguments (faults.Damaged place) refusal old new journal written all last is begins records stops e =
-      absurd (undamaged arguments.root written all last is journal.requests journal.rest (take max_journal_bytes journal.bytes) journal.state records.told records.redone records.split begins stops.1)
+      absurd (undamaged arguments.root written all last is journal.requests journal.rest (take MAX_JOURNAL_BYTES journal.bytes) journal.state records.told records.redone records.split begins stops.1)
   bad_stop arguments (faults.Refused number) refusal old new journal written all last is begins records stops e =
       let (request, more, reply, front, answers) = stops.2 in
-      absurd (accepted arguments.root written all last is journal.requests journal.rest (take max_journal_bytes journal.bytes) journal.state records.told records.redone records.split begins request more reply front answers)
+      absurd (accepted arguments.root written all last is journal.requests journal.rest (take MAX_JOURNAL_BYTES journal.bytes) journal.state records.told records.redone records.split begins request more reply front answers)
   bad_stop arguments faults.TooLong refusal old new journal written all last is begins records stops e = let same : refusals.TooLong ≡ refusal = cc in sym same
   bad_stop arguments faults.NoMemory refusal old new journal written all last is begins records stops e = absurd (let no : ⊥ = cc in no)
 
@@ -211,15 +211,15 @@ module _ {W : Type 0} (Keeps : List Edit → W → W → Type 0) where
   only_too_long arguments exit old new written bytes all last is begins gave (no_journal fault (inl told) read port watchers) refusal e =
       let same : bytes ≡ read.journal.bytes = append_cancel_left old.input.inward.given bytes read.journal.bytes (sym gave.behind ∙ read.records.given.behind) in
       bad_stop arguments fault refusal (journals old) (journals new) read.journal written all last is
-      (first_of_first (take max_journal_bytes read.journal.bytes) bytes written (subst (λ (x : List ℕ). IsFirstOf (take max_journal_bytes read.journal.bytes) x) (sym same) (front_of read.journal.bytes)) begins)
+      (first_of_first (take MAX_JOURNAL_BYTES read.journal.bytes) bytes written (subst (λ (x : List ℕ). IsFirstOf (take MAX_JOURNAL_BYTES read.journal.bytes) x) (sym same) (front_of read.journal.bytes)) begins)
       read.records read.stops (sym told ∙ e)
     where
-      front_of : (x : List ℕ) → IsFirstOf (take max_journal_bytes x) x
-      front_of x = (drop max_journal_bytes x, sym (take-append-drop max_journal_bytes x))
+      front_of : (x : List ℕ) → IsFirstOf (take MAX_JOURNAL_BYTES x) x
+      front_of x = (drop MAX_JOURNAL_BYTES x, sym (take-append-drop MAX_JOURNAL_BYTES x))
   only_too_long arguments exit old new written bytes all last is begins gave (no_journal fault (inr (refused, out)) read port watchers) refusal e =
       absurd (let no : OutOfMemory ≡ BadJournal refusal = sym out ∙ e in let f : ⊥ = cc in f)
   only_too_long arguments exit old new written bytes all last is begins gave (keeps_on journal reads just on) refusal e =
-      absurd (subst (λ (x : Exit). KeepsOn Keeps (Took old.output.taken new.output.taken) (CountRises old.output.write_faults new.output.write_faults) arguments x journal (keeping old) (keeping new)) e on)
+      absurd (subst (λ (x : Exit). KeepsOn Keeps (Took old.output.taken new.output.taken) (CountRises old.output.write_faults new.output.write_faults) arguments x journal (keep_service_state old) (keep_service_state new)) e on)
 
   pub never_refused : (arguments : ServiceArguments) (exit : Exit) (old new : KeepState W) (written bytes : List ℕ) (all : List Request) (last : State) → IsWrittenJournal arguments.root written all last
       → IsFirstOf bytes written → Gave old.input.inward new.input.inward bytes → KeepsCommand Keeps arguments exit old new

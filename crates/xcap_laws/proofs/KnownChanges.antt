@@ -11,7 +11,7 @@ use Rattle.doc_names.specs.Equality.{same_id}
 use Rattle.doc_names.specs.declared.doc_id.DocId.{DocId}
 use Rattle.edit_ops.specs.Notes.{Note}
 use Rattle.edit_ops.specs.Operations.{weight}
-use Rattle.element_watch.specs.SelectionHistory.{notes_behind}
+use Rattle.element_watch.specs.SelectionHistory.{notes_after}
 use Rattle.store_core.specs.Contents.{Represents, StoreContents, stored_of}
 use Rattle.store_core.specs.DocumentChanges.{document_in, document_name, stored_name}
 use Rattle.store_core.specs.Since.{ReportedChanges, Unknown, notes_from, since}
@@ -118,18 +118,18 @@ split_notes (suc k) (v ∷ vs) = by v.note refl (split_notes k vs)
     by None e h = none_noted v vs e ∙ h ∙ sym (ap (λ (l : List Note). l ++ notes_of (drop k vs)) (none_noted v (take k vs) e))
     by (Some n) e h = some_noted v vs n e ∙ ap (λ (l : List Note). n ∷ l) h ∙ sym (ap (λ (l : List Note). l ++ notes_of (drop k vs)) (some_noted v (take k vs) n e))
 
-pub split_from : (k : ℕ) (vs : List Version) → reverse (notes_of vs) ≡ reverse (notes_of (drop k vs)) ++ notes_behind k vs
+pub split_from : (k : ℕ) (vs : List Version) → reverse (notes_of vs) ≡ reverse (notes_of (drop k vs)) ++ notes_after k vs
 split_from k vs = ap reverse (split_notes k vs) ∙ reverse-append (notes_of (take k vs)) (notes_of (drop k vs))
 
-one_more : (k : ℕ) (v : Version) (vs : List Version) (n : Note) → v.note ≡ Some n → notes_behind (suc k) (v ∷ vs) ≡ notes_behind k vs ++ n ∷ []
+one_more : (k : ℕ) (v : Version) (vs : List Version) (n : Note) → v.note ≡ Some n → notes_after (suc k) (v ∷ vs) ≡ notes_after k vs ++ n ∷ []
 one_more k v vs n is = ap reverse (some_noted v (take k vs) n is) ∙ reverse-append (n ∷ []) (notes_of (take k vs))
 
 -- there are as many records as later versions
-pub counted : (k : ℕ) (v : Version) (ws : List Version) (x : Version) → FollowFrom v ws → slice_get (v ∷ ws) k ≡ Some x → length (notes_behind k (v ∷ ws)) ≡ k
+pub counted : (k : ℕ) (v : Version) (ws : List Version) (x : Version) → FollowFrom v ws → slice_get (v ∷ ws) k ≡ Some x → length (notes_after k (v ∷ ws)) ≡ k
 counted zero v ws x follows is = refl
 counted (suc k) v [] x follows is = cc
 counted (suc k) v (w ∷ ws) x follows is =
-    let one : length (notes_behind (suc k) (v ∷ w ∷ ws)) ≡ length (notes_behind k (w ∷ ws)) + 1 = ap length (one_more k v (w ∷ ws) follows.0.0 follows.0.1) ∙ length-append (notes_behind k (w ∷ ws)) (follows.0.0 ∷ []) in
+    let one : length (notes_after (suc k) (v ∷ w ∷ ws)) ≡ length (notes_after k (w ∷ ws)) + 1 = ap length (one_more k v (w ∷ ws) follows.0.0 follows.0.1) ∙ length-append (notes_after k (w ∷ ws)) (follows.0.0 ∷ []) in
     omega (arith, one, counted k w ws x follows.2 is)
 
 low_tags : (k n : ℕ) (ws : List Version) → k < n → AllByRecursion (λ w. w.tag < k) ws → AllByRecursion (λ w. w.tag < n) ws
@@ -162,7 +162,7 @@ append_all : (P : Note → Type 0) (ns : List Note) (n : Note) → AllByRecursio
 append_all P [] n all here = (here, tt)
 append_all P (m ∷ ns) n all here = (all.0, append_all P ns n all.1 here)
 
-begins : (k : ℕ) (v : Version) (ws : List Version) (x : Version) → FollowFrom v ws → slice_get (v ∷ ws) (suc k) ≡ Some x → Begins x.tag (notes_behind (suc k) (v ∷ ws))
+begins : (k : ℕ) (v : Version) (ws : List Version) (x : Version) → FollowFrom v ws → slice_get (v ∷ ws) (suc k) ≡ Some x → Begins x.tag (notes_after (suc k) (v ∷ ws))
 begins k v [] x follows is = absurd cc
 begins zero v (w ∷ ws) x follows is =
     let same : w ≡ x = cc in record {
@@ -209,13 +209,13 @@ by_number : (next : ℕ) (d : Document) (number : ℕ) (v : Version) → IsKept 
 by_number next d zero v kept is = let same : d.now ≡ v = cc in ap (λ (b : Bool). cond b (ReportedChanges []) (changes_since_of (notes_from v.tag (retained (notes d))))) (eq-eqb d.now.tag v.tag (ap (λ (x : Version). x.tag) same))
 by_number next d (suc k) v kept is = by (d.now.tag == v.tag) refl
   where
-    r : Begins v.tag (notes_behind (suc k) (versions d))
+    r : Begins v.tag (notes_after (suc k) (versions d))
     r = begins k d.now d.earlier v kept.follows is
 
     whole : notes d ≡ reverse (notes_of (drop (suc k) (versions d))) ++ r.first ∷ r.later
     whole = split_from (suc k) (versions d) ∙ ap (λ (l : List Note). reverse (notes_of (drop (suc k) (versions d))) ++ l) r.parts
 
-    known : notes_from v.tag (retained (notes d)) ≡ whole_or_none weight (notes_behind (suc k) (versions d))
+    known : notes_from v.tag (retained (notes d)) ≡ whole_or_none weight (notes_after (suc k) (versions d))
     known =
         ap (λ (l : List Note). notes_from v.tag (small_end weight l)) whole
         ∙ from_retained weight v.tag r.first r.later r.goes_on r.above (reverse (notes_of (drop (suc k) (versions d))))
@@ -228,7 +228,7 @@ by_number next d (suc k) v kept is = by (d.now.tag == v.tag) refl
 
     by : (b : Bool) → d.now.tag == v.tag ≡ b → cond b (ReportedChanges []) (changes_since_of (notes_from v.tag (retained (notes d)))) ≡ changes_from (suc k) d
     by true e = absurd (omega (arith, eqb-true d.now.tag v.tag e, earlier_tag d.now d.earlier k v kept.follows is))
-    by false e = ap changes_since_of known ∙ by_test (is_retainable weight (notes_behind (suc k) (versions d))) (notes_behind (suc k) (versions d))
+    by false e = ap changes_since_of known ∙ by_test (is_retainable weight (notes_after (suc k) (versions d))) (notes_after (suc k) (versions d))
 
 pub known_exactly : (c : StoreContents) (m : State) (id : DocId) (d : Document) (number : ℕ) (v : Version) → IsValidState m → Represents c m → document_in document_name m.documents id ≡ Some d → slice_get (versions d) number ≡ Some v → since c id v.tag ≡ changes_from number d
 known_exactly c m id d number v kept stands there is =
@@ -244,9 +244,9 @@ retainable w (x ∷ y ∷ xs) few light = by (length (x ∷ y ∷ xs)) (sum_by w
     by n s few light = grind (arith, nat_tests)
 
 pub near_is_known : (c : StoreContents) (m : State) (id : DocId) (d : Document) (number : ℕ) (v : Version) → IsValidState m → Represents c m → document_in document_name m.documents id ≡ Some d → slice_get (versions d) number ≡ Some v
-    → number ≤ 64 → sum_by weight (notes_behind number (versions d)) ≤ 65536 → since c id v.tag ≡ ReportedChanges (notes_behind number (versions d))
+    → number ≤ 64 → sum_by weight (notes_after number (versions d)) ≤ 65536 → since c id v.tag ≡ ReportedChanges (notes_after number (versions d))
 near_is_known c m id d number v kept stands there is few light =
     let follows : FollowFrom d.now d.earlier = (found_all (IsKept m.next) (λ x. same_id id x.id) m.documents d kept.documents there).follows in
-    let ns = notes_behind number (versions d) in
+    let ns = notes_after number (versions d) in
     let whole : is_retainable weight ns ≡ true = retainable weight ns (omega (arith, few, counted number d.now d.earlier v follows is)) light in
     known_exactly c m id d number v kept stands there is ∙ ap (λ (b : Bool). cond b (ReportedChanges ns) Unknown) whole

@@ -9,15 +9,15 @@ use Rattle.edit_ops.specs.declared.change.Change.{Change}
 use Rattle.edit_ops.specs.declared.edit.Edit.{Edit}
 use Rattle.edit_ops.specs.Notes.{Note, note_of}
 use Rattle.edit_ops.specs.Operations.{weight}
-use Rattle.element_watch.specs.SelectionHistory.{notes_behind}
+use Rattle.element_watch.specs.SelectionHistory.{notes_after}
 use Rattle.store_core.specs.Contents.{stock_of}
 use Rattle.store_core.specs.DocumentChanges.{Act, Edits, Makes, Removes, act_of, after_act, document_in, document_name}
 use Rattle.store_core.specs.Since.{ReportedChanges, Unknown, since}
-use Rattle.store_core.specs.State.{Document, State, Version, created, renewed, versions}
+use Rattle.store_core.specs.State.{Document, State, Version, created, document_after, versions}
 use Rattle.store_core.specs.ValidStates.{IsKept, IsValidState}
 use Rattle.store_core.proofs.Chains.{notes_of}
 use Rattle.xcap_machine.specs.Answers.{Made}
-use Rattle.xcap_machine.specs.Machine.{after_answer, told_as}
+use Rattle.xcap_machine.specs.Machine.{after_answer, made_from}
 use Rattle.xcap_machine.specs.Versions.{ComesTo, HasVersion, goes_on, stays}
 use Rattle.xcap_machine.proofs.Documents.{found_edited, found_less, found_more}
 use Rattle.xcap_machine.proofs.OneVersion.{found_all}
@@ -63,7 +63,7 @@ first_past [] vs = refl
 first_past (w ∷ news) vs = first_past news vs
 
 -- the changes to a version between, and those since it
-pub notes_in_two : (news vs : List Version) (i : ℕ) → notes_behind (length news + i) (news ++ vs) ≡ notes_behind i vs ++ notes_behind (length news) (news ++ vs)
+pub notes_in_two : (news vs : List Version) (i : ℕ) → notes_after (length news + i) (news ++ vs) ≡ notes_after i vs ++ notes_after (length news) (news ++ vs)
 notes_in_two news vs i =
     ap (λ (l : List Version). reverse (notes_of l)) (taken_past news vs i)
     ∙ ap reverse (noted_append news (take i vs))
@@ -72,11 +72,11 @@ notes_in_two news vs i =
 
 -- ---- known changes
 
-known_notes : (number : ℕ) (d : Document) (ns : List Note) → changes_from number d ≡ ReportedChanges ns → (is_retainable weight (notes_behind number (versions d)) ≡ true) × (notes_behind number (versions d) ≡ ns)
-known_notes number d ns is = by (is_retainable weight (notes_behind number (versions d))) refl is
+known_notes : (number : ℕ) (d : Document) (ns : List Note) → changes_from number d ≡ ReportedChanges ns → (is_retainable weight (notes_after number (versions d)) ≡ true) × (notes_after number (versions d) ≡ ns)
+known_notes number d ns is = by (is_retainable weight (notes_after number (versions d))) refl is
   where
-    by : (b : Bool) → is_retainable weight (notes_behind number (versions d)) ≡ b → cond b (ReportedChanges (notes_behind number (versions d))) Unknown ≡ ReportedChanges ns
-        → (is_retainable weight (notes_behind number (versions d)) ≡ true) × (notes_behind number (versions d) ≡ ns)
+    by : (b : Bool) → is_retainable weight (notes_after number (versions d)) ≡ b → cond b (ReportedChanges (notes_after number (versions d))) Unknown ≡ ReportedChanges ns
+        → (is_retainable weight (notes_after number (versions d)) ≡ true) × (notes_after number (versions d) ≡ ns)
     by true e s = (e, cc)
     by false e s = absurd cc
 
@@ -99,8 +99,8 @@ record AreLater (first : ℕ) (id : DocId) (d : Document) (s : State) : Type 0 w
 later_made : (first : ℕ) (d e : Document) (other : DocId) (next : ℕ) (root : _) → first ≤ next → e ≡ created other next root → IsLater first d e
 later_made first d e other next root le same = subst (IsLater first d) (sym same) (inr (le, tt))
 
-later_edited : (first : ℕ) (d e : Document) (next : ℕ) (n : Note) → first ≤ next → IsLater first d e → IsLater first d (renewed next e n)
-later_edited first d e next n le (inl h) = inl ((renewed next e n).now ∷ h.0, ap (λ (l : List Version). (renewed next e n).now ∷ l) h.1)
+later_edited : (first : ℕ) (d e : Document) (next : ℕ) (n : Note) → first ≤ next → IsLater first d e → IsLater first d (document_after next e n)
+later_edited first d e next n le (inl h) = inl ((document_after next e n).now ∷ h.0, ap (λ (l : List Version). (document_after next e n).now ∷ l) h.1)
 later_edited first d e next n le (inr h) = inr (le, h)
 
 next_up : (s : State) (id : DocId) (change : Change) (act : Act) → s.next ≤ (after_act s id change act).next
@@ -109,7 +109,7 @@ next_up s id change Edits = omega arith
 next_up s id change Removes = omega arith
 
 module _ (first : ℕ) (id : DocId) (d : Document) where
-  edited_one : (s : State) (x e : Document) (n : Note) → AreLater first id d s → document_in document_name s.documents id ≡ Some x → (e ≡ x) ⊎ (e ≡ renewed s.next x n) → IsLater first d e
+  edited_one : (s : State) (x e : Document) (n : Note) → AreLater first id d s → document_in document_name s.documents id ≡ Some x → (e ≡ x) ⊎ (e ≡ document_after s.next x n) → IsLater first d e
   edited_one s x e n h there (inl same) = subst (IsLater first d) (sym same) (h.all x there)
   edited_one s x e n h there (inr same) = subst (IsLater first d) (sym same) (later_edited first d x s.next n h.given (h.all x there))
 
@@ -131,9 +131,9 @@ module _ (first : ℕ) (id : DocId) (d : Document) where
     all = after_one s made.0 made.1.change (act_of made.1.change) h;
   }
 
-  after_told : (s : State) (edit : Option Edit) → AreLater first id d s → AreLater first id d (after_answer s (option_map told_as edit))
+  after_told : (s : State) (edit : Option Edit) → AreLater first id d s → AreLater first id d (after_answer s (option_map made_from edit))
   after_told s None h = h
-  after_told s (Some e) h = after_made s (told_as e) h
+  after_told s (Some e) h = after_made s (made_from e) h
 
   after_steps : (root : List ℕ) (m n : State) → ComesTo root m n → AreLater first id d m → AreLater first id d n
   after_steps root _ _ (stays m) h = h
@@ -176,14 +176,14 @@ told_once root m n id d number u earlier all kept reaches there is has before no
     let kept_on = valid_after root m n reaches kept in
     let more = still_there root m n id d kept reaches there has in
     let k = length more.0 in
-    let old : notes_behind number (versions d) ≡ earlier = (known_notes number d earlier (sym (known_exactly (stock_of m) m id d number u kept refl there is) ∙ before)).1 in
+    let old : notes_after number (versions d) ≡ earlier = (known_notes number d earlier (sym (known_exactly (stock_of m) m id d number u kept refl there is) ∙ before)).1 in
     let u_there : slice_get (versions e) (k + number) ≡ Some u = ap (λ (l : List Version). slice_get l (k + number)) more.1 ∙ item_past more.0 (versions d) number ∙ is in
     let v_there : slice_get (versions e) k ≡ Some d.now = ap (λ (l : List Version). slice_get l k) more.1 ∙ first_past more.0 (versions d) in
     let whole = known_notes (k + number) e all (sym (known_exactly (stock_of n) n id e (k + number) u kept_on refl has.there u_there) ∙ now) in
-    let parts : notes_behind (k + number) (versions e) ≡ notes_behind number (versions d) ++ notes_behind k (versions e) =
-    ap (notes_behind (k + number)) more.1 ∙ notes_in_two more.0 (versions d) number ∙ ap (λ (l : List Version). notes_behind number (versions d) ++ notes_behind k l) (sym more.1) in
-    let rest : is_retainable weight (notes_behind k (versions e)) ≡ true = retainable_end weight (notes_behind number (versions d)) (notes_behind k (versions e)) (ap (is_retainable weight) (sym parts) ∙ whole.0) in (
-      notes_behind k (versions e),
-      known_exactly (stock_of n) n id e k d.now kept_on refl has.there v_there ∙ ap (λ (b : Bool). cond b (ReportedChanges (notes_behind k (versions e))) Unknown) rest,
-      sym whole.1 ∙ parts ∙ ap (λ (l : List Note). l ++ notes_behind k (versions e)) old,
+    let parts : notes_after (k + number) (versions e) ≡ notes_after number (versions d) ++ notes_after k (versions e) =
+    ap (notes_after (k + number)) more.1 ∙ notes_in_two more.0 (versions d) number ∙ ap (λ (l : List Version). notes_after number (versions d) ++ notes_after k l) (sym more.1) in
+    let rest : is_retainable weight (notes_after k (versions e)) ≡ true = retainable_end weight (notes_after number (versions d)) (notes_after k (versions e)) (ap (is_retainable weight) (sym parts) ∙ whole.0) in (
+      notes_after k (versions e),
+      known_exactly (stock_of n) n id e k d.now kept_on refl has.there v_there ∙ ap (λ (b : Bool). cond b (ReportedChanges (notes_after k (versions e))) Unknown) rest,
+      sym whole.1 ∙ parts ∙ ap (λ (l : List Note). l ++ notes_after k (versions e)) old,
     )

@@ -20,7 +20,7 @@ use Rattle.reply_text.specs.ReplyHeads.{SentReply}
 use Rattle.request_checks.specs.Methods.{method_of}
 use Rattle.request_checks.specs.declared.method.Method.{Method}
 use Rattle.store_core.specs.Contents.{StoredDocument, StoreContents as Content, stock_of, stored_of}
-use Rattle.store_core.specs.DocumentChanges.{Act, Makes, Edits, Removes, act_of, after_act, against, against_number, against_tree, answered, changing, content_after, document_in, note_for, stored_name}
+use Rattle.store_core.specs.DocumentChanges.{Act, Makes, Edits, Removes, act_of, after_act, refusal_of, refusal_of_number, refusal_of_tree, refusal_or, change_result, content_after, document_in, note_for, stored_name}
 use Rattle.store_core.specs.Queries.{Asks, AsksAct}
 use Rattle.store_core.specs.State.{Document, State, Version, first_state, is_small, notes, small_end, versions}
 use Rattle.store_core.specs.ValidStates.{IsKept, IsSoundFor, IsValidState}
@@ -96,7 +96,7 @@ none_after : {A : Type 0} (a b : Option A) → or_else a b ≡ None → b ≡ No
 none_after None b h = h
 none_after (Some x) b h = cc
 
-fits : (c : Content) → against_number c ≡ None → c.next < 18446744073709551616
+fits : (c : Content) → refusal_of_number c ≡ None → c.next < 18446744073709551616
 fits c h = by (nat_le 18446744073709551616 c.next) refl h
   where
     under : (n : ℕ) → nat_le 18446744073709551616 n ≡ false → n < 18446744073709551616
@@ -106,24 +106,24 @@ fits c h = by (nat_le 18446744073709551616 c.next) refl h
     by true e s = cc
     by false e s = under c.next e
 
-by_act : (c : Content) (id : DocId) (change : Change) (act : Act) (held : Option StoredDocument) → AsksAct c id change act → document_in stored_name c.documents id ≡ held → against c id change held act ≡ None → c.next < 18446744073709551616
-by_act c id change (Makes root) held asks is h = fits c (none_after (against_tree c id true root) (against_number c) h)
-by_act c id change Edits (Some d) asks is h = fits c (none_after (against_tree c id false (edited d.tree change)) (against_number c) h)
+by_act : (c : Content) (id : DocId) (change : Change) (act : Act) (held : Option StoredDocument) → AsksAct c id change act → document_in stored_name c.documents id ≡ held → refusal_of c id change held act ≡ None → c.next < 18446744073709551616
+by_act c id change (Makes root) held asks is h = fits c (none_after (refusal_of_tree c id true root) (refusal_of_number c) h)
+by_act c id change Edits (Some d) asks is h = fits c (none_after (refusal_of_tree c id false (edited d.tree change)) (refusal_of_number c) h)
 by_act c id change Edits None asks is h = absurd (asked asks)
   where
     asked : AsksAct c id change Edits → ⊥
     asked a = rw is at a
 by_act c id change Removes held asks is h = fits c h
 
-not_refused : (o : Option StoreRefusal) (note told : Note) (c next : Content) → answered o note c ≡ Ok (told, next) → o ≡ None
+not_refused : (o : Option StoreRefusal) (note told : Note) (c next : Content) → refusal_or o note c ≡ Ok (told, next) → o ≡ None
 not_refused None note told c next h = refl
 not_refused (Some refusal) note told c next h = cc
 
 -- a change that the store makes gets a number of 64 bits
-number_fits : (c : Content) (id : DocId) (change : Change) (note : Note) (next : Content) → Asks c id change → changing c id change ≡ Ok (note, next) → c.next < 18446744073709551616
+number_fits : (c : Content) (id : DocId) (change : Change) (note : Note) (next : Content) → Asks c id change → change_result c id change ≡ Ok (note, next) → c.next < 18446744073709551616
 number_fits c id change note next asks h =
     let held = document_in stored_name c.documents id in
-    by_act c id change (act_of change) held asks refl (not_refused (against c id change held (act_of change)) (note_for c id change held) note (content_after c id change) next h)
+    by_act c id change (act_of change) held asks refl (not_refused (refusal_of c id change held (act_of change)) (note_for c id change held) note (content_after c id change) next h)
 
 next_number : (m : State) (id : DocId) (change : Change) (act : Act) → (after_act m id change act).next ≡ m.next + 1
 next_number m id change (Makes root) = refl

@@ -22,7 +22,7 @@ use Rattle.xcap_laws.specs.Tags.{ChangesNamed, IfMatchSays, IsPresent, Names}
 use Rattle.xcap_machine.proofs.SubscriberLemmas.{one_of_a_tag}
 use Rattle.xcap_machine.proofs.OneVersion.{found_all, held_there}
 use Rattle.xcap_machine.specs.Laws.{ChangesNothing}
-use Rattle.xcap_machine.specs.Machine.{Does, ValidStep, content_after_answer, told_as}
+use Rattle.xcap_machine.specs.Machine.{Does, ValidStep, content_after_answer, made_from}
 use Rattle.xcap_machine.specs.Resources.{version_of}
 use Rattle.xcap_machine.specs.Versions.{ComesTo, HasVersion}
 use Rattle.xcap_machine.specs.inner.Cases.{version_tag as tag_of}
@@ -64,14 +64,14 @@ never_made : (c : Content) (e : Edit) (s : StoredDocument) (root : Tree) → doc
 never_made c e s root there asks = let both : None ≡ Some s = sym asks.0 ∙ there in cc
 
 module _ (root : List ℕ) (n next : State) (request : Request) (reply : SentReply) (e : Edit) (tag : EntityTag) (step : ValidStep root n request reply next (Some e)) (says : IfMatchSays request (Tags (tag ∷ []))) where
-  does : Does root (stock_of n) request reply (content_after_answer (stock_of n) (Some (told_as e))) (Some e)
+  does : Does root (stock_of n) request reply (content_after_answer (stock_of n) (Some (made_from e))) (Some e)
   does = record { answers = step.1.answers; goes_on = refl }
 
   holds_by : (o : Option Document) → document_in document_name n.documents e.doc ≡ o → is_strongly_own (tag_of (seen (option_map stored_of o))) tag ≡ true → HoldsNamed n e tag
   holds_by None is h = absurd (true≢false (sym h ∙ not_own tag))
   holds_by (Some d) is h =
       let stored : document_in stored_name (stock_of n).documents e.doc ≡ Some (stored_of d) = held_there n.documents e.doc ∙ ap (λ (o : Option Document). option_map stored_of o) is in
-      let made = change_made root (stock_of n) (content_after_answer (stock_of n) (Some (told_as e))) request reply e does in
+      let made = change_made root (stock_of n) (content_after_answer (stock_of n) (Some (made_from e))) request reply e does in
       record {
         document = d;
         there = is;
@@ -84,7 +84,7 @@ module _ (root : List ℕ) (n next : State) (request : Request) (reply : SentRep
 
   holds_named : HoldsNamed n e tag
   holds_named =
-      let p = passes root (stock_of n) (content_after_answer (stock_of n) (Some (told_as e))) request reply e does in
+      let p = passes root (stock_of n) (content_after_answer (stock_of n) (Some (made_from e))) request reply e does in
       let here : is_strongly_own (tag_of (version_of (stock_of n) e.doc)) tag ≡ true = only_own (tag_of (version_of (stock_of n) e.doc)) tag (matched request (tag_of (version_of (stock_of n) e.doc)) p.exists (Tags (tag ∷ [])) p.free says) in
       holds_by (document_in document_name n.documents e.doc) refl (subst (λ (o : Option StoredDocument). is_strongly_own (tag_of (seen o)) tag ≡ true) (held_there n.documents e.doc) here)
 

@@ -133,7 +133,7 @@ module _ (resolve : Reference → Option ResolvedReference) (root uri : List ℕ
     of_reference s (Some r) e (inl same) = absurd (let never : mark ≡ address uri = same in cc)
     of_reference s (Some r) e (inr h) = let l = comes r h in lead s r l.0 e l.1 l.2
 
-    of_kind : (kind : ElementKind) (c : Scope) (e : Tree) (items : List Item) → (IsIn (address uri) items → InChild kinds.EntryList c e.content) → IsIn (address uri) (kind_items behind root kind e.attrs e.content items)
+    of_kind : (kind : ElementKind) (c : Scope) (e : Tree) (items : List Item) → (IsIn (address uri) items → InChild kinds.EntryList c e.content) → IsIn (address uri) (kind_items behind root kind e items)
         → IsMet resolve root uri (record { kind = kind; scope = c; element = e })
     of_kind kinds.Entry c e items inner h = of_entry (record { kind = kinds.Entry; scope = c; element = e }) refl (value_of Uri e.attrs) refl h
     of_kind kinds.EntryList c e items inner h = from_child (record { kind = kinds.EntryList; scope = c; element = e }) (inner h)
@@ -152,7 +152,7 @@ module _ (resolve : Reference → Option ResolvedReference) (root uri : List ℕ
 
     by_kind : (row : ElementKind) (c : Scope) (n : Name) (ds : List Decl) (ats : List Attr) (k : Content) (t : List ℕ) (rest : Content) (o : Option ElementKind) → kind_of row (c ++ ds ∷ []) n ≡ o
         → (IsIn (address uri) (walked behind root kinds.EntryList (c ++ ds ∷ []) k) → InChild kinds.EntryList (c ++ ds ∷ []) k)
-        → IsIn (address uri) (option_map_or (λ kind. kind_items behind root kind ats k (walked behind root kinds.EntryList (c ++ ds ∷ []) k)) o [])
+        → IsIn (address uri) (option_map_or (λ kind. kind_items behind root kind (tree n ds ats k) (walked behind root kinds.EntryList (c ++ ds ∷ []) k)) o [])
         → InChild row c (more t n ds ats k rest)
     by_kind row c n ds ats k t rest None e inner h = absurd h
     by_kind row c n ds ats k t rest (Some kind) e inner h =
@@ -164,10 +164,10 @@ module _ (resolve : Reference → Option ResolvedReference) (root uri : List ℕ
     of_walked row c (comment_node t x rest) h = of_walked row c rest h
     of_walked row c (more t n ds ats k rest) h =
         by (of_walked kinds.EntryList (c ++ ds ∷ []) k) (of_walked row c rest)
-        (in_either (address uri) (option_map_or (λ kind. kind_items behind root kind ats k (walked behind root kinds.EntryList (c ++ ds ∷ []) k)) (kind_of row (c ++ ds ∷ []) n) []) (walked behind root row c rest) h)
+        (in_either (address uri) (option_map_or (λ kind. kind_items behind root kind (tree n ds ats k) (walked behind root kinds.EntryList (c ++ ds ∷ []) k)) (kind_of row (c ++ ds ∷ []) n) []) (walked behind root row c rest) h)
       where
         by : (IsIn (address uri) (walked behind root kinds.EntryList (c ++ ds ∷ []) k) → InChild kinds.EntryList (c ++ ds ∷ []) k) → (IsIn (address uri) (walked behind root row c rest) → InChild row c rest)
-            → IsIn (address uri) (option_map_or (λ kind. kind_items behind root kind ats k (walked behind root kinds.EntryList (c ++ ds ∷ []) k)) (kind_of row (c ++ ds ∷ []) n) []) ⊎ IsIn (address uri) (walked behind root row c rest)
+            → IsIn (address uri) (option_map_or (λ kind. kind_items behind root kind (tree n ds ats k) (walked behind root kinds.EntryList (c ++ ds ∷ []) k)) (kind_of row (c ++ ds ∷ []) n) []) ⊎ IsIn (address uri) (walked behind root row c rest)
             → InChild row c (more t n ds ats k rest)
         by inner others (inl here) = by_kind row c n ds ats k t rest (kind_of row (c ++ ds ∷ []) n) refl inner here
         by inner others (inr later) = later_child row c t n ds ats k rest (others later)

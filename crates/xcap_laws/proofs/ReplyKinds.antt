@@ -6,8 +6,8 @@ use Rattle.reply_text.specs.ReplyHeads.{HeadFields, SentReply, bytes_of, sent}
 use Rattle.request_checks.specs.Methods.{method_of}
 use Rattle.request_checks.specs.declared.method.Method.TheVariants.{Get, Head}
 use Rattle.store_core.specs.Contents.{StoreContents}
-use Rattle.xcap_client.specs.Limits.{max_response_body_bytes}
-use Rattle.xcap_client.specs.Responses.{SaysResponse}
+use Rattle.xcap_client.specs.declared.body_length.TheConstants.{MAX_RESPONSE_BODY_BYTES}
+use Rattle.xcap_client.specs.Responses.{IsResponseOf}
 use Rattle.xcap_client.specs.declared.response_fault.ResponseFault.TheVariants.{TooLong}
 use Rattle.xcap_laws.proofs.AnswerKinds.{Kind, kind_of, plain_fields, shows, unmodified, untagged, writes}
 use Rattle.xcap_laws.proofs.HeadOfGet.{head_is_get}
@@ -63,18 +63,18 @@ framed_reply reply (fixed status closes lawful same) = record {
   framed = record { lawful = lawful; size = refl; bodiless = λ _. refl };
 }
 
-pub is_read_back : (reply : SentReply) → IsWhole reply → length reply.body ≤ max_response_body_bytes → IsReadBack reply
+pub is_read_back : (reply : SentReply) → IsWhole reply → length reply.body ≤ MAX_RESPONSE_BODY_BYTES → IsReadBack reply
 is_read_back reply whole short =
     let r = framed_reply reply whole in
-    let within = subst (λ (x : SentReply). length x.body ≤ max_response_body_bytes) r.is_sent short in
+    let within = subst (λ (x : SentReply). length x.body ≤ MAX_RESPONSE_BODY_BYTES) r.is_sent short in
     subst (λ (x : SentReply). IsReadBack x) (sym r.is_sent) (read_back r.fields r.body r.framed within)
 
-pub is_refused : (reply : SentReply) (more : List ℕ) → IsCounted reply → max_response_body_bytes < length reply.body → SaysResponse (bytes_of reply ++ more) (Err (TooLong (length reply.body)))
+pub is_refused : (reply : SentReply) (more : List ℕ) → IsCounted reply → MAX_RESPONSE_BODY_BYTES < length reply.body → IsResponseOf (bytes_of reply ++ more) (Err (TooLong (length reply.body)))
 is_refused reply more counted long =
     let r = framed_reply reply counted.whole in
-    let beyond = subst (λ (x : SentReply). max_response_body_bytes < length x.body) r.is_sent long in
+    let beyond = subst (λ (x : SentReply). MAX_RESPONSE_BODY_BYTES < length x.body) r.is_sent long in
     let countable = subst (λ (x : SentReply). length x.body < 18446744073709551616) r.is_sent counted.countable in
-    subst (λ (x : SentReply). SaysResponse (bytes_of x ++ more) (Err (TooLong (length x.body)))) (sym r.is_sent) (longer r.fields r.body more r.framed beyond countable)
+    subst (λ (x : SentReply). IsResponseOf (bytes_of x ++ more) (Err (TooLong (length x.body)))) (sym r.is_sent) (longer r.fields r.body more r.framed beyond countable)
 
 -- ---- HEAD
 

@@ -17,8 +17,8 @@ use Rattle.reply_text.specs.declared.media_types.MediaType.TheVariants as medias
 use Rattle.xcap_client.proofs.Visible.{passes}
 use Rattle.xcap_client.specs.BodyLengths.{body_to, extent_by, within_limit}
 use Rattle.xcap_client.specs.Heads.{BeginsWithHead}
-use Rattle.xcap_client.specs.Limits.{max_response_body_bytes}
-use Rattle.xcap_client.specs.Responses.{SaysResponse, extent_of, refused, responds, response_of}
+use Rattle.xcap_client.specs.declared.body_length.TheConstants.{MAX_RESPONSE_BODY_BYTES}
+use Rattle.xcap_client.specs.Responses.{IsResponseOf, extent_of, refused, responds, response_of}
 use Rattle.xcap_client.specs.Tags.{TagIs}
 use Rattle.xcap_client.specs.declared.body_length.BodyLength.{BodyLength}
 use Rattle.xcap_client.specs.declared.body_length.BodyLength.TheVariants.{Empty, Exactly}
@@ -27,7 +27,7 @@ use Rattle.xcap_client.specs.declared.response_fault.ResponseFault.TheVariants.{
 use Rattle.xcap_laws.proofs.DecimalDigits.{all_digits, few_digits, three_digits}
 use Rattle.xcap_laws.proofs.ReplyFields.{extent_for, extent_is, fields_of, parsed, tag_is}
 use Rattle.xcap_laws.proofs.ReplyLines.{IsPhrase, Line, a_phrase, allow_lines, close_lines, framed_status, lines_of, media_lines, printed, size_lines, tag_lines, tree, tree_of}
-use Rattle.xcap_laws.specs.ReadReplies.{IsReadBack}
+use Rattle.xcap_laws.specs.ReadReplies.{IsReadBack, response_to}
 
 -- # The status
 
@@ -193,37 +193,39 @@ pub record IsFramedBy (f : HeadFields) (body : List ℕ) : Type 0 where
   pub size : f.size ≡ length body
   pub bodiless : (f.status == 304) ≡ true → body ≡ []
 
-pub body_read : (size : ℕ) (body more : List ℕ) (bodiless : Bool) → size ≡ length body → (bodiless ≡ true → body ≡ []) → length body ≤ max_response_body_bytes → body_to (extent_for bodiless size) (body ++ more) ≡ Ok body
+pub body_read : (size : ℕ) (body more : List ℕ) (bodiless : Bool) → size ≡ length body → (bodiless ≡ true → body ≡ []) → length body ≤ MAX_RESPONSE_BODY_BYTES → body_to (extent_for bodiless size) (body ++ more) ≡ Ok body
 body_read size body more true same none short = ap Ok (sym (none refl))
 body_read size body more false same none short =
-    rw (le-ltb max_response_body_bytes size (omega (arith, same, short)), le-ltb (length (body ++ more)) size (omega (arith, same, length-append body more)))
+    rw (le-ltb MAX_RESPONSE_BODY_BYTES size (omega (arith, same, short)), le-ltb (length (body ++ more)) size (omega (arith, same, length-append body more)))
     (ap Ok (take_at body more size (sym same)))
 
 pub tag_read : (f : HeadFields) → TagIs (map name_and_value (tree_of f).fields) (option_map decimal f.tag)
 tag_read f = subst (λ (l : List Line). TagIs l (option_map decimal f.tag)) (sym (parsed f)) (tag_is f)
 
-pub read_back : (f : HeadFields) (body : List ℕ) → IsFramedBy f body → length body ≤ max_response_body_bytes → IsReadBack (sent f body)
-read_back f body framed short =
+pub says_back : (f : HeadFields) (body more : List ℕ) → IsFramedBy f body → length body ≤ MAX_RESPONSE_BODY_BYTES → IsResponseOf (bytes_of (sent f body) ++ more) (Ok (response_to (sent f body) f.tag))
+says_back f body more framed short =
     let small : f.size < 2 ^ 64 = omega (arith, framed.size, short) in
-    record {
-      fields = f;
-      is_sent = refl;
-      head = tree_of f;
-      begins = λ more. begins_reply f body more framed.lawful;
-      says = λ more.
-          responds (tree_of f) (body ++ more) (option_map decimal f.tag) body (begins_reply f body more framed.lawful) (tag_read f)
-          (ap (λ (e : Result BodyLength ResponseFault). body_to e (body ++ more)) (extent f framed.lawful small) ∙ body_read f.size body more (f.status == 304) framed.size framed.bodiless short)
-          (ap (λ (n : ℕ). Ok (record { status = n; tag = option_map decimal f.tag; body = body })) (sym (code_is f framed.lawful)));
-    }
+    responds (tree_of f) (body ++ more) (option_map decimal f.tag) body (begins_reply f body more framed.lawful) (tag_read f)
+    (ap (λ (e : Result BodyLength ResponseFault). body_to e (body ++ more)) (extent f framed.lawful small) ∙ body_read f.size body more (f.status == 304) framed.size framed.bodiless short)
+    (ap (λ (n : ℕ). Ok (record { status = n; tag = option_map decimal f.tag; body = body })) (sym (code_is f framed.lawful)))
 
-too_long : (size : ℕ) (rest : List ℕ) → max_response_body_bytes < size → body_to (within_limit size) rest ≡ Err (TooLong size)
-too_long size rest long = rw (lt-ltb max_response_body_bytes size long) refl
+pub read_back : (f : HeadFields) (body : List ℕ) → IsFramedBy f body → length body ≤ MAX_RESPONSE_BODY_BYTES → IsReadBack (sent f body)
+read_back f body framed short = record {
+  fields = f;
+  is_sent = refl;
+  head = tree_of f;
+  begins = λ more. begins_reply f body more framed.lawful;
+  says = λ more. says_back f body more framed short;
+}
+
+too_long : (size : ℕ) (rest : List ℕ) → MAX_RESPONSE_BODY_BYTES < size → body_to (within_limit size) rest ≡ Err (TooLong size)
+too_long size rest long = rw (lt-ltb MAX_RESPONSE_BODY_BYTES size long) refl
 
 -- a body beyond the limit, which is no 304's
-pub longer : (f : HeadFields) (body more : List ℕ) → IsFramedBy f body → max_response_body_bytes < length body → length body < 2 ^ 64 → SaysResponse (bytes_of (sent f body) ++ more) (Err (TooLong (length body)))
+pub longer : (f : HeadFields) (body more : List ℕ) → IsFramedBy f body → MAX_RESPONSE_BODY_BYTES < length body → length body < 2 ^ 64 → IsResponseOf (bytes_of (sent f body) ++ more) (Err (TooLong (length body)))
 longer f body more framed long countable = by (f.status == 304) refl
   where
-    by : (b : Bool) → (f.status == 304) ≡ b → SaysResponse (bytes_of (sent f body) ++ more) (Err (TooLong (length body)))
+    by : (b : Bool) → (f.status == 304) ≡ b → IsResponseOf (bytes_of (sent f body) ++ more) (Err (TooLong (length body)))
     by true is = absurd (omega (arith, long, ap length (framed.bodiless is)))
     by false is =
         let small : f.size < 2 ^ 64 = omega (arith, framed.size, countable) in

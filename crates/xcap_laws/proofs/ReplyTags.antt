@@ -17,13 +17,14 @@ use Rattle.store_core.specs.Indexes.{index}
 use Rattle.store_core.specs.State.{Document, State}
 use Rattle.store_core.specs.ValidStates.{IsValidState}
 use Rattle.usage_docs.specs.Capabilities.{capabilities}
-use Rattle.usage_docs.specs.Services.{document_len, index_limit}
+use Rattle.usage_docs.specs.Services.{document_len}
+use Rattle.usage_docs.specs.declared.service_index.TheConstants.{INDEX_LIMIT}
 use Rattle.xcap_laws.proofs.FreshTags.{low_tag, never_less, number_is_tag}
 use Rattle.xcap_laws.proofs.AnswerKinds.{Kind, kind_of, shows, unmodified, untagged, writes}
 use Rattle.xcap_laws.specs.Tags.{HasTagBelow}
 use Rattle.xcap_machine.proofs.OneVersion.{held_there}
 use Rattle.xcap_machine.specs.Answers.{Answer, Made}
-use Rattle.xcap_machine.specs.Machine.{ValidStep, answer_as, told_as}
+use Rattle.xcap_machine.specs.Machine.{ValidStep, answer_as, made_from}
 use Rattle.xcap_machine.specs.Resources.{LeadsFrom, LeadsUnderGlobal, Resource, absent, beyond_limit, there}
 use Rattle.xcap_machine.specs.Versions.{ComesTo}
 use Rattle.xml_tree.specs.Tree.{Tree}
@@ -40,7 +41,7 @@ module _ (m : State) (kept : IsValidState m) (t : Tree) (tag : ℕ) where
 
   low_global : (auid : Auid) (b : Bool) → LeadsUnderGlobal (stock_of m) auid b (there t tag) → tag < m.next
   low_global ResourceLists b h = let z : there t tag ≡ absent = h in absurd cc
-  low_global RlsServices true h = low_index h.0 (nat_lt index_limit (document_len h.0)) h.2
+  low_global RlsServices true h = low_index h.0 (nat_lt INDEX_LIMIT (document_len h.0)) h.2
   low_global RlsServices false h = let z : there t tag ≡ absent = h in absurd cc
   low_global XcapCaps true h =
       let same : there t tag ≡ there capabilities 0 = h in
@@ -78,7 +79,7 @@ module _ (root : List ℕ) (m n later last : State) (first second : Request) (re
   bound : n.next ≤ e.note.next
   bound = omega (arith, never_less root n later reaches, (number_is_tag root later last second answer e z.1).0)
 
-  edit_rises : (edit : Option Edit) (made : Made) → option_map told_as edit ≡ Some made → ValidStep root m first reply n edit → m.next < n.next
+  edit_rises : (edit : Option Edit) (made : Made) → option_map made_from edit ≡ Some made → ValidStep root m first reply n edit → m.next < n.next
   edit_rises None made is s = let no : None ≡ Some made = is in absurd cc
   edit_rises (Some x) made is s = omega (arith, (number_is_tag root m n first reply x s.1).1)
 

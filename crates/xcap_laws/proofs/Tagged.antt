@@ -8,11 +8,11 @@ use Rattle.edit_ops.specs.Notes.{Note, note_of}
 use Rattle.edit_ops.specs.declared.change.Change.{Change}
 use Rattle.edit_ops.specs.declared.edit.Edit.{Edit}
 use Rattle.store_core.specs.DocumentChanges.{Act, Makes, Edits, Removes, act_of, after, after_act, document_in, document_name, with_document, without_document}
-use Rattle.store_core.specs.State.{Document, State, created, renewed, versions}
+use Rattle.store_core.specs.State.{Document, State, created, document_after, versions}
 use Rattle.store_core.specs.ValidStates.{AreDistinct, IsValidState}
 use Rattle.xcap_laws.proofs.FreshTags.{low_tag, next_number}
 use Rattle.xcap_machine.proofs.OneVersion.{found_all}
-use Rattle.xcap_machine.specs.Machine.{after_answer, told_as}
+use Rattle.xcap_machine.specs.Machine.{after_answer, made_from}
 use Rattle.xcap_machine.specs.Versions.{ComesTo, goes_on, stays}
 use Rattle.xml_tree.specs.Tree.{Tree}
 
@@ -60,11 +60,11 @@ only_holder t id (d ∷ ds) held apart is same = by (same_id id d.id) refl is (�
 -- ---- changes
 
 module _ (t : ℕ) (id : DocId) where
-  replaced : (next : ℕ) (note : Document → Note) (ds : List Document) → t < next → OnlyOne t id ds → HaveOthers t (with_document document_name (λ d. renewed next d (note d)) ds id)
+  replaced : (next : ℕ) (note : Document → Note) (ds : List Document) → t < next → OnlyOne t id ds → HaveOthers t (with_document document_name (λ d. document_after next d (note d)) ds id)
   replaced next note [] less h = tt
   replaced next note (d ∷ ds) less h = (by (same_id id d.id) refl, replaced next note ds less h.1)
     where
-      by : (b : Bool) → same_id id d.id ≡ b → (cond b (renewed next d (note d)) d).now.tag ≡ t → ⊥
+      by : (b : Bool) → same_id id d.id ≡ b → (cond b (document_after next d (note d)) d).now.tag ≡ t → ⊥
       by true e is = let new : next ≡ t = is in omega (arith, less, new)
       by false e is = true≢false (sym (h.0 is) ∙ e)
 
@@ -102,7 +102,7 @@ pub record IsPast (t : ℕ) (m : State) : Type 0 where
   pub given : t < m.next
   pub others : HaveOthers t m.documents
 
-step_past : (t : ℕ) (m : State) (edit : Option Edit) → IsPast t m → IsPast t (after_answer m (option_map told_as edit))
+step_past : (t : ℕ) (m : State) (edit : Option Edit) → IsPast t m → IsPast t (after_answer m (option_map made_from edit))
 step_past t m None h = h
 step_past t m (Some e) h = record {
   given = omega (arith, h.given, next_number m e.doc e.note.change (act_of e.note.change));

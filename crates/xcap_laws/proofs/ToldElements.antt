@@ -10,7 +10,7 @@ use Rattle.edit_ops.specs.Notes.{Note}
 use Rattle.edit_ops.specs.Operations.{weight}
 use Rattle.edit_rules.specs.KeyAddresses.{IsKeyAddressOf}
 use Rattle.element_watch.specs.Elements.{element_notice}
-use Rattle.element_watch.specs.SelectionHistory.{FindSince, Finds, notes_behind}
+use Rattle.element_watch.specs.SelectionHistory.{FindSince, Finds, notes_after}
 use Rattle.element_watch.specs.WatchedElements.{IsElementNotice, IsQuiet, IsStateOf, IsUntouched, SelectsSome, silent_notice}
 use Rattle.element_watch.specs.declared.element_states.ElementState.{ElementState}
 use Rattle.element_watch.specs.declared.element_states.ElementState.TheVariants.{Unchanged, Exists, Missing}
@@ -43,9 +43,9 @@ use Rattle.xcap_laws.proofs.KnownChanges.{counted, known_exactly}
 -- the notes since the tag, the notice of them, and the reply's body
 record Told (root : List ℕ) (c : StoreContents) (query : ElementQuery) (a : Answer) : Type 0 where
   notes : List Note
-  since_tag : since c query.id query.tag ≡ ReportedChanges notes
+  since_tag : since c query.watched.doc query.tag ≡ ReportedChanges notes
   notice : Tree
-  is_notice : IsElementNotice (record { root = root; doc = query.id; selector = query.selector; raw = query.raw }) c notes notice
+  is_notice : IsElementNotice root query.watched c notes notice
   body : a.reply.body ≡ encode_utf8_all (document_print notice)
 
 never_gone : (number : ℕ) (d : Document) (b : Bool) (ns : List Note) → cond b (ReportedChanges ns) Unknown ≡ Gone → ⊥
@@ -63,28 +63,34 @@ some_at : (o : Option Tree) (P : Tree → Type 0) → IsSomeAnd o P → (e : Tre
 some_at None P h = absurd h
 some_at (Some e) P h = (e, refl, h)
 
-module _ (root : List ℕ) (c : StoreContents) (m : State) (query : ElementQuery) (d : Document) (from : Version) (a : Answer) (h : AnswersElementFeed root c m query d from a) where
-  known : since c query.id query.tag ≡ changes_from h.number d
-  known = ap (since c query.id) (sym h.same_tag) ∙ known_exactly c m query.id d h.number from h.kept h.stands h.there h.is_version
+module _ (root : List ℕ) (c : StoreContents) (m : State) (query : ElementQuery) (a : Answer) (h : AnswersElementFeed root c m query a) where
+  abbrev d : Document
+  d = h.document
+
+  abbrev from : Version
+  from = h.from
+
+  known : since c query.watched.doc query.tag ≡ changes_from h.number d
+  known = ap (since c query.watched.doc) (sym h.same_tag) ∙ known_exactly c m query.watched.doc d h.number from h.kept h.stands h.there h.is_version
 
   kept_so : IsKept m.next d
-  kept_so = found_all (IsKept m.next) (λ x. same_id query.id x.id) m.documents d h.kept.documents h.there
+  kept_so = found_all (IsKept m.next) (λ x. same_id query.watched.doc x.id) m.documents d h.kept.documents h.there
 
-  held : document_in stored_name c.documents query.id ≡ Some (stored_of d)
-  held = ap (λ (x : StoreContents). document_in stored_name x.documents query.id) h.stands ∙ held_there m.documents query.id ∙ ap (option_map stored_of) h.there
+  held : document_in stored_name c.documents query.watched.doc ≡ Some (stored_of d)
+  held = ap (λ (x : StoreContents). document_in stored_name x.documents query.watched.doc) h.stands ∙ held_there m.documents query.watched.doc ∙ ap (option_map stored_of) h.there
 
-  by_changes : (s : ChangesSince) → since c query.id query.tag ≡ s → TellsElement (server_of root c) query s (read_by Get h.request) a → Told root c query a
-  by_changes Gone e is = absurd (never_gone h.number d (is_retainable weight (notes_behind h.number (versions d))) (notes_behind h.number (versions d)) (sym known ∙ e))
+  by_changes : (s : ChangesSince) → since c query.watched.doc query.tag ≡ s → TellsElement (server_of root c) query s (read_by Get h.request) a → Told root c query a
+  by_changes Gone e is = absurd (never_gone h.number d (is_retainable weight (notes_after h.number (versions d))) (notes_after h.number (versions d)) (sym known ∙ e))
   by_changes Unknown e is = absurd (let never : 410 ≡ 200 = sym (ap (λ (x : Answer). x.reply.status) is) ∙ h.ok in omega (arith, never))
   by_changes (ReportedChanges ns) e is = record { notes = ns; since_tag = e; notice = is.0; is_notice = is.1; body = ap (λ (x : Answer). x.reply.body) is.2 }
 
   abbrev target : Target
-  target = ElementFeed query.tag query.id query.selector query.raw
+  target = ElementFeed query.tag query.watched.doc query.watched.selector query.watched.raw
 
   by_target : ByTarget (server_of root c) target Get h.request a → Told root c query a
   by_target is =
       either (is_allowed false (auid_of target) (home_of target) h.request.fields) (ByMethod (server_of root c) target Get h.request a) (a ≡ unchanged (plain 403 h.request.closes))
-      (λ _. by_changes (since c query.id query.tag) refl) (λ _ s. absurd (let never : 403 ≡ 200 = sym (ap (λ (x : Answer). x.reply.status) s) ∙ h.ok in omega (arith, never))) is
+      (λ _. by_changes (since c query.watched.doc query.tag) refl) (λ _ s. absurd (let never : 403 ≡ 200 = sym (ap (λ (x : Answer). x.reply.status) s) ∙ h.ok in omega (arith, never))) is
 
   told : Told root c query a
   told =
@@ -95,34 +101,34 @@ module _ (root : List ℕ) (c : StoreContents) (m : State) (query : ElementQuery
   stored_so : told.is_notice.held ≡ stored_of d
   stored_so = let both : Some told.is_notice.held ≡ Some (stored_of d) = sym told.is_notice.there ∙ held in cc
 
-  state_so : IsStateOf (usage_of query.id.auid) d.now.tree query.selector told.notes told.is_notice.state
-  state_so = subst (λ (x : StoredDocument). IsStateOf (usage_of query.id.auid) x.tree query.selector told.notes told.is_notice.state) stored_so told.is_notice.is_state
+  state_so : IsStateOf (usage_of query.watched.doc.auid) d.now.tree query.watched.selector told.notes told.is_notice.state
+  state_so = subst (λ (x : StoredDocument). IsStateOf (usage_of query.watched.doc.auid) x.tree query.watched.selector told.notes told.is_notice.state) stored_so told.is_notice.is_state
 
   text_so : (state : ElementState) → told.is_notice.state ≡ state → a.reply.body ≡ element_text root query state
-  text_so state same = told.body ∙ ap (λ (t : Tree). encode_utf8_all (document_print t)) (told.is_notice.told ∙ ap (element_notice root (id_text query.id) query.raw) same)
+  text_so state same = told.body ∙ ap (λ (t : Tree). encode_utf8_all (document_print t)) (told.is_notice.told ∙ ap (element_notice root (id_text query.watched.doc) query.watched.raw) same)
 
   -- ---- an element that differs
 
-  module _ (u : Usage) (p : List ℕ) (usage : usage_of query.id.auid ≡ Some u) (selects : SelectsPath query.selector.steps d.now.tree p) (by_keys : IsKeyAddressOf u d.now.tree query.selector p)
-      (differs : (q : List ℕ) → SelectsPath query.selector.steps from.tree q → at q from.tree ≡ at p d.now.tree → ⊥) where
-    found_same : FindSince m query.id query.tag query.selector.steps p → ⊥
+  module _ (u : Usage) (p : List ℕ) (usage : usage_of query.watched.doc.auid ≡ Some u) (selects : SelectsPath query.watched.selector.steps d.now.tree p) (by_keys : IsKeyAddressOf u d.now.tree query.watched.selector p)
+      (differs : (q : List ℕ) → SelectsPath query.watched.selector.steps from.tree q → at q from.tree ≡ at p d.now.tree → ⊥) where
+    found_same : FindSince m query.watched.doc query.tag query.watched.selector.steps p → ⊥
     found_same f =
-        let doc : f.document ≡ d = one_document (document_in document_name m.documents query.id) d f.document h.there f.there in
+        let doc : f.document ≡ d = one_document (document_in document_name m.documents query.watched.doc) d f.document h.there f.there in
         let version : f.from ≡ from =
         one_version d.now d.earlier f.number h.number f.from from kept_so.follows (ap (λ (x : Document). slice_get (versions x) f.number) (sym doc) ∙ f.is_version) h.is_version (f.same_tag ∙ sym h.same_tag) in
-        let e = some_at (at p f.document.now.tree) (λ e. (k : ℕ) (v : Version) → k ≤ f.number → slice_get (versions f.document) k ≡ Some v → Finds query.selector.steps e v.tree (notes_behind k (versions f.document)) p) f.finds in
+        let e = some_at (at p f.document.now.tree) (λ e. (k : ℕ) (v : Version) → k ≤ f.number → slice_get (versions f.document) k ≡ Some v → Finds query.watched.selector.steps e v.tree (notes_after k (versions f.document)) p) f.finds in
         let finds = e.2 f.number f.from (omega arith) f.is_version in
-        differs finds.path (subst (λ (x : Version). SelectsPath query.selector.steps x.tree finds.path) version finds.selects)
+        differs finds.path (subst (λ (x : Version). SelectsPath query.watched.selector.steps x.tree finds.path) version finds.selects)
         (ap (λ (x : Version). at finds.path x.tree) (sym version) ∙ finds.there ∙ sym e.1 ∙ ap (λ (x : Document). at p x.now.tree) doc)
 
     unchanged_never : told.is_notice.state ≡ Unchanged → ⊥
     unchanged_never same =
-        let silent : told.notice ≡ silent_notice root = told.is_notice.told ∙ ap (element_notice root (id_text query.id) query.raw) same in
+        let silent : told.notice ≡ silent_notice root = told.is_notice.told ∙ ap (element_notice root (id_text query.watched.doc) query.watched.raw) same in
         found_same
-        (find_unreported root c m query.id query.tag told.notes (stored_of d) u query.selector query.raw p h.kept h.stands told.since_tag held usage
-        (subst (IsElementNotice (record { root = root; doc = query.id; selector = query.selector; raw = query.raw }) c told.notes) silent told.is_notice) selects by_keys)
+        (find_unreported root c m query.watched.doc query.tag told.notes (stored_of d) u query.watched.selector query.watched.raw p h.kept h.stands told.since_tag held usage
+        (subst (IsElementNotice root query.watched c told.notes) silent told.is_notice) selects by_keys)
 
-    by_state : (state : ElementState) → told.is_notice.state ≡ state → IsStateOf (usage_of query.id.auid) d.now.tree query.selector told.notes state → a.reply.body ≡ element_text root query Exists
+    by_state : (state : ElementState) → told.is_notice.state ≡ state → IsStateOf (usage_of query.watched.doc.auid) d.now.tree query.watched.selector told.notes state → a.reply.body ≡ element_text root query Exists
     by_state Unchanged same is = absurd (unchanged_never same)
     by_state Exists same is = text_so Exists same
     by_state Missing same is = absurd (is.1 (p, selects))
@@ -132,23 +138,23 @@ module _ (root : List ℕ) (c : StoreContents) (m : State) (query : ElementQuery
 
   -- ---- an element that is gone
 
-  module _ (none : SelectsSome query.selector d.now.tree → ⊥) (some : SelectsSome query.selector from.tree) where
+  module _ (none : SelectsSome query.watched.selector d.now.tree → ⊥) (some : SelectsSome query.watched.selector from.tree) where
     same_versions : told.notes ≡ [] → d.now ≡ from
     same_versions empty =
-        let ms : notes_behind h.number (versions d) ≡ [] = no_changes (is_retainable weight (notes_behind h.number (versions d))) (notes_behind h.number (versions d)) (sym known ∙ told.since_tag ∙ ap ReportedChanges empty) in
+        let ms : notes_after h.number (versions d) ≡ [] = no_changes (is_retainable weight (notes_after h.number (versions d))) (notes_after h.number (versions d)) (sym known ∙ told.since_tag ∙ ap ReportedChanges empty) in
         let size : 0 ≡ h.number = sym (ap length ms) ∙ counted h.number d.now d.earlier from kept_so.follows h.is_version in
         let first : slice_get (versions d) 0 ≡ Some from = ap (slice_get (versions d)) size ∙ h.is_version in
         cc
 
-    not_untouched : (usage : Option Usage) → IsUntouched usage d.now.tree query.selector told.notes → ⊥
+    not_untouched : (usage : Option Usage) → IsUntouched usage d.now.tree query.watched.selector told.notes → ⊥
     not_untouched None is = is
     not_untouched (Some u) is = none (is.0, is.1.selects)
 
-    not_quiet : IsQuiet (usage_of query.id.auid) d.now.tree query.selector told.notes → ⊥
-    not_quiet (inl empty) = none (subst (λ (x : Version). SelectsSome query.selector x.tree) (sym (same_versions empty)) some)
-    not_quiet (inr untouched) = not_untouched (usage_of query.id.auid) untouched
+    not_quiet : IsQuiet (usage_of query.watched.doc.auid) d.now.tree query.watched.selector told.notes → ⊥
+    not_quiet (inl empty) = none (subst (λ (x : Version). SelectsSome query.watched.selector x.tree) (sym (same_versions empty)) some)
+    not_quiet (inr untouched) = not_untouched (usage_of query.watched.doc.auid) untouched
 
-    by_missing : (state : ElementState) → told.is_notice.state ≡ state → IsStateOf (usage_of query.id.auid) d.now.tree query.selector told.notes state → a.reply.body ≡ element_text root query Missing
+    by_missing : (state : ElementState) → told.is_notice.state ≡ state → IsStateOf (usage_of query.watched.doc.auid) d.now.tree query.watched.selector told.notes state → a.reply.body ≡ element_text root query Missing
     by_missing Unchanged same is = absurd (not_quiet is)
     by_missing Exists same is = absurd (none is.1)
     by_missing Missing same is = text_so Missing same

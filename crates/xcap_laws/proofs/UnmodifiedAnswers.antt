@@ -5,7 +5,7 @@ use Rattle.std.specs.Option.{option_map_or}
 use Rattle.std.specs.Prelude.{if◌then◌else◌}
 use Rattle.http_wire.specs.declared.request.Request.{Request}
 use Rattle.request_checks.specs.Conditions.{by_verdict}
-use Rattle.request_checks.specs.Fields.{ConditionsAnswer, FieldValue, Missing, Preconditions, Says, Star, Tags}
+use Rattle.request_checks.specs.Fields.{ConditionsAnswer, FieldValue, Missing, Preconditions, HasFieldValue, Star, Tags}
 use Rattle.request_checks.specs.Rights.{fields_named}
 use Rattle.request_checks.specs.Verdicts.{if_match_holds, if_none_match_holds, is_own, verdict_of}
 use Rattle.request_checks.specs.declared.conditions.Outcome.TheVariants.{Unreadable, Go, NotModified, Failed}
@@ -33,7 +33,7 @@ named tag (Tags tags) h = is_listed (list_any (is_own (Some tag)) tags) h
 -- what If-None-Match says names the tag
 record SaysTag (request : Request) (tag : ℕ) : Type 0 where
   value : FieldValue
-  says : Says (fields_named (codes "if-none-match") request.fields) value
+  says : HasFieldValue (fields_named (codes "if-none-match") request.fields) value
   names : NamesTag tag value
 
 says_tag : (request : Request) (tag : ℕ) (said : Option Preconditions) → ConditionsAnswer (fields_named (codes "if-match") request.fields) (fields_named (codes "if-none-match") request.fields) said

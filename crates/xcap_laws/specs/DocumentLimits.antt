@@ -8,7 +8,8 @@ use Rattle.edit_ops.specs.Operations.{weight}
 use Rattle.store_core.specs.Contents.{stock_of, stored_of}
 use Rattle.store_core.specs.State.{Document, State, Version, notes, versions}
 
--- the number of bytes of a printed document
+-- the number of bytes of a printed document: the length of the bytes themselves, which
+-- `document_len` of usage_docs says as a sum, without spelling them
 abbrev pub printed_len : Tree → ℕ
 printed_len t = length (encode_utf8_all (document_print t))
 

@@ -21,16 +21,18 @@ use Rattle.xcap_machine.specs.Requests.{IsAnswer}
 -- in a valid state the answer to a GET of this feed has the status 200, the document of the feed
 -- is `document`, and the tag is that of its version `from`
 pub record AnswersElementFeed (root : List ℕ) (c : StoreContents) (m : State) (query : ElementQuery)
-    (document : Document) (from : Version) (a : Answer) : Type 0 where
+    (a : Answer) : Type 0 where
+  pub document : Document
+  pub from : Version
   pub kept : IsValidState m
   pub stands : Represents c m
   pub request : Request
   pub answers : IsAnswer root c request a
   pub target : TargetResult root request.target
-      (Ok (ElementFeed query.tag query.id query.selector query.raw))
+      (Ok (ElementFeed query.tag query.watched.doc query.watched.selector query.watched.raw))
   pub reads : method_of request.method ≡ Get
   pub ok : a.reply.status ≡ 200
-  pub there : document_in document_name m.documents query.id ≡ Some document
+  pub there : document_in document_name m.documents query.watched.doc ≡ Some document
   pub number : ℕ
   pub is_version : slice_get (versions document) number ≡ Some from
   pub same_tag : from.tag ≡ query.tag
@@ -38,4 +40,6 @@ pub record AnswersElementFeed (root : List ℕ) (c : StoreContents) (m : State) 
 -- the text of the diff document that says this of the element
 abbrev pub element_text : List ℕ → ElementQuery → ElementState → List ℕ
 element_text root query state =
-    encode_utf8_all (document_print (element_notice root (id_text query.id) query.raw state))
+    encode_utf8_all
+    (document_print
+    (element_notice root (id_text query.watched.doc) query.watched.raw state))

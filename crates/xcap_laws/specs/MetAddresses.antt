@@ -9,7 +9,7 @@ use Rattle.usage_docs.specs.declared.schema_table.Key.TheVariants.{Uri}
 use Rattle.store_core.specs.Contents.{StoreContents}
 use Rattle.list_resolve.specs.FlatLists.{service_of}
 use Rattle.list_resolve.specs.References.{reference_of}
-use Rattle.list_resolve.specs.Resolution.{AreLeads, ResolvedReference, tree_held}
+use Rattle.list_resolve.specs.Resolution.{ResolvesReferences, ResolvedReference, tree_held}
 use Rattle.list_resolve.specs.ScopedElements.{ScopedElement, child_spot}
 
 -- the type of an optional value's item
@@ -44,7 +44,7 @@ IsIn x (y ∷ ys) = (y ≡ x) ⊎ IsIn x ys
 pub record LeadsToAddress (c : StoreContents) (root : List ℕ) (doc : DocId)
     (service uri : List ℕ) : Type 0 where
   pub resolve : Reference → Option ResolvedReference
-  pub are_leads : AreLeads
+  pub are_leads : ResolvesReferences
       (record { documents = c.documents; root = root; home = doc.home }) resolve
   pub element : ScopedElement
   pub is_service : option_and_then (service_of service) (tree_held c.documents doc) ≡ Some element

@@ -11,7 +11,7 @@ use Rattle.request_checks.specs.Methods.{method_of}
 use Rattle.request_checks.specs.declared.method.Method.TheVariants.{Head}
 use Rattle.store_core.specs.Contents.{StoreContents}
 use Rattle.xcap_client.specs.Heads.{BeginsWithHead}
-use Rattle.xcap_client.specs.Responses.{SaysResponse}
+use Rattle.xcap_client.specs.Responses.{IsResponseOf}
 use Rattle.xcap_client.specs.declared.response.Response.{Response}
 use Rattle.xcap_machine.specs.Answers.{Answer}
 use Rattle.xcap_machine.specs.Requests.{IsAnswer}
@@ -40,7 +40,7 @@ pub record IsReadBack (reply : SentReply) : Type 0 where
   pub head : ResponseHead
   pub begins : (more : List ℕ) → BeginsWithHead (bytes_of reply ++ more) head (reply.body ++ more)
   pub says : (more : List ℕ)
-      → SaysResponse (bytes_of reply ++ more) (Ok (response_to reply fields.tag))
+      → IsResponseOf (bytes_of reply ++ more) (Ok (response_to reply fields.tag))
 
 -- Whatever bytes follow the reply, it is a head alone, with the reply's status, and ends with it.
 pub record IsHeadAlone (reply : SentReply) : Type 0 where

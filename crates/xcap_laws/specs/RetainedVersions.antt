@@ -2,7 +2,7 @@
 -- document has the changes between two entity tags.
 use Rattle.std.specs.Prelude.{ℕ, Bool, true, List, [], ◌∷◌, if◌then◌else◌}
 use Rattle.edit_ops.specs.Operations.{weight}
-use Rattle.element_watch.specs.SelectionHistory.{notes_behind}
+use Rattle.element_watch.specs.SelectionHistory.{notes_after}
 use Rattle.store_core.specs.Since.{ChangesSince, Unknown, ReportedChanges}
 use Rattle.store_core.specs.State.{Document, is_small, versions}
 
@@ -16,6 +16,6 @@ is_retainable weight (x ∷ y ∷ xs) = is_small weight (x ∷ y ∷ xs)
 -- one; unless they are too many or too heavy
 abbrev pub changes_from : ℕ → Document → ChangesSince
 changes_from number d =
-    if is_retainable weight (notes_behind number (versions d))
-    then ReportedChanges (notes_behind number (versions d))
+    if is_retainable weight (notes_after number (versions d))
+    then ReportedChanges (notes_after number (versions d))
     else Unknown

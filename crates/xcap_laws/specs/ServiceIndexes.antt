@@ -6,7 +6,7 @@ use Rattle.usage_docs.specs.Keys.{value_of}
 use Rattle.usage_docs.specs.Services.{service_elements}
 use Rattle.usage_docs.specs.declared.schema_table.Key.TheVariants.{Uri}
 use Rattle.store_core.specs.Contents.{StoredDocument, StoreContents}
-use Rattle.store_core.specs.Indexes.{indexed}
+use Rattle.store_core.specs.Indexes.{index_entry}
 use Rattle.store_core.specs.ValidStates.{AreDistinct}
 
 -- the addresses of the services in an index
@@ -17,7 +17,7 @@ listed_addresses root = filter_map (λ e. value_of Uri e.attrs) (child_elements_
 pub record IsServiceOf (c : StoreContents) (service : Tree) : Type 0 where
   pub document : StoredDocument
   pub is_stored : Contains c.documents document
-  pub is_listed : IsSome (indexed document)
+  pub is_listed : IsSome (index_entry document)
   pub is_in : Contains (service_elements document.tree) service
 
 -- an index has exactly the services of the stored documents that it lists, and each address once

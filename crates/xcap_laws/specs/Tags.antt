@@ -4,7 +4,7 @@ use Rattle.std.specs.List.{list_any}
 use Rattle.edit_ops.specs.declared.edit.Edit.{Edit}
 use Rattle.http_wire.specs.declared.request.Request.{Request}
 use Rattle.reply_text.specs.ReplyHeads.{HeadFields, SentReply, sent}
-use Rattle.request_checks.specs.Fields.{FieldValue, Says}
+use Rattle.request_checks.specs.Fields.{FieldValue, HasFieldValue}
 use Rattle.request_checks.specs.Rights.{fields_named}
 use Rattle.request_checks.specs.Verdicts.{is_strongly_own}
 use Rattle.request_checks.specs.declared.entity_tags.EntityTag.{EntityTag}
@@ -16,11 +16,12 @@ use Rattle.xml_tree.specs.Tree.{Tree}
 
 -- the request's field `If-Match` says this (RFC 9110, section 13.1.1)
 abbrev pub IfMatchSays : Request → FieldValue → Type 0
-IfMatchSays request value = Says (fields_named (codes "if-match") request.fields) value
+IfMatchSays request value = HasFieldValue (fields_named (codes "if-match") request.fields) value
 
 -- the request's field `If-None-Match` says this (RFC 9110, section 13.1.2)
 abbrev pub IfNoneMatchSays : Request → FieldValue → Type 0
-IfNoneMatchSays request value = Says (fields_named (codes "if-none-match") request.fields) value
+IfNoneMatchSays request value = HasFieldValue (fields_named (codes "if-none-match") request.fields)
+    value
 
 -- the tag is the strong one of this number (RFC 9110, section 8.8.3.2)
 abbrev pub Names : EntityTag → ℕ → Type 0

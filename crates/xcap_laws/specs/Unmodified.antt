@@ -4,7 +4,7 @@ use Rattle.std.specs.List.{list_any}
 use Rattle.doc_names.specs.declared.doc_id.DocId.{DocId}
 use Rattle.http_wire.specs.declared.request.Request.{Request}
 use Rattle.reply_text.specs.ReplyHeads.{SentReply, sent}
-use Rattle.request_checks.specs.Fields.{FieldValue, Missing, Star, Tags, Says}
+use Rattle.request_checks.specs.Fields.{FieldValue, Missing, Star, Tags, HasFieldValue}
 use Rattle.request_checks.specs.Methods.{is_reading, method_of}
 use Rattle.request_checks.specs.Rights.{fields_named}
 use Rattle.request_checks.specs.Verdicts.{is_own}
@@ -55,6 +55,6 @@ pub record IsUnmodified (root : List ℕ) (c : StoreContents) (request : Request
   pub tag : ℕ
   pub held : IsResourceOf c id (there tree tag)
   pub value : FieldValue
-  pub says : Says (fields_named (codes "if-none-match") request.fields) value
+  pub says : HasFieldValue (fields_named (codes "if-none-match") request.fields) value
   pub names : NamesTag tag value
   pub answers : a ≡ unchanged (not_modified tag request.closes)

@@ -9,7 +9,7 @@ use Rattle.edit_journal.specs.Journals.{IsFirstOf}
 use Rattle.edit_journal.specs.Texts.{IsRecordedRequest, text}
 use Rattle.store_core.specs.State.{State, first_state}
 use Rattle.xcap_app.specs.KeepCommand.{KeptSummary, OldJournal, ServesKept}
-use Rattle.xcap_app.specs.RunStates.{KeepState, keeping}
+use Rattle.xcap_app.specs.RunStates.{KeepState, keep_service_state}
 use Rattle.xcap_app.specs.Serves.{ServiceArguments}
 use Rattle.xcap_server.specs.ReplayedRequests.{Redoing}
 
@@ -35,4 +35,4 @@ abbrev pub ServesAfter : {W : Type 0} → (List Edit → W → W → Type 0) →
 ServesAfter Keeps arguments kept journal old new =
     ServesKept Keeps (Took old.output.taken new.output.taken)
     (CountRises old.output.write_faults new.output.write_faults) arguments kept journal
-    (keeping old) (keeping new)
+    (keep_service_state old) (keep_service_state new)

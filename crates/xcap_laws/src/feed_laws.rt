@@ -12,12 +12,12 @@ ghost use Rattle.node_select.specs.Selection.{SelectsPath};
 ghost use Rattle.element_watch.specs.WatchedElements.{SelectsSome};
 ghost use Rattle.element_watch.specs.declared.element_states.ElementState.TheVariants.{Exists};
 ghost use Rattle.element_watch.specs.declared.element_states.ElementState.TheVariants.{Missing};
-ghost use Rattle.element_watch.specs.SelectionHistory.{notes_behind};
+ghost use Rattle.element_watch.specs.SelectionHistory.{notes_after};
 ghost use Rattle.request_checks.specs.Methods.{method_of};
 ghost use Rattle.request_checks.specs.declared.method.Method.TheVariants.{Get};
 ghost use Rattle.store_core.specs.Contents.{Represents, StoreContents, stock_of};
 ghost use Rattle.store_core.specs.DocumentChanges.{document_in, document_name};
-ghost use Rattle.store_core.specs.Limits.{max_notes, max_weight};
+ghost use Rattle.store_core.specs.declared.limits.TheConstants.{MAX_NOTES, MAX_WEIGHT};
 ghost use Rattle.store_core.specs.Since.{ReportedChanges, since};
 ghost use Rattle.store_core.specs.State.{Document, State, Version, versions};
 ghost use Rattle.store_core.specs.ValidStates.{IsUserDocument, IsValidState};
@@ -34,7 +34,7 @@ ghost use Rattle.xcap_laws.specs.FetchedVersions.{SendsVersion};
 ghost use Rattle.xcap_laws.specs.RetainedVersions.{changes_from};
 
 /// A law: the changes since a version of a stored document are known exactly where they are one at
-/// most, or at most `max_notes` that together weigh at most `max_weight`; and then they are the
+/// most, or at most `MAX_NOTES` that together weigh at most `MAX_WEIGHT`; and then they are the
 /// change records of all later versions, in order. A feed since such a version is never 410.
 pub fn near_versions_are_known()
     ensures known_exactly { (c : StoreContents) (m : State) (id : DocId) (d : Document)
@@ -45,15 +45,15 @@ pub fn near_versions_are_known()
     ensures near_is_known { (c : StoreContents) (m : State) (id : DocId) (d : Document)
         (number : ℕ) (v : Version) → IsValidState m → Represents c m
         → document_in document_name m.documents id ≡ Some d
-        → slice_get (versions d) number ≡ Some v → number ≤ max_notes
-        → sum_by weight (notes_behind number (versions d)) ≤ max_weight
-        → since c id v.tag ≡ ReportedChanges (notes_behind number (versions d)) }
+        → slice_get (versions d) number ≡ Some v → number ≤ MAX_NOTES
+        → sum_by weight (notes_after number (versions d)) ≤ MAX_WEIGHT
+        → since c id v.tag ≡ ReportedChanges (notes_after number (versions d)) }
     ensures never_410 { (root : List ℕ) (c : StoreContents) (m : State) (request : Request)
         (a : Answer) (mode : Mode) (id : DocId) (d : Document) (number : ℕ) (v : Version)
         → IsValidState m → Represents c m
         → document_in document_name m.documents id ≡ Some d
-        → slice_get (versions d) number ≡ Some v → number ≤ max_notes
-        → sum_by weight (notes_behind number (versions d)) ≤ max_weight
+        → slice_get (versions d) number ≡ Some v → number ≤ MAX_NOTES
+        → sum_by weight (notes_after number (versions d)) ≤ MAX_WEIGHT
         → IsAnswer root c request a
         → TargetResult root request.target (Ok (Feed mode v.tag id)) → a.reply.status ≢ 410 }
 {}
@@ -88,17 +88,17 @@ pub fn changes_are_told_once()
 /// that it doesn't where the selector selects nothing now, and selected something in that version.
 pub fn element_notices_miss_nothing()
     ensures change_is_told { (root : List ℕ) (c : StoreContents) (m : State)
-        (query : ElementQuery) (d : Document) (from : Version) (a : Answer) (u : Usage)
-        (p : List ℕ) → AnswersElementFeed root c m query d from a
-        → usage_of query.id.auid ≡ Some u
-        → SelectsPath query.selector.steps d.now.tree p
-        → IsKeyAddressOf u d.now.tree query.selector p
-        → ((q : List ℕ) → SelectsPath query.selector.steps from.tree q
-        → at q from.tree ≡ at p d.now.tree → ⊥)
+        (query : ElementQuery) (a : Answer) (u : Usage) (p : List ℕ)
+        → (feed : AnswersElementFeed root c m query a)
+        → usage_of query.watched.doc.auid ≡ Some u
+        → SelectsPath query.watched.selector.steps feed.document.now.tree p
+        → IsKeyAddressOf u feed.document.now.tree query.watched.selector p
+        → ((q : List ℕ) → SelectsPath query.watched.selector.steps feed.from.tree q
+        → at q feed.from.tree ≡ at p feed.document.now.tree → ⊥)
         → a.reply.body ≡ element_text root query Exists }
     ensures removal_is_told { (root : List ℕ) (c : StoreContents) (m : State)
-        (query : ElementQuery) (d : Document) (from : Version) (a : Answer)
-        → AnswersElementFeed root c m query d from a
-        → (SelectsSome query.selector d.now.tree → ⊥) → SelectsSome query.selector from.tree
+        (query : ElementQuery) (a : Answer) → (feed : AnswersElementFeed root c m query a)
+        → (SelectsSome query.watched.selector feed.document.now.tree → ⊥)
+        → SelectsSome query.watched.selector feed.from.tree
         → a.reply.body ≡ element_text root query Missing }
 {}

@@ -6,7 +6,7 @@ ghost use Rattle.client_follower.specs.declared.feed_rounds.Round.{Round};
 ghost use Rattle.client_theorem.specs.FeedRequests.{HasFeed};
 ghost use Rattle.store_core.specs.State.{State};
 ghost use Rattle.xcap_io.specs.Causes.{StreamState};
-ghost use Rattle.xcap_io.specs.Connections.{asked};
+ghost use Rattle.xcap_io.specs.Connections.{peer_traffic};
 ghost use Rattle.xcap_io.specs.Histories.{Traffic};
 ghost use Rattle.xcap_laws.specs.Followers.{HoldsVersion, IsPresentIn, IsServedIn};
 
@@ -17,13 +17,13 @@ use xcap_uri::{Root, printed_id_reads_back, roots_are_spelled_by_the_grammar};
 /// A law: after a round that ended well a follower holds the document of the state that answered,
 /// its tag and its tree, or nothing where there is no such document; whatever it held before,
 /// nothing or any version that the document ever had. That state is the one in which the machine
-/// answered on the round's last connection; the response that was read there has the status, the
-/// etag and the body of the machine's reply. Of the connection before it nothing is asked.
+/// answered on the round's last connection: the bytes given there begin with the machine's reply,
+/// whatever follows it. Of the connection before it nothing is asked.
 pub fn followers_converge(root: &Root, doc: &DocId)
     ensures holds_present { (n : State) (f f' : Following) (old new : StreamState) (round : Round)
         (earlier : List Traffic) (last : Traffic) → f.root ≡ root.now → f.doc ≡ doc.now
         → HasFeed doc.now → HoldsVersion f.root n f.doc f.held → Rounds f f' old new (Ok round)
-        → asked new ≡ earlier ++ last ∷ [] → IsServedIn f.root n last
+        → peer_traffic new ≡ earlier ++ last ∷ [] → IsServedIn f.root n last
         → IsPresentIn n f.doc f'.held }
 {
     let _text = root.text();

@@ -6,8 +6,8 @@ ghost use Rattle.reply_text.specs.ReplyHeads.{SentReply, bytes_of};
 ghost use Rattle.request_checks.specs.Methods.{method_of};
 ghost use Rattle.request_checks.specs.declared.method.Method.TheVariants.{Get, Head};
 ghost use Rattle.store_core.specs.Contents.{StoreContents};
-ghost use Rattle.xcap_client.specs.Limits.{max_response_body_bytes};
-ghost use Rattle.xcap_client.specs.Responses.{SaysResponse};
+ghost use Rattle.xcap_client.specs.declared.body_length.TheConstants.{MAX_RESPONSE_BODY_BYTES};
+ghost use Rattle.xcap_client.specs.Responses.{IsResponseOf};
 ghost use Rattle.xcap_client.specs.declared.response_fault.ResponseFault.TheVariants.{TooLong};
 ghost use Rattle.xcap_laws.specs.Heads.{with_method};
 ghost use Rattle.xcap_laws.specs.ReadReplies.{IsCounted, IsHeadAlone, IsReadBack, IsWhole};
@@ -22,10 +22,10 @@ ghost use Rattle.xcap_machine.specs.Requests.{IsAnswer};
 /// is a head alone.
 pub fn replies_are_read_back()
     ensures read_back { (reply : SentReply) → IsWhole reply
-        → length reply.body ≤ max_response_body_bytes → IsReadBack reply }
+        → length reply.body ≤ MAX_RESPONSE_BODY_BYTES → IsReadBack reply }
     ensures longer_refused { (reply : SentReply) (more : List ℕ) → IsCounted reply
-        → max_response_body_bytes < length reply.body
-        → SaysResponse (bytes_of reply ++ more) (Err (TooLong (length reply.body))) }
+        → MAX_RESPONSE_BODY_BYTES < length reply.body
+        → IsResponseOf (bytes_of reply ++ more) (Err (TooLong (length reply.body))) }
     ensures head_alone { (root : List ℕ) (c : StoreContents) (request : Request)
         (name : List ℕ) (a b : Answer) → method_of request.method ≡ Get
         → method_of name ≡ Head → IsAnswer root c request a

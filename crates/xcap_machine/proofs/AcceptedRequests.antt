@@ -37,12 +37,12 @@ use Rattle.request_checks.specs.Rights.{is_allowed}
 use Rattle.request_checks.specs.declared.method.Method.{Method}
 use Rattle.request_checks.specs.declared.method.Method.TheVariants.{Put, Delete}
 use Rattle.reply_bodies.specs.Nodes.{node_media}
-use Rattle.store_core.specs.DocumentChanges.{act_of, against, answered, changing, content_after, document_in, stored_name, note_for}
+use Rattle.store_core.specs.DocumentChanges.{act_of, refusal_of, refusal_or, change_result, content_after, document_in, stored_name, note_for}
 use Rattle.store_core.specs.Contents.{StoredDocument, StoreContents as Content}
 use Rattle.store_core.specs.declared.refusal.StoreRefusal.{StoreRefusal}
-use Rattle.xcap_machine.specs.Answers.{Answer, BehindConditions, Made, not_allowed, unchanged}
+use Rattle.xcap_machine.specs.Answers.{Answer, AfterConditions, Made, not_allowed, unchanged}
 use Rattle.xcap_machine.specs.NodeWrites.{CutsNode, PutsAt, PutsElement, PutsFragment, PutsFrom, PutsValue, cut_reply, is_there, levels_for, plan_answer, put_planned, scope_for}
-use Rattle.xcap_machine.specs.Machine.{Does, answer_as, told_as}
+use Rattle.xcap_machine.specs.Machine.{Does, answer_as, made_from}
 use Rattle.xcap_machine.specs.Requests.{ByMethod, ByTarget, ByUser, Deletes, IsAnswer, Puts, auid_of, home_of, is_read_only, takes}
 use Rattle.xcap_machine.specs.Resources.{version_of}
 use Rattle.xcap_machine.specs.DocumentWrites.{IfStored, PutsDocument, PutsSpelled, change_answer, deleted_reply, put_answer, put_reply}
@@ -72,7 +72,7 @@ past_made : (stop : Option SentReply) (P : Type 0) (a : Answer) (made : Made) �
 past_made None P a made is h = h
 past_made (Some reply) P a made is h = absurd (stopped_never a reply made is h)
 
-behind_made : (request : Request) (tag : Option ℕ) (exists : Bool) (P : Type 0) (a : Answer) (made : Made) → a.made ≡ Some made → BehindConditions request (representation tag exists) false a P → P
+behind_made : (request : Request) (tag : Option ℕ) (exists : Bool) (P : Type 0) (a : Answer) (made : Made) → a.made ≡ Some made → AfterConditions request (representation tag exists) false a P → P
 behind_made request tag exists P a made is h = past_made h.0 P a made is h.2
 
 stored_made : (u : Option Usage) (request : Request) (P : Usage → Type 0) (a : Answer) (made : Made) → a.made ≡ Some made → IfStored u request a P → (usage : Usage) × (u ≡ Some usage) × P usage
@@ -87,7 +87,7 @@ past_none : (stop : Option SentReply) (P : Type 0) (a : Answer) → stop ≡ Non
 past_none None P a is h = h
 past_none (Some reply) P a is h = let z : Some reply ≡ None = is in cc
 
-pub unstopped_by : (request : Request) (tag : Option ℕ) (exists : Bool) (P : Type 0) (a : Answer) → IsStop request tag exists false None → BehindConditions request (representation tag exists) false a P → P
+pub unstopped_by : (request : Request) (tag : Option ℕ) (exists : Bool) (P : Type 0) (a : Answer) → IsStop request tag exists false None → AfterConditions request (representation tag exists) false a P → P
 unstopped_by request tag exists P a free h = past_none h.0 P a (one_stop request tag exists false h.0 None h.1 free) h.2
 
 -- ---- up to the method
@@ -105,7 +105,7 @@ pub accepted : (root : List ℕ) (c next : Content) (request : Request) (reply :
 accepted root c next request reply edit method does asks = by does.answers.0 does.answers.1 does.answers.2
   where
     by : (read : Result Target UriFault) → TargetResult root request.target read → IsAnswered root c read request (answer_as reply (Some edit)) → (target : Target) × Accepts root c request method target next edit
-    by (Err fault) means is = absurd (stopped_never (answer_as reply (Some edit)) _ (told_as edit) refl is)
+    by (Err fault) means is = absurd (stopped_never (answer_as reply (Some edit)) _ (made_from edit) refl is)
     by (Ok target) means is = (target, record { reply = reply; does = does; asks = asks; means = means })
 
 -- the target was asked for `P`, and the usage that it is in
@@ -144,25 +144,25 @@ pub record StoreMade (c : Content) (id : DocId) (change : Change) (made : Made) 
   pub of_document : made.0 ≡ id
   pub of_change : made.1.change ≡ change
   pub number : made.1.next ≡ c.next
-  pub unrefused : against c id change (document_in stored_name c.documents id) (act_of change) ≡ None
+  pub unrefused : refusal_of c id change (document_in stored_name c.documents id) (act_of change) ≡ None
 
 note_number : (c : Content) (id : DocId) (change : Change) (held : Option StoredDocument) → (note_for c id change held).next ≡ c.next
 note_number c id change None = refl
 note_number c id change (Some h) = refl
 
-answered_so : (refusal : Option StoreRefusal) (note : Note) (c : Content) (x : Note × Content) → answered refusal note c ≡ Ok x → (refusal ≡ None) × (x.0 ≡ note)
+answered_so : (refusal : Option StoreRefusal) (note : Note) (c : Content) (x : Note × Content) → refusal_or refusal note c ≡ Ok x → (refusal ≡ None) × (x.0 ≡ note)
 answered_so None note c x h = let same : ◌≡◌ {A = Note × Content} (note, c) x = cc in (refl, sym (ap (λ (y : Note × Content). y.0) same))
 answered_so (Some refusal) note c x h = let z : ◌≡◌ {A = Result (Note × Content) StoreRefusal} (Err refusal) (Ok x) = h in cc
 
 pub store_made : (c : Content) (id : DocId) (change : Change) (closes : Bool) (reply : Note → SentReply) (a : Answer) (made : Made) → a.made ≡ Some made → a ≡ change_answer c id change closes reply → StoreMade c id change made
-store_made c id change closes reply a made is same = by (changing c id change) refl (sym is ∙ ap (λ (x : Answer). x.made) (same ∙ as_the_store c id change closes reply))
+store_made c id change closes reply a made is same = by (change_result c id change) refl (sym is ∙ ap (λ (x : Answer). x.made) (same ∙ as_the_store c id change closes reply))
   where
-    by : (r : Result (Note × Content) StoreRefusal) → changing c id change ≡ r → Some made ≡ (told_by_store id closes reply r).made → StoreMade c id change made
+    by : (r : Result (Note × Content) StoreRefusal) → change_result c id change ≡ r → Some made ≡ (told_by_store id closes reply r).made → StoreMade c id change made
     by (Err refusal) e h = let z : Some made ≡ None = h in cc
     by (Ok (note, next)) e h =
         let both : ◌≡◌ {A = Made} made (id, note) = cc in
         let found = document_in stored_name c.documents id in
-        let told = answered_so (against c id change found (act_of change)) (note_for c id change found) (content_after c id change) (note, next) e in
+        let told = answered_so (refusal_of c id change found (act_of change)) (note_for c id change found) (content_after c id change) (note, next) e in
         let note_is : made.1 ≡ note = ap (λ (x : Made). x.1) both in
         record {
           of_document = ap (λ (x : Made). x.0) both;
@@ -295,7 +295,7 @@ pub node_deleted : (c : Content) (id : DocId) (usage : Usage) (selector : Select
 node_deleted c id usage selector None request a made is h = absurd (stopped_never a _ made is h)
 node_deleted c id usage selector (Some (t, tag)) request a made is h =
     let Last : Type 0 = CutsNode c (write_of id usage selector request) t a in
-    let there = either_made (is_there t selector) (BehindConditions request (representation (Some tag) true) false a Last) a (plain 404 request.closes) made is h in
+    let there = either_made (is_there t selector) (AfterConditions request (representation (Some tag) true) false a Last) a (plain 404 request.closes) made is h in
     let cut = behind_made request (Some tag) true Last a made is there.1 in
     by cut.0 cut.1 cut.2
   where

@@ -16,16 +16,16 @@ use Rattle.store_core.proofs.SoundHeld.{AllSound, all_sound}
 use Rattle.xcap_machine.specs.Answers.{Answer, Made}
 use Rattle.xcap_machine.specs.Effects.{KeyAddressesStay}
 use Rattle.xcap_machine.specs.KeyAddresses.{KeepsAddressesOf}
-use Rattle.xcap_machine.specs.Machine.{Does, answer_as, told_as}
+use Rattle.xcap_machine.specs.Machine.{Does, answer_as, made_from}
 use Rattle.xcap_machine.proofs.KeyAddresses.{asked_stays}
 use Rattle.xcap_machine.proofs.Steps.{made_change}
 use Rattle.xcap_machine.proofs.Ways.{Way, changes, stays, way_of}
 
 module _ (root : List ℕ) (c next : Content) (request : Request) (reply : SentReply) (edit : Edit) where
   by_way : (method : Method) → Way method request.closes c (answer_as reply (Some edit)) → AllSound c → Asks c edit.doc edit.note.change
-  by_way method (stays same tells closes is) all = let z : Some (told_as edit) ≡ None = ap (λ (a : Answer). a.made) is in cc
+  by_way method (stays same tells closes is) all = let z : Some (made_from edit) ≡ None = ap (λ (a : Answer). a.made) is in cc
   by_way method (changes same tells closes id change note held asks made is) all =
-      let so : told_as edit ≡ (id, note) = same_Some (told_as edit) (id, note) (ap (λ (a : Answer). a.made) is) in
+      let so : made_from edit ≡ (id, note) = same_Some (made_from edit) (id, note) (ap (λ (a : Answer). a.made) is) in
       let of_change : edit.note.change ≡ change = ap (λ (x : Made). x.1.change) so ∙ made_change c id change note held made in
       let of_document : edit.doc ≡ id = ap (λ (x : Made). x.0) so in
       subst (λ (d : DocId). Asks c d edit.note.change) (sym of_document) (subst (λ (x : Change). Asks c id x) (sym of_change) (asks all))

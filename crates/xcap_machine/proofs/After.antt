@@ -12,7 +12,7 @@ use Rattle.doc_names.proofs.SameIds.{id_exact, ids_apart}
 use Rattle.edit_ops.specs.Changes.{edited}
 use Rattle.edit_ops.specs.declared.change.Change.{Change}
 use Rattle.edit_ops.specs.declared.change.Change.TheVariants.{CreateDocument}
-use Rattle.store_core.specs.DocumentChanges.{Act, Makes, Edits, act_of, against, against_number, against_tree, content_after, document_in, held_after, stored_name, only_if, other_addresses, other_lengths, taken, without_document}
+use Rattle.store_core.specs.DocumentChanges.{Act, Makes, Edits, act_of, refusal_of, refusal_of_number, refusal_of_tree, content_after, document_in, held_after, stored_name, only_if, other_addresses, other_lengths, first_taken_address, without_document}
 use Rattle.store_core.specs.Contents.{StoredDocument, Represents, stored_of, StoreContents as Content}
 use Rattle.store_core.specs.ValidStates.{AreDistinct, IsValidState, addresses_in}
 use Rattle.store_core.specs.State.{Document, State}
@@ -40,11 +40,11 @@ both_none : {A : Type 0} (a b : Option A) → a ≡ None → b ≡ None → or_e
 both_none None b p q = q
 both_none (Some x) b p q = let z : Some x ≡ None = p in cc
 
-pub let_in_again : (c d : Content) (id : DocId) (is_new : Bool) (t : Tree) → without_document stored_name d.documents id ≡ without_document stored_name c.documents id → against_tree c id is_new t ≡ None → against_tree d id false t ≡ None
+pub let_in_again : (c d : Content) (id : DocId) (is_new : Bool) (t : Tree) → without_document stored_name d.documents id ≡ without_document stored_name c.documents id → refusal_of_tree c id is_new t ≡ None → refusal_of_tree d id false t ≡ None
 let_in_again c d id is_new t others h =
     let addresses : other_addresses d id ≡ other_addresses c id = ap (λ (l : List StoredDocument). flat_map (λ h. addresses_in h.id.auid h.tree) l) others in
     let lengths : other_lengths d id ≡ other_lengths c id = ap (λ (l : List StoredDocument). sum_by (λ h. document_len h.tree) l) others in
-    let first : List (List ℕ) → Option StoreRefusal = λ us. option_map (λ clash. ServiceTaken clash) (taken us (addresses_in id.auid t)) in
+    let first : List (List ℕ) → Option StoreRefusal = λ us. option_map (λ clash. ServiceTaken clash) (first_taken_address us (addresses_in id.auid t)) in
     let second : Option StoreRefusal = only_if (nat_lt 262144 (document_len t)) (TooLarge (min (document_len t) 18446744073709551615)) in
     let third : Option StoreRefusal = only_if (is_new && nat_le 1000 (length c.documents)) TooMany in
     let fourth : ℕ → Option StoreRefusal = λ n. only_if (nat_lt 33554432 (n + document_len t)) (StoreFull (n + document_len t)) in
@@ -55,14 +55,14 @@ let_in_again c d id is_new t others h =
     (both_none second (or_else (only_if (false && nat_le 1000 (length d.documents)) TooMany) (fourth (other_lengths d id))) b.0 (ap fourth lengths ∙ e.1))
 
 -- the tree that a change leaves was accepted
-pub edit_let_in : (c : Content) (id : DocId) (change : Change) (h : StoredDocument) → act_of change ≡ Edits → document_in stored_name c.documents id ≡ Some h → against c id change (document_in stored_name c.documents id) (act_of change) ≡ None
-    → against_tree c id false (edited h.tree change) ≡ None
+pub edit_let_in : (c : Content) (id : DocId) (change : Change) (h : StoredDocument) → act_of change ≡ Edits → document_in stored_name c.documents id ≡ Some h → refusal_of c id change (document_in stored_name c.documents id) (act_of change) ≡ None
+    → refusal_of_tree c id false (edited h.tree change) ≡ None
 edit_let_in c id change h acts there none =
-    let here : against c id change (Some h) Edits ≡ None = ap (λ (o : Option StoredDocument). against c id change o Edits) (sym there) ∙ ap (λ (a : Act). against c id change (document_in stored_name c.documents id) a) (sym acts) ∙ none in
-    (none_both (against_tree c id false (edited h.tree change)) (against_number c) here).0
+    let here : refusal_of c id change (Some h) Edits ≡ None = ap (λ (o : Option StoredDocument). refusal_of c id change o Edits) (sym there) ∙ ap (λ (a : Act). refusal_of c id change (document_in stored_name c.documents id) a) (sym acts) ∙ none in
+    (none_both (refusal_of_tree c id false (edited h.tree change)) (refusal_of_number c) here).0
 
-pub make_let_in : (c : Content) (id : DocId) (t : Tree) → against c id (CreateDocument t) (document_in stored_name c.documents id) (Makes t) ≡ None → against_tree c id true t ≡ None
-make_let_in c id t none = (none_both (against_tree c id true t) (against_number c) none).0
+pub make_let_in : (c : Content) (id : DocId) (t : Tree) → refusal_of c id (CreateDocument t) (document_in stored_name c.documents id) (Makes t) ≡ None → refusal_of_tree c id true t ≡ None
+make_let_in c id t none = (none_both (refusal_of_tree c id true t) (refusal_of_number c) none).0
 
 -- ---- the trees of all documents, where one is replaced by itself
 

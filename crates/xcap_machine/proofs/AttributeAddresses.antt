@@ -8,9 +8,7 @@ use Rattle.node_select.specs.declared.fault.SelectorFault.{SelectorFault}
 use Rattle.node_select.specs.declared.selector.Selector.{Selector}
 use Rattle.edit_rules.proofs.Writable.{attribute_writable}
 use Rattle.xcap_uri.specs.Delimiters.{rest_after}
-use Rattle.xcap_uri.specs.Order.{Where}
-use Rattle.xcap_uri.specs.Queries.{IsQuery}
-use Rattle.xcap_uri.specs.Targets.{IsPartAnswer, Means, NamedAnswer, RestAnswer, TargetResult, element_feed_of, is_element, node_of, question, raw_text}
+use Rattle.xcap_uri.specs.Targets.{IsPartAnswer, Means, NamedAnswer, QueriedAnswer, RestAnswer, TargetResult, element_feed_of, is_element, node_of, question, raw_text}
 use Rattle.xcap_uri.specs.declared.fault.UriFault.{UriFault}
 use Rattle.xcap_uri.specs.declared.fault.UriFault.TheVariants.{BadEscape, BadQuery, BadSelector, BadShape, OutsideRoot, UnknownAuid}
 use Rattle.xcap_uri.specs.declared.shape.Shape.{Shape}
@@ -51,7 +49,7 @@ of_shape bindings raw (shapes.ElementFeed tag doc text) t is = of_feed bindings 
 of_shape bindings raw (shapes.Flat doc service) t is = subst IsWritableTarget (sym (ok_is t (Flat doc service) is)) tt
 
 -- the text under the root, line by line
-of_query : (t : Target) (raw : List ℕ) (query : Option (List ℕ)) (shape : Shape) → Where (IsQuery query) BadQuery (λ bindings. Means bindings raw shape) (Ok t) → IsWritableTarget t
+of_query : (t : Target) (raw : List ℕ) (query : Option (List ℕ)) (shape : Shape) → QueriedAnswer query raw shape (Ok t) → IsWritableTarget t
 of_query t raw query shape (inr h) = never t BadQuery h.1
 of_query t raw query shape (inl h) = of_shape h.0 raw shape t h.2
 

@@ -5,7 +5,7 @@ use Rattle.doc_names.specs.declared.usages.Usage.{Usage}
 use Rattle.http_wire.specs.declared.request.Request.{Request}
 use Rattle.reply_text.specs.ReplyHeads.{SentReply, plain}
 use Rattle.request_checks.specs.Conditions.{IsStop}
-use Rattle.xcap_machine.specs.Answers.{Answer, BehindConditions, unchanged}
+use Rattle.xcap_machine.specs.Answers.{Answer, AfterConditions, unchanged}
 use Rattle.xcap_machine.specs.inner.Cases.{Behind}
 use Rattle.xcap_machine.specs.DocumentWrites.{IfStored}
 use Rattle.xcap_machine.specs.inner.Records.{representation}
@@ -24,10 +24,10 @@ at_false b P Q is q = subst (λ (t : Bool). MatchBool t P Q) (sym is) q
 
 -- a reply that stops the request is the answer; without one, what follows counts
 module _ (request : Request) (tag : Option ℕ) (exists reading : Bool) (stop : Option SentReply) (is : IsStop request tag exists reading stop) where
-  pub stopped : (reply : SentReply) (P : Type 0) → stop ≡ Some reply → BehindConditions request (representation tag exists) reading (unchanged reply) P
+  pub stopped : (reply : SentReply) (P : Type 0) → stop ≡ Some reply → AfterConditions request (representation tag exists) reading (unchanged reply) P
   stopped reply P so = (stop, is, subst (λ (s : Option SentReply). Behind s (unchanged reply) P) (sym so) refl)
 
-  pub unstopped : (a : Answer) (P : Type 0) → stop ≡ None → P → BehindConditions request (representation tag exists) reading a P
+  pub unstopped : (a : Answer) (P : Type 0) → stop ≡ None → P → AfterConditions request (representation tag exists) reading a P
   unstopped a P so p = (stop, is, subst (λ (s : Option SentReply). Behind s a P) (sym so) p)
 
 -- a usage that stores documents, and one that doesn't

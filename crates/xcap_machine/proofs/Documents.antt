@@ -6,7 +6,7 @@ use Rattle.doc_names.specs.declared.doc_id.DocId.{DocId}
 use Rattle.doc_names.proofs.SameIds.{id_exact}
 use Rattle.edit_ops.specs.Notes.{Note}
 use Rattle.store_core.specs.DocumentChanges.{document_in, document_name, with_document, without_document}
-use Rattle.store_core.specs.State.{Document, renewed}
+use Rattle.store_core.specs.State.{Document, document_after}
 
 -- ---- lists
 
@@ -73,22 +73,22 @@ found_less (d ∷ ds) other id x is = by (same_id other d.id) refl is (found_les
     by false e s f = first (same_id id d.id) s f
 
 pub found_edited : (next : ℕ) (note : Document → Note) (ds : List Document) (other id : DocId) (x : Document)
-    → document_in document_name (with_document document_name (λ d. renewed next d (note d)) ds other) id ≡ Some x
-    → (d : Document) × (document_in document_name ds id ≡ Some d) × ((x ≡ d) ⊎ (x ≡ renewed next d (note d)))
+    → document_in document_name (with_document document_name (λ d. document_after next d (note d)) ds other) id ≡ Some x
+    → (d : Document) × (document_in document_name ds id ≡ Some d) × ((x ≡ d) ⊎ (x ≡ document_after next d (note d)))
 found_edited next note [] other id x is = absurd cc
 found_edited next note (d ∷ ds) other id x is = by (same_id other d.id) is (found_edited next note ds other id x)
   where
-    here : (c : Bool) (y : Document) → (x ≡ y → (x ≡ d) ⊎ (x ≡ renewed next d (note d)))
-        → cond c (Some y) (document_in document_name (with_document document_name (λ e. renewed next e (note e)) ds other) id) ≡ Some x
-        → (document_in document_name (with_document document_name (λ e. renewed next e (note e)) ds other) id ≡ Some x
-        → (e : Document) × (document_in document_name ds id ≡ Some e) × ((x ≡ e) ⊎ (x ≡ renewed next e (note e))))
-        → (e : Document) × (cond c (Some d) (document_in document_name ds id) ≡ Some e) × ((x ≡ e) ⊎ (x ≡ renewed next e (note e)))
+    here : (c : Bool) (y : Document) → (x ≡ y → (x ≡ d) ⊎ (x ≡ document_after next d (note d)))
+        → cond c (Some y) (document_in document_name (with_document document_name (λ e. document_after next e (note e)) ds other) id) ≡ Some x
+        → (document_in document_name (with_document document_name (λ e. document_after next e (note e)) ds other) id ≡ Some x
+        → (e : Document) × (document_in document_name ds id ≡ Some e) × ((x ≡ e) ⊎ (x ≡ document_after next e (note e))))
+        → (e : Document) × (cond c (Some d) (document_in document_name ds id) ≡ Some e) × ((x ≡ e) ⊎ (x ≡ document_after next e (note e)))
     here true y is_y s f = let same : y ≡ x = cc in (d, refl, is_y (sym same))
     here false y is_y s f = f s
 
-    by : (b : Bool) → document_in document_name (cond b (renewed next d (note d)) d ∷ with_document document_name (λ e. renewed next e (note e)) ds other) id ≡ Some x
-        → (document_in document_name (with_document document_name (λ e. renewed next e (note e)) ds other) id ≡ Some x
-        → (e : Document) × (document_in document_name ds id ≡ Some e) × ((x ≡ e) ⊎ (x ≡ renewed next e (note e))))
-        → (e : Document) × (document_in document_name (d ∷ ds) id ≡ Some e) × ((x ≡ e) ⊎ (x ≡ renewed next e (note e)))
-    by true s f = here (same_id id d.id) (renewed next d (note d)) (λ same. inr same) s f
+    by : (b : Bool) → document_in document_name (cond b (document_after next d (note d)) d ∷ with_document document_name (λ e. document_after next e (note e)) ds other) id ≡ Some x
+        → (document_in document_name (with_document document_name (λ e. document_after next e (note e)) ds other) id ≡ Some x
+        → (e : Document) × (document_in document_name ds id ≡ Some e) × ((x ≡ e) ⊎ (x ≡ document_after next e (note e))))
+        → (e : Document) × (document_in document_name (d ∷ ds) id ≡ Some e) × ((x ≡ e) ⊎ (x ≡ document_after next e (note e)))
+    by true s f = here (same_id id d.id) (document_after next d (note d)) (λ same. inr same) s f
     by false s f = here (same_id id d.id) d (λ same. inl same) s f

@@ -27,14 +27,14 @@ use Rattle.edit_ops.specs.declared.edit.Edit.{Edit}
 use Rattle.reply_text.specs.ReplyHeads.{SentReply}
 use Rattle.http_wire.specs.declared.request.Request.{Request}
 use Rattle.request_checks.specs.declared.method.Method.TheVariants.{Put, Delete}
-use Rattle.store_core.specs.DocumentChanges.{Edits, act_of, against_tree, content_after, document_in, held_after, stored_name}
+use Rattle.store_core.specs.DocumentChanges.{Edits, act_of, refusal_of_tree, content_after, document_in, held_after, stored_name}
 use Rattle.store_core.specs.Contents.{StoredDocument, Represents, StoreContents as Content}
 use Rattle.store_core.specs.ValidStates.{AreDistinct, IsValidState}
 use Rattle.store_core.specs.State.{State}
 use Rattle.xcap_machine.specs.Answers.{Answer, Made}
-use Rattle.xcap_machine.specs.Effects.{DeletedIsGone, DocumentIsThere, ElementIsThere, IsUnconditional, LeavesTrees, NodeIsGone, NodeIsThere, PutIsThere, SecondPutLeavesTrees, TargetIsGone, TargetIsThere, ValueIsThere}
+use Rattle.xcap_machine.specs.Effects.{DeletedIsGone, DocumentExists, ElementExists, IsUnconditional, LeavesTrees, NodeIsGone, NodeExists, PutExists, SecondPutLeavesTrees, TargetIsGone, TargetExists, ValueExists}
 use Rattle.xcap_machine.specs.NodeWrites.{cut_reply, is_there, levels_for, scope_for}
-use Rattle.xcap_machine.specs.Machine.{Does, answer_as, told_as}
+use Rattle.xcap_machine.specs.Machine.{Does, answer_as, made_from}
 use Rattle.xcap_machine.specs.Requests.{Deletes, IsAnswer, Puts}
 use Rattle.xcap_machine.specs.Resources.{version_of}
 use Rattle.xcap_machine.specs.DocumentWrites.{change_answer, deleted_reply, put_change, put_reply}
@@ -85,7 +85,7 @@ record Now (next : Content) (id : DocId) (t : Tree) (tag : ℕ) : Type 0 where
   there : document_in stored_name next.documents id ≡ Some held
   tree : held.tree ≡ t
   numbered : held.tag ≡ tag
-  let_in : against_tree next id false t ≡ None
+  let_in : refusal_of_tree next id false t ≡ None
 
 seen_now : (next : Content) (id : DocId) (t : Tree) (tag : ℕ) → Now next id t tag → ◌≡◌ {A = Option (Tree × ℕ)} (version_of next id) (Some (t, tag))
 seen_now next id t tag n =
@@ -101,7 +101,7 @@ module _ (c : Content) (id : DocId) (made : Made) where
         there = edited_there c id change h.0 acts h.1;
         tree = ap (λ (x : Tree). edited x change) h.2;
         numbered = sym s.number;
-        let_in = let_in_again c (content_after c id change) id false (edited t change) (same_others c id change acts) (subst (λ (x : Tree). against_tree c id false (edited x change) ≡ None) h.2 let_in);
+        let_in = let_in_again c (content_after c id change) id false (edited t change) (same_others c id change acts) (subst (λ (x : Tree). refusal_of_tree c id false (edited x change) ≡ None) h.2 let_in);
       }
 
   now_made : (t : Tree) → document_in stored_name c.documents id ≡ None → StoreMade c id (CreateDocument t) made → Now (content_after c id (CreateDocument t)) id t made.1.next
@@ -129,13 +129,13 @@ module _ (c : Content) (id : DocId) (made : Made) where
 -- ---- accepted requests
 
 -- the contents afterwards are what the change makes
-next_is : (root : List ℕ) (c next : Content) (request : Request) (edit : Edit) (id : DocId) (change : Change) → (reply : SentReply) → Does root c request reply next (Some edit) → StoreMade c id change (told_as edit) → next ≡ content_after c id change
+next_is : (root : List ℕ) (c next : Content) (request : Request) (edit : Edit) (id : DocId) (change : Change) → (reply : SentReply) → Does root c request reply next (Some edit) → StoreMade c id change (made_from edit) → next ≡ content_after c id change
 next_is root c next request edit id change reply a s =
     a.goes_on ∙ ap (λ (d : DocId). content_after c d edit.note.change) s.of_document ∙ ap (λ (x : Change). content_after c id x) s.of_change
 
 module _ (root : List ℕ) (c next : Content) (request : Request) (edit : Edit) where
   abbrev made : Made
-  made = told_as edit
+  made = made_from edit
 
   -- ---- PUT of a document
 
@@ -155,7 +155,7 @@ module _ (root : List ℕ) (c next : Content) (request : Request) (edit : Edit) 
         let s = store_made c id change request.closes (put_reply (is_some (version_of c id)) request.closes) answer made refl document_made.answers in
         subst (λ (x : Content). Now x id document_made.tree edit.note.next) (sym (next_is root c next request edit id change a.reply a.does s)) (now_put c id made document_made.tree s)
 
-    document_is_there : DocumentIsThere next id edit.note.next request.body
+    document_is_there : DocumentExists next id edit.note.next request.body
     document_is_there = record { tree = document_made.tree; spelled = document_made.spelled; held = seen_now next id document_made.tree edit.note.next document_now }
 
     document_leaves : AreDistinct (map stored_name next.documents) → IsUnconditional request → (b : Answer) → IsAnswer root next request b → LeavesTrees next request b
@@ -186,10 +186,10 @@ module _ (root : List ℕ) (c next : Content) (request : Request) (edit : Edit) 
         let s = store_made c id change request.closes (put_reply (is_there before selector) request.closes) node_answer made refl answers in
         subst (λ (x : Content). Now x id (edited before change) edit.note.next) (sym (next_is root c next request edit id change a.reply a.does s)) (now_edited c id made change before node_made.tag acts node_made.held s)
 
-    element_is_there : selector.end ≡ ends.Element → ElementIsThere (put_of c next id edit.note.next selector request.body)
+    element_is_there : selector.end ≡ ends.Element → ElementExists (put_of c next id edit.note.next selector request.body)
     element_is_there ends_so = by node_made.put.put
       where
-        by : NodePut c id node_enters.usage selector before request node_answer → ElementIsThere (put_of c next id edit.note.next selector request.body)
+        by : NodePut c id node_enters.usage selector before request node_answer → ElementExists (put_of c next id edit.note.next selector request.body)
         by (of_value p uri local value ends_in place spelled change plan answers) = let z : ends.Element ≡ ends.Attribute uri local = sym ends_so ∙ ends_in in cc
         by (of_element spot _ place e spelled change plan answers) =
             let put = put_is node_enters.usage before selector.steps spot e change plan in
@@ -208,10 +208,10 @@ module _ (root : List ℕ) (c next : Content) (request : Request) (edit : Edit) 
               there = put.there;
             }
 
-    value_is_there : (uri local : List ℕ) → selector.end ≡ ends.Attribute uri local → ValueIsThere (put_of c next id edit.note.next selector request.body) uri local
+    value_is_there : (uri local : List ℕ) → selector.end ≡ ends.Attribute uri local → ValueExists (put_of c next id edit.note.next selector request.body) uri local
     value_is_there uri local ends_so = by node_made.put.put
       where
-        by : NodePut c id node_enters.usage selector before request node_answer → ValueIsThere (put_of c next id edit.note.next selector request.body) uri local
+        by : NodePut c id node_enters.usage selector before request node_answer → ValueExists (put_of c next id edit.note.next selector request.body) uri local
         by (of_element spot ends_in place e spelled change plan answers) = let z : ends.Element ≡ ends.Attribute uri local = sym ends_in ∙ ends_so in cc
         by (of_value p _ _ value _ place spelled change plan answers) =
             let here : IsValuePlan (record { usage = node_enters.usage; document = before; steps = selector.steps }) (record { path = p; uri = uri; local = local }) value (Ok change) = subst (λ (end : End). IsAttrPlan (record { usage = node_enters.usage; document = before; steps = selector.steps }) end p value (Ok change)) ends_so plan in
@@ -237,7 +237,7 @@ module _ (root : List ℕ) (c next : Content) (request : Request) (edit : Edit) 
         leaves : (change : Change) (t : Tree) → Now next id t edit.note.next → act_of change ≡ Edits → edited t change ≡ t → b ≡ change_answer next id change request.closes (put_reply true request.closes) → LeavesTrees next request b
         leaves change t now acts same put =
             let of_held : edited now.held.tree change ≡ now.held.tree = ap (λ (x : Tree). edited x change) now.tree ∙ same ∙ sym now.tree in
-            let let_in : against_tree next id false (edited now.held.tree change) ≡ None = subst (λ (x : Tree). against_tree next id false x ≡ None) (sym (of_held ∙ now.tree)) now.let_in in
+            let let_in : refusal_of_tree next id false (edited now.held.tree change) ≡ None = subst (λ (x : Tree). refusal_of_tree next id false x ≡ None) (sym (of_held ∙ now.tree)) now.let_in in
             leaves_trees next id change now.held acts now.there let_in request b (put_reply true request.closes) (λ n. refl) of_held apart put
 
         by : NodePut c id node_enters.usage selector before request node_answer → LeavesTrees next request b
@@ -263,10 +263,10 @@ module _ (root : List ℕ) (c next : Content) (request : Request) (edit : Edit) 
             leaves change t now acts twice.2
             (value_again next id usage selector t request b node_made.put.typed free root edit.note.next p uri local value change ends_so twice.0 twice.1 (written_finds usage before selector.steps uri local p value change written) spelled (of_version t (seen_now next id t edit.note.next now)))
 
-  node_is_there : (id : DocId) (selector : Selector) → Accepts root c request Put (Node id selector) next edit → NodeIsThere (put_of c next id edit.note.next selector request.body) selector.end
+  node_is_there : (id : DocId) (selector : Selector) → Accepts root c request Put (Node id selector) next edit → NodeExists (put_of c next id edit.note.next selector request.body) selector.end
   node_is_there id selector a = by selector.end refl
     where
-      by : (end : End) → selector.end ≡ end → NodeIsThere (put_of c next id edit.note.next selector request.body) end
+      by : (end : End) → selector.end ≡ end → NodeExists (put_of c next id edit.note.next selector request.body) end
       by ends.Element ends_so = element_is_there id selector a ends_so
       by (ends.Attribute uri local) ends_so = value_is_there id selector a uri local ends_so
       by ends.Namespaces ends_so = absurd (no_bindings c id (node_enters id selector a).usage selector (before id selector a) request (node_answer id selector a) (node_made id selector a).put.put ends_so)
@@ -288,8 +288,8 @@ module _ (root : List ℕ) (c next : Content) (request : Request) (edit : Edit) 
   of_documents P document node (ElementFeed tag id selector raw) a = absurd (put_passed (ElementFeed tag id selector raw) a).does
   of_documents P document node (Flat id service) a = absurd (put_passed (Flat id service) a).does
 
-  target_is_there : (target : Target) → Accepts root c request Put target next edit → TargetIsThere c next target edit.note.next request.body
-  target_is_there = of_documents (λ (t : Target). TargetIsThere c next t edit.note.next request.body) document_is_there node_is_there
+  target_is_there : (target : Target) → Accepts root c request Put target next edit → TargetExists c next target edit.note.next request.body
+  target_is_there = of_documents (λ (t : Target). TargetExists c next t edit.note.next request.body) document_is_there node_is_there
 
   leaves_by : (target : Target) → Accepts root c request Put target next edit → AreDistinct (map stored_name next.documents) → IsUnconditional request → (b : Answer) → IsAnswer root next request b → LeavesTrees next request b
   leaves_by = of_documents (λ (t : Target). AreDistinct (map stored_name next.documents) → IsUnconditional request → (b : Answer) → IsAnswer root next request b → LeavesTrees next request b) document_leaves node_leaves
@@ -333,7 +333,7 @@ module _ (root : List ℕ) (c next : Content) (request : Request) (edit : Edit) 
 
 -- ---- what a request does
 
-pub put_is_there : (root : List ℕ) (c next : Content) (request : Request) (reply : SentReply) (edit : Option Edit) → Does root c request reply next edit → PutIsThere root c request edit next
+pub put_is_there : (root : List ℕ) (c next : Content) (request : Request) (reply : SentReply) (edit : Option Edit) → Does root c request reply next edit → PutExists root c request edit next
 put_is_there root c next request reply None does = tt
 put_is_there root c next request reply (Some edit) does = λ asks.
     let a = accepted root c next request reply edit Put does asks in

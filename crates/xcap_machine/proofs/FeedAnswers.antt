@@ -34,7 +34,7 @@ use Rattle.store_core.specs.ValidStates.{IsKept, IsValidState}
 use Rattle.store_core.specs.Since.{Gone, ChangesSince, ReportedChanges, Unknown, notes_from, since}
 use Rattle.store_core.specs.inner.ChangesSince.{held_since, changes_since_of}
 use Rattle.store_core.specs.State.{Document, State, Version, versions}
-use Rattle.xcap_machine.specs.Subscribers.{Brings, TellsSince, answer_between, fetch_between, subscribed}
+use Rattle.xcap_machine.specs.Subscribers.{Brings, ReportsSince, answer_between, fetch_between, subscribed}
 use Rattle.xcap_machine.proofs.OneVersion.{found_all, held_there, one_version}
 use Rattle.xcap_machine.proofs.Present.{aggregate, gone, patching, some_version, tags_alone}
 use Rattle.xcap_machine.specs.Answers.{Answer, unchanged}
@@ -90,7 +90,7 @@ led id notice held answer new body same brings = record {
 
 module _ (root : List ℕ) (is_root : IsRoot root (authority_of root) (path_of root)) (c : StoreContents) (m : State) (kept : IsValidState m) (stands : Represents c m)
     (mode : Mode) (tag : ℕ) (id : DocId) (encodable : is_encodable id ≡ true) (body : List ℕ) where
-  by_mode : (one : Mode) (d : Document) (from : Version) (ns : List Note) → TellsSince c m (notes_since id d from ns) → body ≡ encode_utf8_all (document_print (notice_of one root (id_text id) from.tag ns)) → UpdatesTo one id body from d.now
+  by_mode : (one : Mode) (d : Document) (from : Version) (ns : List Note) → ReportsSince c m (notes_since id d from ns) → body ≡ encode_utf8_all (document_print (notice_of one root (id_text id) from.tag ns)) → UpdatesTo one id body from d.now
   by_mode NoPatching d from ns tells same = led id _ (subscribed from) (fetch_between from d.now) (subscribed from) body same (tags_alone c m (notes_since id d from ns) root tells is_root encodable)
   by_mode XcapPatching d from ns tells same = led id _ (subscribed from) (answer_between from d.now) (subscribed d.now) body same (patching c m (notes_since id d from ns) root tells is_root encodable)
   by_mode Aggregate d from ns tells same = led id _ (subscribed from) (answer_between from d.now) (subscribed d.now) body same (aggregate c m (notes_since id d from ns) root tells is_root encodable)

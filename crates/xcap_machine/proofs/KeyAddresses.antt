@@ -14,7 +14,7 @@ use Rattle.edit_rules.specs.KeyWrites.{KeepsKeyAddresses}
 use Rattle.edit_rules.proofs.Stable.{after_change}
 use Rattle.edit_ops.specs.Notes.{Note}
 use Rattle.store_core.specs.Queries.{Asks, AsksAct, MayBe, MayBeFor}
-use Rattle.store_core.specs.DocumentChanges.{Act, Makes, Edits, Removes, act_of, against, changing, content_after, document_in, held_after, stored_name, note_for}
+use Rattle.store_core.specs.DocumentChanges.{Act, Makes, Edits, Removes, act_of, refusal_of, change_result, content_after, document_in, held_after, stored_name, note_for}
 use Rattle.store_core.specs.Contents.{StoredDocument, Represents, StoreContents as Content}
 use Rattle.xcap_machine.specs.KeyAddresses.{KeepsAddressesOf}
 use Rattle.store_core.specs.ValidStates.{IsSound, IsSoundFor, IsValidState}
@@ -66,8 +66,8 @@ asked_stays c id change all asks = λ usage before after known held now. stays_b
 pub change_stays : (c : Content) (m : State) (id : DocId) (change : Change) → Represents c m → IsValidState m → Asks c id change → KeepsAddressesOf c id change (content_after c id change)
 change_stays c m id change stands kept asks = asked_stays c id change (all_sound c m stands kept) asks
 
-pub made_stays : (c : Content) (m : State) (id : DocId) (change : Change) (note : Note) (next : Content) → Represents c m → IsValidState m → Asks c id change → changing c id change ≡ Ok (note, next) → KeepsAddressesOf c id change next
+pub made_stays : (c : Content) (m : State) (id : DocId) (change : Change) (note : Note) (next : Content) → Represents c m → IsValidState m → Asks c id change → change_result c id change ≡ Ok (note, next) → KeepsAddressesOf c id change next
 made_stays c m id change note next stands kept asks made =
     let found = document_in stored_name c.documents id in
-    let same : content_after c id change ≡ next = told-next (against c id change found (act_of change)) (note_for c id change found) note (content_after c id change) next made in
+    let same : content_after c id change ≡ next = told-next (refusal_of c id change found (act_of change)) (note_for c id change found) note (content_after c id change) next made in
     subst (λ (x : Content). KeepsAddressesOf c id change x) same (change_stays c m id change stands kept asks)

@@ -4,7 +4,7 @@ use Rattle.std.specs.Bool.{MatchBool}
 use Rattle.xml_tree.specs.Tree.{Tree}
 use Rattle.tree_text.specs.Faults.{BodyAnswer, TextAnswer}
 use Rattle.xml_tree.specs.Print.{document_print}
-use Rattle.tree_text.specs.readers.Whole.{body_read, text_read}
+use Rattle.tree_text.specs.readers.Whole.{read_body_text, read_document_text}
 use Rattle.tree_text.proofs.ReadAnswers.{body_answer, text_answer}
 use Rattle.tree_text.proofs.OneAnswer.{one_body as one_value_reading, one_text as one_reading}
 use Rattle.tree_text.specs.declared.fault.TextFault.{TextFault}
@@ -54,12 +54,12 @@ use Rattle.element_watch.proofs.States.{one_notice, some_notice}
 use Rattle.store_core.specs.Since.{ChangesSince, Gone, Unknown, ReportedChanges, since}
 use Rattle.store_core.specs.Contents.{StoreContents as Content}
 use Rattle.list_resolve.proofs.OneList.{one_list, some_list}
-use Rattle.xcap_machine.specs.Answers.{Answer, BehindConditions, conflict, found, not_allowed, unchanged}
+use Rattle.xcap_machine.specs.Answers.{Answer, AfterConditions, conflict, found, not_allowed, unchanged}
 use Rattle.xcap_machine.specs.Requests.{ByMethod, ByTarget, ByUser, Deletes, IsAnswer, Puts, auid_of, fault_status, home_of, is_bindings, is_read_only, takes, ReadsTarget as Reads}
 use Rattle.xcap_machine.specs.ElementFeeds.{TellsElement}
 use Rattle.xcap_machine.specs.Feeds.{sends_notice, changes_since_answer}
 use Rattle.xcap_machine.specs.FlatLists.{IsFlatDocument, document_of, sends_flat}
-use Rattle.xcap_machine.specs.ReadRequests.{SendsDocument, SendsFound, SendsNode}
+use Rattle.xcap_machine.specs.ReadRequests.{SendsDocument, AnswersWithFound, SendsNode}
 use Rattle.xcap_machine.specs.Resources.{IsResourceOf, Resource, absent, beyond_limit, there, version_of}
 use Rattle.xcap_machine.specs.NodeWrites.{CutsNode, PutsAt, PutsElement, PutsFragment, PutsFrom, PutsValue, cut_reply, is_there, levels_for, plan_answer, put_planned, scope_for, value_conflict}
 use Rattle.xcap_machine.specs.DocumentWrites.{IfStored, PutsBody, PutsDocument, PutsSpelled, change_answer, deleted_reply, missing_parent_answer, put_answer, text_conflict}
@@ -92,7 +92,7 @@ one_past : (stop : Option SentReply) (P : Answer → Type 0) → IsOne P → IsO
 one_past None P p = p
 one_past (Some reply) P p = one_equal (unchanged reply)
 
-one_behind : (request : Request) (tag : Option ℕ) (exists reading : Bool) (P : Answer → Type 0) → IsOne P → IsOne (λ a. BehindConditions request (representation tag exists) reading a (P a))
+one_behind : (request : Request) (tag : Option ℕ) (exists reading : Bool) (P : Answer → Type 0) → IsOne P → IsOne (λ a. AfterConditions request (representation tag exists) reading a (P a))
 one_behind request tag exists reading P p =
     let stop = some_stop request tag exists reading in
     one_by (IsStop request tag exists reading) (λ s a. Behind s a (P a)) stop.0 stop.1 (λ s is. one_stop request tag exists reading s stop.0 is stop.1) (one_past stop.0 P p)
@@ -100,7 +100,7 @@ one_behind request tag exists reading P p =
 -- ---- reading
 
 module _ (method : Method) (request : Request) where
-  one_found : (text : Option (List ℕ)) (tag : ℕ) (media : MediaType) → IsOne (λ a. SendsFound text tag media (read_by method request) a)
+  one_found : (text : Option (List ℕ)) (tag : ℕ) (media : MediaType) → IsOne (λ a. AnswersWithFound text tag media (read_by method request) a)
   one_found None tag media = one_equal (unchanged (plain 404 request.closes))
   one_found (Some text) tag media =
       let last : Answer = unchanged (for_method method (found (Some tag) media text request.closes)) in
@@ -121,7 +121,7 @@ module _ (method : Method) (request : Request) where
   one_element_told root c tag id selector raw Unknown is = one_equal (unchanged (plain 410 request.closes))
   one_element_told root c tag id selector raw (ReportedChanges ns) is =
       let notice = some_notice root c tag id selector raw ns is in
-      one_by (IsElementNotice (record { root = root; doc = id; selector = selector; raw = raw }) c ns) (λ n a. a ≡ sends_notice n (read_by method request)) notice.0 notice.1 (λ n h. one_notice root c id selector raw ns n notice.0 h notice.1) (one_equal (sends_notice notice.0 (read_by method request)))
+      one_by (IsElementNotice root (record { doc = id; selector = selector; raw = raw }) c ns) (λ n a. a ≡ sends_notice n (read_by method request)) notice.0 notice.1 (λ n h. one_notice root c id selector raw ns n notice.0 h notice.1) (one_equal (sends_notice notice.0 (read_by method request)))
 
   one_read : (root : List ℕ) (c : Content) (target : Target) → IsOne (λ a. Reads (server_of root c) target (read_by method request) a)
   one_read root c (Document id) =
@@ -149,7 +149,7 @@ one_text usage closes answer (Ok t) =
 
 one_spelled : (usage : Usage) (request : Request) (answer : Tree → Answer) → IsOne (λ a. PutsSpelled usage request answer a)
 one_spelled usage request answer =
-    let read = text_read 64 [] request.body in
+    let read = read_document_text 64 [] request.body in
     let spelled = text_answer 64 [] request.body in
     one_by (TextAnswer 64 [] request.body) (λ r a. PutsText usage r request.closes answer a) read spelled (λ r is. one_reading 64 [] request.body r read is spelled) (one_text usage request.closes answer read)
 
@@ -178,7 +178,7 @@ module _ (c : Content) (id : DocId) (request : Request) where
     one_element spot ends_so is =
         let levels = levels_for spot in
         let scope = scope_for t spot in
-        let read = text_read levels scope request.body in
+        let read = read_document_text levels scope request.body in
         let spelled = text_answer levels scope request.body in
         one_by (TextAnswer levels scope request.body) (λ r a. PutsElementText c (write_of id usage selector request) t spot r a) read spelled
         (λ r h. one_reading levels scope request.body r read h spelled) (one_element_text spot ends_so is read)
@@ -192,7 +192,7 @@ module _ (c : Content) (id : DocId) (request : Request) where
 
     one_value : (p : List ℕ) → IsSpotOf t selector (Value p) → IsOne (λ a. PutsValue c (write_of id usage selector request) t p a)
     one_value p is =
-        let read = body_read request.body in
+        let read = read_body_text request.body in
         let spelled = body_answer request.body in
         one_by (BodyAnswer request.body) (λ r a. PutsValueText c (write_of id usage selector request) t p r a) read spelled (λ r h. one_value_reading request.body r read h spelled) (one_value_text p is read)
 
@@ -239,7 +239,7 @@ module _ (c : Content) (id : DocId) (request : Request) where
   one_node_deleted usage selector node (Some (t, tag)) =
       let Last : Answer → Type 0 = λ a. CutsNode c (write_of id usage selector request) t a in
       let missing : Answer = unchanged (plain 404 request.closes) in
-      one_either (is_there t selector) (λ a. BehindConditions request (representation (Some tag) true) false a (Last a)) (λ a. a ≡ missing) (λ _. one_behind request (Some tag) true false Last (one_cut usage selector t node)) (λ _. one_equal missing)
+      one_either (is_there t selector) (λ a. AfterConditions request (representation (Some tag) true) false a (Last a)) (λ a. a ≡ missing) (λ _. one_behind request (Some tag) true false Last (one_cut usage selector t node)) (λ _. one_equal missing)
 
 -- ---- all in order
 

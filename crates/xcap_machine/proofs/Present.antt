@@ -16,7 +16,7 @@ use Rattle.edit_ops.specs.Changes.{edited}
 use Rattle.edit_ops.specs.Notes.{Note, tag_after, tree_after}
 use Rattle.patch_rules.specs.Replay.{CopyAnswer, CopyFault, Fetch, ReplicaContents, Patched, Removed, Replays, Same}
 use Rattle.patch_rules.specs.Notices.{aggregate_notice, gone_notice, patching_notice, tags_notice}
-use Rattle.patch_laws.specs.Premises.{AreFew, AreTold, IsTold}
+use Rattle.patch_laws.specs.Premises.{AreFew, AreDiffableTrees, IsDiffableTree}
 use Rattle.patch_laws.specs.ReplayLaws.{answer_for}
 use Rattle.patch_laws.proofs.OtherNotices.{gone_read, gone_replayed, same_replayed, tags_read, tags_replayed}
 use Rattle.patch_laws.proofs.LawStatements.{aggregate_read, aggregate_replayed, patching_read, patching_replayed}
@@ -28,17 +28,17 @@ use Rattle.store_core.specs.Since.{ReportedChanges, since}
 use Rattle.store_core.specs.State.{Document, State, Version, versions}
 use Rattle.store_core.proofs.Bridge.{told_since}
 use Rattle.xcap_machine.specs.inner.Records.{notes_since}
-use Rattle.xcap_machine.specs.Subscribers.{Brings, TellsSince, VersionNotes, answer_between, fetch_between, subscribed}
+use Rattle.xcap_machine.specs.Subscribers.{Brings, ReportsSince, VersionNotes, answer_between, fetch_between, subscribed}
 use Rattle.xcap_machine.proofs.Letters.{id_chars, root_chars}
 use Rattle.xcap_machine.proofs.OneVersion.{answered, found_all, one_version}
 
 -- ---- diff documents lead from and to sound trees
 
-told_sound : (usage : Option Usage) (t : Tree) → IsSoundFor usage t → IsTold t
+told_sound : (usage : Option Usage) (t : Tree) → IsSoundFor usage t → IsDiffableTree t
 told_sound None t h = absurd h
 told_sound (Some usage) t h = record { proper = h.proper; low = h.low; short = omega (arith, h.short) }
 
-told_all : (usage : Option Usage) (t : Tree) (ns : List Note) → AreSound usage t ns → AreTold t ns
+told_all : (usage : Option Usage) (t : Tree) (ns : List Note) → AreSound usage t ns → AreDiffableTrees t ns
 told_all usage t [] h = told_sound usage t h
 told_all usage t (n ∷ ns) h = (told_sound usage t h.0, told_all usage (edited t n.change) ns h.1)
 
@@ -69,7 +69,7 @@ fetched from to (n ∷ ns) true h same = absurd cc
 fetched from to (n ∷ ns) false h same = ap (λ (tag : ℕ). Fetch (decimal tag)) same
 
 module _ (id : DocId) (root : List ℕ) (next : ℕ) (from to : Version) (ns : List Note) (between : AreBetween next from to ns) (mine : is_name_of id (id_text id) ≡ true) (chars : all_chars root ≡ true) where
-  told : AreTold from.tree ns
+  told : AreDiffableTrees from.tree ns
   told = told_all between.usage from.tree ns between.leads.sound
 
   are_few : AreFew ns
@@ -109,7 +109,7 @@ same_version m id d from number ns s kept same there held =
     let k : IsKept m.next d = found_all (IsKept m.next) (λ x. same_id id x.id) m.documents d kept.documents there in
     one_version d.now d.earlier s.number number s.from from k.follows (ap (λ (x : Document). slice_get (versions x) s.number) (sym same) ∙ s.is_version) held s.same_tag
 
-between : (c : Content) (m : State) (v : VersionNotes) → TellsSince c m v → AreBetween m.next v.from v.document.now v.notes
+between : (c : Content) (m : State) (v : VersionNotes) → ReportsSince c m v → AreBetween m.next v.from v.document.now v.notes
 between c m v h =
     let s = told_since c m v.id v.from.tag v.notes h.kept h.stands h.told in
     let doc : s.document ≡ v.document = same_document (document_in document_name m.documents v.id) s.document v.document s.there h.there in
@@ -123,7 +123,7 @@ between c m v h =
 
 -- ---- the laws as they are stated
 
-pub some_version : (c : Content) (m : State) (id : DocId) (tag : ℕ) (ns : List Note) → IsValidState m → Represents c m → since c id tag ≡ ReportedChanges ns → (d : Document) × (from : Version) × (from.tag ≡ tag) × TellsSince c m (notes_since id d from ns)
+pub some_version : (c : Content) (m : State) (id : DocId) (tag : ℕ) (ns : List Note) → IsValidState m → Represents c m → since c id tag ≡ ReportedChanges ns → (d : Document) × (from : Version) × (from.tag ≡ tag) × ReportsSince c m (notes_since id d from ns)
 some_version c m id tag ns kept stands told =
     let s = told_since c m id tag ns kept stands told in (
       s.document,
@@ -132,7 +132,7 @@ some_version c m id tag ns kept stands told =
       record { kept = kept; stands = stands; there = s.there; number = s.number; is_version = s.is_version; told = ap (since c id) s.same_tag ∙ told },
     )
 
-module _ (c : Content) (m : State) (v : VersionNotes) (root : List ℕ) (tells : TellsSince c m v) (is_root : IsRoot root (authority_of root) (path_of root)) (encodable : is_encodable v.id ≡ true) where
+module _ (c : Content) (m : State) (v : VersionNotes) (root : List ℕ) (tells : ReportsSince c m v) (is_root : IsRoot root (authority_of root) (path_of root)) (encodable : is_encodable v.id ≡ true) where
   chars : all_chars root ≡ true
   chars = root_chars root (authority_of root) (path_of root) is_root
 

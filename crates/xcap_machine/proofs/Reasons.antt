@@ -41,19 +41,19 @@ use Rattle.request_checks.specs.declared.conditions.Outcome.TheVariants.{Unreada
 use Rattle.request_checks.specs.declared.method.Method.{Method}
 use Rattle.request_checks.specs.declared.method.Method.TheVariants.{Get, Head, Put, Delete, Other}
 use Rattle.reply_bodies.specs.Nodes.{encoded, found_text, node_media}
-use Rattle.store_core.specs.DocumentChanges.{changing}
+use Rattle.store_core.specs.DocumentChanges.{change_result}
 use Rattle.store_core.specs.Contents.{StoreContents as Content}
 use Rattle.store_core.specs.Since.{ChangesSince, Gone, Unknown, ReportedChanges, since}
 use Rattle.store_core.specs.declared.refusal.StoreRefusal.{StoreRefusal}
 use Rattle.store_core.specs.declared.refusal.StoreRefusal.TheVariants as refusals
-use Rattle.xcap_machine.specs.Answers.{Answer, BehindConditions, conflict, found, not_allowed, unchanged}
+use Rattle.xcap_machine.specs.Answers.{Answer, AfterConditions, conflict, found, not_allowed, unchanged}
 use Rattle.xcap_machine.specs.NodeWrites.{CutsNode, PutsAt, PutsFragment, PutsFrom, cut_reply, is_there, plan_answer, value_conflict}
 use Rattle.xcap_machine.specs.ElementFeeds.{TellsElement}
 use Rattle.list_resolve.specs.declared.fault.FlatFault.{FlatFault}
 use Rattle.list_resolve.specs.declared.fault.FlatFault.TheVariants.{NoService, TooWide, TooLarge}
 use Rattle.xcap_machine.specs.Feeds.{sends_notice, changes_since_answer}
 use Rattle.xcap_machine.specs.FlatLists.{sends_flat}
-use Rattle.xcap_machine.specs.ReadRequests.{SendsDocument, SendsFound, SendsNode}
+use Rattle.xcap_machine.specs.ReadRequests.{SendsDocument, AnswersWithFound, SendsNode}
 use Rattle.xcap_machine.specs.Requests.{ByMethod, ByTarget, ByUser, Deletes, IsAnswer, Puts, auid_of, fault_status, home_of, is_read_only, takes, ReadsTarget as Reads}
 use Rattle.xcap_machine.specs.Resources.{Resource, absent, beyond_limit, there, version_of}
 use Rattle.xcap_machine.specs.DocumentWrites.{IfStored, PutsBody, PutsDocument, PutsSpelled, change_answer, deleted_reply, fault_conflict, put_answer, put_change, put_reply, text_conflict}
@@ -86,7 +86,7 @@ module _ (request : Request) (a : Answer) where
   by_outcome NotModified tag P so is = fine _ refl is
   by_outcome Failed tag P so is = fine _ refl is
 
-  behind : (tag : Option ℕ) (exists reading : Bool) (P : Type 0) → (P → Fine a) → BehindConditions request (representation tag exists) reading a P → Fine a
+  behind : (tag : Option ℕ) (exists reading : Bool) (P : Type 0) → (P → Fine a) → AfterConditions request (representation tag exists) reading a P → Fine a
   behind tag exists reading P so is = by_outcome is.1.0 tag P so (subst (λ (stop : Option SentReply). Behind stop a P) is.1.2 is.2)
 
   no_usage : (u : Option Usage) (P : Usage → Type 0) → ((usage : Usage) → P usage → Fine a) → IfStored u request a P → Fine a
@@ -107,7 +107,7 @@ module _ (request : Request) (a : Answer) where
     by_plan (Err plans.CannotInsert) is = fine _ refl is
     by_plan (Err plans.CannotDelete) is = fine _ refl is
     by_plan (Err (plans.Faulty fault)) is = fine _ refl is
-    by_plan (Ok change) is = by_store (changing c id change) (is ∙ as_the_store c id change request.closes reply)
+    by_plan (Ok change) is = by_store (change_result c id change) (is ∙ as_the_store c id change request.closes reply)
 
 -- ---- reading
 
@@ -119,7 +119,7 @@ asked_so Delete reply other = other
 asked_so Other reply other = other
 
 module _ (method : Method) (request : Request) (a : Answer) where
-  found_so : (text : Option (List ℕ)) (tag : ℕ) (media : MediaType) → SendsFound text tag media (read_by method request) a → Fine a
+  found_so : (text : Option (List ℕ)) (tag : ℕ) (media : MediaType) → AnswersWithFound text tag media (read_by method request) a → Fine a
   found_so None tag media is = only request a 404 refl is
   found_so (Some text) tag media is =
       let reply = found (Some tag) media text request.closes in
@@ -178,7 +178,7 @@ module _ (c : Content) (id : DocId) (request : Request) (a : Answer) where
   judged_so None t is =
       let exists = is_some (version_of c id) in
       let change = put_change exists t in
-      by_store request a c id (put_reply exists request.closes) (put_so exists request.closes) (changing c id change) (is ∙ as_the_store c id change request.closes (put_reply exists request.closes))
+      by_store request a c id (put_reply exists request.closes) (put_so exists request.closes) (change_result c id change) (is ∙ as_the_store c id change request.closes (put_reply exists request.closes))
 
   text_so : (usage : Usage) (read : Result Tree TextFault) → PutsText usage read request.closes (put_answer c id request.closes) a → Fine a
   text_so usage (Err fault) is = conflicts_so request a (text_conflict conflicts.NotWellFormed fault) is
@@ -228,7 +228,7 @@ module _ (c : Content) (id : DocId) (request : Request) (a : Answer) where
   document_deleted_so None is = only request a 404 refl is
   document_deleted_so (Some (t, tag)) is =
       behind request a (Some tag) true false (a ≡ change_answer c id RemoveDocument request.closes (deleted_reply request.closes))
-      (λ so. by_store request a c id (deleted_reply request.closes) (λ note. refl) (changing c id RemoveDocument) (so ∙ as_the_store c id RemoveDocument request.closes (deleted_reply request.closes))) is
+      (λ so. by_store request a c id (deleted_reply request.closes) (λ note. refl) (change_result c id RemoveDocument) (so ∙ as_the_store c id RemoveDocument request.closes (deleted_reply request.closes))) is
 
   cut_so : (usage : Usage) (selector : Selector) (t : Tree) → CutsNode c (write_of id usage selector request) t a → Fine a
   cut_so usage selector t is = by_plan request a c id (cut_reply request.closes) (λ note. refl) is.0 is.2
@@ -237,7 +237,7 @@ module _ (c : Content) (id : DocId) (request : Request) (a : Answer) where
   node_deleted_so usage selector None is = only request a 404 refl is
   node_deleted_so usage selector (Some (t, tag)) is =
       let Last : Type 0 = CutsNode c (write_of id usage selector request) t a in
-      either (is_there t selector) (BehindConditions request (representation (Some tag) true) false a Last) (a ≡ unchanged (plain 404 request.closes))
+      either (is_there t selector) (AfterConditions request (representation (Some tag) true) false a Last) (a ≡ unchanged (plain 404 request.closes))
       (λ _. behind request a (Some tag) true false Last (cut_so usage selector t)) (λ _. only request a 404 refl) is
 
 -- ---- all in order

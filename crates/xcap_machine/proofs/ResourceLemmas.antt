@@ -3,7 +3,8 @@ use Rattle.std.proofs.Common.{◌≡◌, ◌-◌, ℕ, nat_lt, Bool, true, false
 use Rattle.std.specs.Option.{option_map_or}
 use Rattle.std.specs.Str.{bytes_eq}
 use Rattle.xml_tree.specs.Tree.{Tree}
-use Rattle.usage_docs.specs.Services.{document_len, index_limit, index_of_documents}
+use Rattle.usage_docs.specs.Services.{document_len, index_of_documents}
+use Rattle.usage_docs.specs.declared.service_index.TheConstants.{INDEX_LIMIT}
 use Rattle.usage_docs.specs.Capabilities.{capabilities}
 use Rattle.doc_names.specs.declared.doc_id.Auid.{Auid}
 use Rattle.doc_names.specs.declared.doc_id.Auid.TheVariants.{ResourceLists, RlsServices, XcapCaps}
@@ -29,7 +30,7 @@ only_services c root h = h.2 ∙ ap index_of_documents (one-index-trees c h.0 (i
 -- ---- a document
 
 abbrev if_within_limit : Tree → ℕ → Resource
-if_within_limit t tag = if nat_lt index_limit (document_len t) then beyond_limit else there t tag
+if_within_limit t tag = if nat_lt INDEX_LIMIT (document_len t) then beyond_limit else there t tag
 
 abbrev if_held : Option (Tree × ℕ) → Resource
 if_held version = option_map_or (λ held. there held.0 held.1) version absent

@@ -10,14 +10,14 @@ use Rattle.reply_text.specs.ReplyHeads.{SentReply}
 use Rattle.http_wire.specs.declared.request.Request.{Request}
 use Rattle.request_checks.specs.Methods.{method_of}
 use Rattle.request_checks.specs.declared.method.Method.{Method}
-use Rattle.store_core.specs.DocumentChanges.{Act, Makes, Edits, Removes, act_of, after, after_act, against, answered, changing, content_after, document_in, stored_name, note_for}
+use Rattle.store_core.specs.DocumentChanges.{Act, Makes, Edits, Removes, act_of, after, after_act, refusal_of, refusal_or, change_result, content_after, document_in, stored_name, note_for}
 use Rattle.store_core.specs.Contents.{StoredDocument, Represents, StoreContents as Content, stock_of as content_of}
 use Rattle.store_core.specs.ValidStates.{IsValidState}
 use Rattle.store_core.specs.State.{State}
 use Rattle.store_core.specs.declared.refusal.StoreRefusal.{StoreRefusal}
 use Rattle.store_core.proofs.Keeps.{keeps}
 use Rattle.xcap_machine.specs.Answers.{Answer, Made}
-use Rattle.xcap_machine.specs.Machine.{Does, ValidStep, Step, after_answer, answer_as, content_after_answer, told_as}
+use Rattle.xcap_machine.specs.Machine.{Does, ValidStep, Step, after_answer, answer_as, content_after_answer, made_from}
 use Rattle.xcap_machine.specs.Requests.{IsAnswer}
 use Rattle.xcap_machine.specs.Laws.{AllowsOne, ChangesNothing, HasStep, tells_change}
 use Rattle.store_core.proofs.SoundHeld.{all_sound}
@@ -30,11 +30,11 @@ use Rattle.xcap_machine.proofs.Ways.{Way, changes, stays, tells_none, way_of}
 abbrev edit_as : Made → Edit
 edit_as made = record { doc = made.0; note = record { previous = made.1.previous; next = made.1.next; bindings = made.1.bindings; change = made.1.change; fresh = made.1.fresh } }
 
-same_edit : (edit : Option Edit) → option_map edit_as (option_map told_as edit) ≡ edit
+same_edit : (edit : Option Edit) → option_map edit_as (option_map made_from edit) ≡ edit
 same_edit None = refl
 same_edit (Some e) = refl
 
-one_edit : (edit told : Option Edit) → option_map told_as edit ≡ option_map told_as told → edit ≡ told
+one_edit : (edit told : Option Edit) → option_map made_from edit ≡ option_map made_from told → edit ≡ told
 one_edit edit told same = sym (same_edit edit) ∙ ap (λ (o : Option Made). option_map edit_as o) same ∙ same_edit told
 
 pub one_held : (root : List ℕ) (c : Content) (request : Request) → AllowsOne (Does root c request)
@@ -56,7 +56,7 @@ one_step root m request reply other next after edit told s z =
     )
 
 -- each change that is made is the change of an edit
-told_edit : (made : Option Made) → made ≡ option_map told_as (option_map edit_as made)
+told_edit : (made : Option Made) → made ≡ option_map made_from (option_map edit_as made)
 told_edit None = refl
 told_edit (Some made) = refl
 
@@ -76,7 +76,7 @@ some_step root m request =
 
 -- ---- a change that is made
 
-some_told : (edit : Option Edit) (made : Made) → option_map told_as edit ≡ Some made → IsSome edit
+some_told : (edit : Option Edit) (made : Made) → option_map made_from edit ≡ Some made → IsSome edit
 some_told None made h = cc
 some_told (Some e) made h = refl
 
@@ -90,23 +90,23 @@ note_change : (c : Content) (id : DocId) (change : Change) (held : Option Stored
 note_change c id change None = refl
 note_change c id change (Some h) = refl
 
-answered_note : (refusal : Option StoreRefusal) (note told : Note) (c next : Content) → answered refusal note c ≡ Ok (told, next) → told ≡ note
+answered_note : (refusal : Option StoreRefusal) (note told : Note) (c next : Content) → refusal_or refusal note c ≡ Ok (told, next) → told ≡ note
 answered_note None note told c next h = let both : ◌≡◌ {A = Note × Content} (note, c) (told, next) = cc in sym (ap (λ (x : Note × Content). x.0) both)
 answered_note (Some refusal) note told c next h = cc
 
-answered_content : (refusal : Option StoreRefusal) (note told : Note) (c next : Content) → answered refusal note c ≡ Ok (told, next) → c ≡ next
+answered_content : (refusal : Option StoreRefusal) (note told : Note) (c next : Content) → refusal_or refusal note c ≡ Ok (told, next) → c ≡ next
 answered_content None note told c next h = let both : ◌≡◌ {A = Note × Content} (note, c) (told, next) = cc in ap (λ (x : Note × Content). x.1) both
 answered_content (Some refusal) note told c next h = cc
 
-pub made_change : (c : Content) (id : DocId) (change : Change) (note : Note) (next : Content) → changing c id change ≡ Ok (note, next) → note.change ≡ change
+pub made_change : (c : Content) (id : DocId) (change : Change) (note : Note) (next : Content) → change_result c id change ≡ Ok (note, next) → note.change ≡ change
 made_change c id change note next h =
     let held = document_in stored_name c.documents id in
-    ap (λ (n : Note). n.change) (answered_note (against c id change held (act_of change)) (note_for c id change held) note (content_after c id change) next h) ∙ note_change c id change held
+    ap (λ (n : Note). n.change) (answered_note (refusal_of c id change held (act_of change)) (note_for c id change held) note (content_after c id change) next h) ∙ note_change c id change held
 
-pub made_content : (c : Content) (id : DocId) (change : Change) (note : Note) (next : Content) → changing c id change ≡ Ok (note, next) → next ≡ content_after c id note.change
+pub made_content : (c : Content) (id : DocId) (change : Change) (note : Note) (next : Content) → change_result c id change ≡ Ok (note, next) → next ≡ content_after c id note.change
 made_content c id change note next h =
     let held = document_in stored_name c.documents id in
-    sym (answered_content (against c id change held (act_of change)) (note_for c id change held) note (content_after c id change) next h)
+    sym (answered_content (refusal_of c id change held (act_of change)) (note_for c id change held) note (content_after c id change) next h)
     ∙ ap (λ (x : Change). content_after c id x) (sym (made_change c id change note next h))
 
 -- contents that represent a valid state represent the state after an answer, which is valid
@@ -124,7 +124,7 @@ stands_by method closes c m a (changes reply tells same id change note next asks
 pub step_of : (root : List ℕ) (c next : Content) (m : State) (request : Request) (reply : SentReply) (edit : Option Edit) → Does root c request reply next edit → IsValidState m → Represents c m
     → (m' : State) × ValidStep root m request reply m' edit × Represents next m'
 step_of root c next m request reply edit d kept stands =
-    let made = option_map told_as edit in
+    let made = option_map made_from edit in
     let after = stands_by (method_of request.method) request.closes c m (answer_as reply edit) (way_of root c request (answer_as reply edit) d.answers) stands kept in (
       after_answer m made,
       (kept, record { answers = subst (λ (x : Content). IsAnswer root x request (answer_as reply edit)) stands d.answers; goes_on = refl }, after.1),
@@ -146,7 +146,7 @@ is_not status other more = ne_eqb status other (λ e. absurd (omega (arith, more
 -- ---- refused requests
 
 module _ (root : List ℕ) (m : State) (request : Request) (reply : SentReply) (next : State) (edit : Option Edit) (s : Step root m request reply next edit) where
-  nothing_made : option_map told_as edit ≡ None → ChangesNothing m next edit
+  nothing_made : option_map made_from edit ≡ None → ChangesNothing m next edit
   nothing_made none = (s.goes_on ∙ ap (λ (o : Option Made). after_answer m o) none, one_edit edit None none)
 
   untold_by : Way (method_of request.method) request.closes (content_of m) (answer_as reply edit) → tells_change (method_of request.method) reply.status ≡ false → ChangesNothing m next edit

@@ -19,10 +19,10 @@ use Rattle.xcap_uri.specs.declared.target.Target.TheVariants.{Feed}
 use Rattle.store_core.specs.DocumentChanges.{Act, Edits, Makes, Removes, act_of, after, after_act, document_in, document_name}
 use Rattle.store_core.specs.Contents.{stock_of}
 use Rattle.store_core.specs.ValidStates.{IsKept, IsValidState}
-use Rattle.store_core.specs.State.{Document, State, Version, created, renewed, versions}
+use Rattle.store_core.specs.State.{Document, State, Version, created, document_after, versions}
 use Rattle.xcap_machine.proofs.OneVersion.{found_all, one_version}
 use Rattle.xcap_machine.specs.Answers.{Made}
-use Rattle.xcap_machine.specs.Machine.{ValidStep, after_answer, answer_as, told_as}
+use Rattle.xcap_machine.specs.Machine.{ValidStep, after_answer, answer_as, made_from}
 use Rattle.xcap_machine.specs.Versions.{HasVersion, ComesTo, goes_on, stays}
 use Rattle.xcap_machine.specs.SubscriberVersions.{UpdatesFrom, UpdatesHeld, UpdatesTo, SubscriberHolds}
 use Rattle.xcap_machine.proofs.FeedAnswers.{holds}
@@ -59,12 +59,12 @@ made_version id next root zero w is = let same : (created id next root).now ≡ 
 made_version id next root (suc k) w is = absurd cc
 
 -- a version of a document to which a change added one
-edited_version : (m : State) (id : DocId) (d : Document) (n : Note) (k : ℕ) (w : Version) → document_in document_name m.documents id ≡ Some d → slice_get (versions (renewed m.next d n)) k ≡ Some w → HasVersion m id w ⊎ (w.tag ≡ m.next)
-edited_version m id d n zero w there is = let same : (renewed m.next d n).now ≡ w = cc in inr (ap (λ (x : Version). x.tag) (sym same))
+edited_version : (m : State) (id : DocId) (d : Document) (n : Note) (k : ℕ) (w : Version) → document_in document_name m.documents id ≡ Some d → slice_get (versions (document_after m.next d n)) k ≡ Some w → HasVersion m id w ⊎ (w.tag ≡ m.next)
+edited_version m id d n zero w there is = let same : (document_after m.next d n).now ≡ w = cc in inr (ap (λ (x : Version). x.tag) (sym same))
 edited_version m id d n (suc k) w there is = inl (record { document = d; there = there; number = k; is_version = is })
 
 module _ (m : State) (id : DocId) (w : Version) where
-  from_edited : (x d : Document) (n : Note) (k : ℕ) → document_in document_name m.documents id ≡ Some d → slice_get (versions x) k ≡ Some w → (x ≡ d) ⊎ (x ≡ renewed m.next d n) → HasVersion m id w ⊎ (w.tag ≡ m.next)
+  from_edited : (x d : Document) (n : Note) (k : ℕ) → document_in document_name m.documents id ≡ Some d → slice_get (versions x) k ≡ Some w → (x ≡ d) ⊎ (x ≡ document_after m.next d n) → HasVersion m id w ⊎ (w.tag ≡ m.next)
   from_edited x d n k there is (inl same) = inl (record { document = d; there = there; number = k; is_version = ap (λ (y : Document). slice_get (versions y) k) (sym same) ∙ is })
   from_edited x d n k there is (inr same) = edited_version m id d n k w there (ap (λ (y : Document). slice_get (versions y) k) (sym same) ∙ is)
 
@@ -103,9 +103,9 @@ after_change m id v made h = record {
     by w same (inl has) = h.only w has same
     by w same (inr new) = absurd (omega (arith, h.given, same, new))
 
-after_told : (m : State) (id : DocId) (v : Version) (edit : Option Edit) → IsOnly m id v → IsOnly (after_answer m (option_map told_as edit)) id v
+after_told : (m : State) (id : DocId) (v : Version) (edit : Option Edit) → IsOnly m id v → IsOnly (after_answer m (option_map made_from edit)) id v
 after_told m id v None h = h
-after_told m id v (Some e) h = after_change m id v (told_as e) h
+after_told m id v (Some e) h = after_change m id v (made_from e) h
 
 after_steps : (root : List ℕ) (m n : State) (id : DocId) (v : Version) → ComesTo root m n → IsOnly m id v → IsOnly n id v
 after_steps root _ _ id v (stays m) h = h

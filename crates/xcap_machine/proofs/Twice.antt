@@ -5,7 +5,7 @@ use Rattle.tree_print.specs.AttributeBodyPrints.{body_print}
 use Rattle.std.specs.Bool.{MatchBool}
 use Rattle.std.proofs.Common.{◌≡◌, ℕ, suc, ◌+◌, ◌-◌, Bool, true, false, List, [], ◌∷◌, ◌++◌, length, find, map, is_some, Option, None, Some, IsSome, option_map, option_and_then, Result, Ok, Err, refl, sym, ap, subst, ◌∙◌}
 use Rattle.std.specs.Option.{option_or as or_else}
-use Rattle.node_select.specs.InsertionPoints.{PlanIs}
+use Rattle.node_select.specs.InsertionPoints.{IsInsertionPlan}
 use Rattle.xml_tree.specs.Tree.{Tree, at, child_elements_of}
 use Rattle.xml_tree.specs.Edits.{put_in, put_kid, put_over}
 use Rattle.xml_tree.specs.TreeScopes.{scope_around, scope_at}
@@ -53,7 +53,7 @@ use Rattle.http_wire.specs.declared.request.Request.{Request}
 use Rattle.request_checks.specs.Conditions.{IsStop}
 use Rattle.request_checks.proofs.ReadConditions.{no_stop}
 use Rattle.request_checks.specs.MediaTypes.{document_media, has_type}
-use Rattle.store_core.specs.DocumentChanges.{Act, Edits, act_of, against, against_number, against_tree, answered, changing, content_after, document_in, stored_name, note_for, only_if}
+use Rattle.store_core.specs.DocumentChanges.{Act, Edits, act_of, refusal_of, refusal_of_number, refusal_of_tree, refusal_or, change_result, content_after, document_in, stored_name, note_for, only_if}
 use Rattle.store_core.specs.Contents.{StoredDocument, StoreContents as Content}
 use Rattle.store_core.specs.ValidStates.{AreDistinct}
 use Rattle.store_core.specs.declared.refusal.StoreRefusal.{StoreRefusal}
@@ -81,19 +81,19 @@ unstopped request tag exists h = no_stop request tag exists false h.no_match h.n
 
 -- a change of a stored document, which leaves its tree and whose tree was accepted, is made, or
 -- its number is too great
-module _ (c : Content) (id : DocId) (change : Change) (h : StoredDocument) (acts : act_of change ≡ Edits) (there : document_in stored_name c.documents id ≡ Some h) (let_in : against_tree c id false (edited h.tree change) ≡ None) where
+module _ (c : Content) (id : DocId) (change : Change) (h : StoredDocument) (acts : act_of change ≡ Edits) (there : document_in stored_name c.documents id ≡ Some h) (let_in : refusal_of_tree c id false (edited h.tree change) ≡ None) where
   abbrev note : Note
   note = note_for c id change (Some h)
 
-  changing_is : changing c id change ≡ answered (against_number c) note (content_after c id change)
+  changing_is : change_result c id change ≡ refusal_or (refusal_of_number c) note (content_after c id change)
   changing_is =
-      ap (λ (o : Option StoredDocument). answered (against c id change o (act_of change)) (note_for c id change o) (content_after c id change)) there
-      ∙ ap (λ (a : Act). answered (against c id change (Some h) a) note (content_after c id change)) acts
-      ∙ ap (λ (o : Option StoreRefusal). answered (or_else o (against_number c)) note (content_after c id change)) let_in
+      ap (λ (o : Option StoredDocument). refusal_or (refusal_of c id change o (act_of change)) (note_for c id change o) (content_after c id change)) there
+      ∙ ap (λ (a : Act). refusal_or (refusal_of c id change (Some h) a) note (content_after c id change)) acts
+      ∙ ap (λ (o : Option StoreRefusal). refusal_or (or_else o (refusal_of_number c)) note (content_after c id change)) let_in
 
   by_number : (request : Request) (a : Answer) (reply : Note → SentReply) → ((n : Note) → (reply n).status ≡ 200) → edited h.tree change ≡ h.tree → AreDistinct (map stored_name c.documents)
-      → (b : Bool) → nat_le 18446744073709551616 c.next ≡ b → a ≡ told_by_store id request.closes reply (answered (only_if b NoNumber) note (content_after c id change))
-      → changing c id change ≡ answered (only_if b NoNumber) note (content_after c id change) → LeavesTrees c request a
+      → (b : Bool) → nat_le 18446744073709551616 c.next ≡ b → a ≡ told_by_store id request.closes reply (refusal_or (only_if b NoNumber) note (content_after c id change))
+      → change_result c id change ≡ refusal_or (only_if b NoNumber) note (content_after c id change) → LeavesTrees c request a
   by_number request a reply ok same apart true e is made = subst (λ (t : Bool). MatchBool t (a ≡ unchanged (plain 507 request.closes)) ((a.reply.status ≡ 200) × (trees_of (content_after_answer c a.made) ≡ trees_of c))) (sym e) is
   by_number request a reply ok same apart false e is made =
       let next = content_after_answer c a.made in
@@ -140,7 +140,7 @@ pub record SamePlace (t after : Tree) (spot : Spot) (path : List ℕ) : Type 0 w
 same_under : (u : Usage) (t : Tree) (steps : List Step) (q : List ℕ) (e : Tree) (change : Change) (path : List ℕ) → IsInsertion (record { usage = u; document = t; steps = steps }) q e (Ok change) → SelectsPath steps (edited t change) path → SamePlace t (edited t change) (Under q) path
 same_under u t steps q e change path h selects = by h.gap h.is_chosen h.then
   where
-    by : (g : Result ℕ EditRefusal) → PlanIs CannotInsert (Faulty Invalid) (IsLawfulGap steps t e q) (λ j. usage.IsValidDocument u (put_in q j e t)) (length (child_elements_of h.parent) + 1) g → FromGap (λ gap. IsJudged u t (Insert q gap e)) g (Ok change) → SamePlace t (edited t change) (Under q) path
+    by : (g : Result ℕ EditRefusal) → IsInsertionPlan CannotInsert (Faulty Invalid) (IsLawfulGap steps t e q) (λ j. usage.IsValidDocument u (put_in q j e t)) (length (child_elements_of h.parent) + 1) g → FromGap (λ gap. IsJudged u t (Insert q gap e)) g (Ok change) → SamePlace t (edited t change) (Under q) path
     by (Err why) chosen then = let z = then in cc
     by (Ok gap) chosen then =
         let j = judged_ok u t (Insert q gap e) change then in

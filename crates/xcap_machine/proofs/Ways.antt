@@ -60,19 +60,19 @@ use Rattle.request_checks.specs.declared.method.Method.{Method}
 use Rattle.request_checks.specs.declared.method.Method.TheVariants.{Get, Head, Put, Delete, Other}
 use Rattle.reply_bodies.specs.Nodes.{encoded, found_text, node_media}
 use Rattle.store_core.specs.Queries.{Asks, MayBeFor}
-use Rattle.store_core.specs.DocumentChanges.{changing}
+use Rattle.store_core.specs.DocumentChanges.{change_result}
 use Rattle.store_core.specs.ValidStates.{IsUserDocument}
 use Rattle.store_core.specs.Since.{ChangesSince, Gone, Unknown, ReportedChanges, since}
 use Rattle.store_core.specs.declared.refusal.StoreRefusal.{StoreRefusal}
 use Rattle.store_core.specs.declared.refusal.StoreRefusal.TheVariants as refusals
-use Rattle.xcap_machine.specs.Answers.{Answer, BehindConditions, conflict, found, not_allowed, unchanged}
+use Rattle.xcap_machine.specs.Answers.{Answer, AfterConditions, conflict, found, not_allowed, unchanged}
 use Rattle.xcap_machine.specs.Laws.{tells_change}
 use Rattle.xcap_machine.specs.ElementFeeds.{TellsElement}
 use Rattle.list_resolve.specs.declared.fault.FlatFault.{FlatFault}
 use Rattle.list_resolve.specs.declared.fault.FlatFault.TheVariants.{NoService, TooWide, TooLarge}
 use Rattle.xcap_machine.specs.Feeds.{sends_notice, changes_since_answer}
 use Rattle.xcap_machine.specs.FlatLists.{sends_flat}
-use Rattle.xcap_machine.specs.ReadRequests.{SendsDocument, SendsFound, SendsNode}
+use Rattle.xcap_machine.specs.ReadRequests.{SendsDocument, AnswersWithFound, SendsNode}
 use Rattle.xcap_machine.specs.Requests.{ByMethod, ByTarget, ByUser, Deletes, IsAnswer, IsWritableTarget, Puts, auid_of, fault_status, home_of, is_read_only, takes, ReadsTarget as Reads}
 use Rattle.xcap_machine.specs.Resources.{Resource, absent, beyond_limit, there, version_of}
 use Rattle.xcap_machine.specs.NodeWrites.{CutsNode, PutsAt, PutsFragment, PutsFrom, cut_reply, is_there, levels_for, plan_answer, plan_refused, put_planned, scope_for}
@@ -89,7 +89,7 @@ use Rattle.xcap_machine.proofs.ChangeAnswers.{as_the_store, told_by_store}
 pub data Way (method : Method) (closes : Bool) (c : Content) (a : Answer) : Type 0 where
   stays : (reply : SentReply) → tells_change method reply.status ≡ false → reply.closes ≡ closes → a ≡ unchanged reply → Way method closes c a
   changes : (reply : SentReply) → tells_change method reply.status ≡ true → reply.closes ≡ closes → (id : DocId) (change : Change) (note : Note) (next : Content)
-      → (AllSound c → Asks c id change) → changing c id change ≡ Ok (note, next) → a ≡ record { reply = reply; made = Some (id, note) } → Way method closes c a
+      → (AllSound c → Asks c id change) → change_result c id change ≡ Ok (note, next) → a ≡ record { reply = reply; made = Some (id, note) } → Way method closes c a
 
 -- ---- statuses that report no change
 
@@ -123,7 +123,7 @@ module _ (method : Method) (c : Content) (request : Request) (a : Answer) where
   by_outcome NotModified tag P so is = refuses _ refl refl refl is
   by_outcome Failed tag P so is = refuses _ refl refl refl is
 
-  behind : (tag : Option ℕ) (exists reading : Bool) (P : Type 0) → (P → Way method request.closes c a) → BehindConditions request (representation tag exists) reading a P → Way method request.closes c a
+  behind : (tag : Option ℕ) (exists reading : Bool) (P : Type 0) → (P → Way method request.closes c a) → AfterConditions request (representation tag exists) reading a P → Way method request.closes c a
   behind tag exists reading P so is = by_outcome is.1.0 tag P so (subst (λ (stop : Option SentReply). Behind stop a P) is.1.2 is.2)
 
   store_refuses : (refusal : StoreRefusal) → a ≡ unchanged (refusal_reply refusal request.closes) → Way method request.closes c a
@@ -135,7 +135,7 @@ module _ (method : Method) (c : Content) (request : Request) (a : Answer) where
 
   -- a change that may be asked for, where each reply to one that is made reports it
   by_store : (id : DocId) (change : Change) (reply : Note → SentReply) → (AllSound c → Asks c id change) → ((note : Note) → tells_change method (reply note).status ≡ true) → ((note : Note) → (reply note).closes ≡ request.closes)
-      → (made : Result (Note × Content) StoreRefusal) → changing c id change ≡ made → a ≡ told_by_store id request.closes reply made → Way method request.closes c a
+      → (made : Result (Note × Content) StoreRefusal) → change_result c id change ≡ made → a ≡ told_by_store id request.closes reply made → Way method request.closes c a
   by_store id change reply asks tells closes (Err refusal) e is = store_refuses refusal is
   by_store id change reply asks tells closes (Ok (note, next)) e is = changes (reply note) (tells note) (closes note) id change note next asks e is
 
@@ -149,7 +149,7 @@ module _ (method : Method) (c : Content) (request : Request) (a : Answer) where
   by_plan : (id : DocId) (reply : Note → SentReply) (plan : Result Change EditRefusal) → ((change : Change) → plan ≡ Ok change → AllSound c → Asks c id change)
       → ((note : Note) → tells_change method (reply note).status ≡ true) → ((note : Note) → (reply note).closes ≡ request.closes) → a ≡ plan_answer c id request.closes reply plan → Way method request.closes c a
   by_plan id reply (Err why) asks tells closes is = plan_refuses why is
-  by_plan id reply (Ok change) asks tells closes is = by_store id change reply (asks change refl) tells closes (changing c id change) refl (is ∙ as_the_store c id change request.closes reply)
+  by_plan id reply (Ok change) asks tells closes is = by_store id change reply (asks change refl) tells closes (change_result c id change) refl (is ∙ as_the_store c id change request.closes reply)
 
   no_usage : (u : Option Usage) (P : Usage → Type 0) → ((usage : Usage) → u ≡ Some usage → P usage → Way method request.closes c a) → IfStored u request a P → Way method request.closes c a
   no_usage None P so is = only 403 refl refl is
@@ -165,7 +165,7 @@ asked_closes Delete reply = refl
 asked_closes Other reply = refl
 
 module _ (method : Method) (request : Request) (c : Content) (a : Answer) (quiet : (status : ℕ) → tells_change method status ≡ false) where
-  found_way : (text : Option (List ℕ)) (tag : ℕ) (media : MediaType) → SendsFound text tag media (read_by method request) a → Way method request.closes c a
+  found_way : (text : Option (List ℕ)) (tag : ℕ) (media : MediaType) → AnswersWithFound text tag media (read_by method request) a → Way method request.closes c a
   found_way None tag media is = only method c request a 404 refl refl is
   found_way (Some text) tag media is =
       let reply = for_method method (found (Some tag) media text request.closes) in
@@ -244,7 +244,7 @@ module _ (c : Content) (id : DocId) (request : Request) (a : Answer) where
         let good = answer_proper 64 [] request.body t e in
         let may : MayBeFor (Some usage) t = record { proper = good.0; low = good.1; faultless = j } in
         let asks = asks_to_put c id t readable users (subst (λ (x : Option Usage). MayBeFor x t) (sym known) may) in
-        by_store Put c request a id (put_change exists t) (put_reply exists request.closes) (λ _. asks) (put_tells exists request.closes) (put_closes exists request.closes) (changing c id (put_change exists t)) refl
+        by_store Put c request a id (put_change exists t) (put_reply exists request.closes) (λ _. asks) (put_tells exists request.closes) (put_closes exists request.closes) (change_result c id (put_change exists t)) refl
         (is ∙ as_the_store c id (put_change exists t) request.closes (put_reply exists request.closes))
 
     text_put : (read : Result Tree TextFault) → TextAnswer 64 [] request.body read → PutsText usage read request.closes (put_answer c id request.closes) a → Way Put request.closes c a
@@ -327,7 +327,7 @@ module _ (c : Content) (id : DocId) (request : Request) (a : Answer) where
   document_deleted None e is = only Delete c request a 404 refl refl is
   document_deleted (Some (t, tag)) e is =
       behind Delete c request a (Some tag) true false (a ≡ change_answer c id RemoveDocument request.closes (deleted_reply request.closes))
-      (λ so. by_store Delete c request a id RemoveDocument (deleted_reply request.closes) (λ _. asks_to_delete c id t tag e) (λ note. refl) (λ note. refl) (changing c id RemoveDocument) refl
+      (λ so. by_store Delete c request a id RemoveDocument (deleted_reply request.closes) (λ _. asks_to_delete c id t tag e) (λ note. refl) (λ note. refl) (change_result c id RemoveDocument) refl
       (so ∙ as_the_store c id RemoveDocument request.closes (deleted_reply request.closes))) is
 
   node_cut : (usage : Usage) (selector : Selector) (t : Tree) (tag : ℕ) → ◌≡◌ {A = Option (Tree × ℕ)} (version_of c id) (Some (t, tag)) → usage_of id.auid ≡ Some usage → CutsNode c (write_of id usage selector request) t a → Way Delete request.closes c a
@@ -342,7 +342,7 @@ module _ (c : Content) (id : DocId) (request : Request) (a : Answer) where
   node_deleted usage selector None held known is = only Delete c request a 404 refl refl is
   node_deleted usage selector (Some (t, tag)) held known is =
       let Last : Type 0 = CutsNode c (write_of id usage selector request) t a in
-      either (is_there t selector) (BehindConditions request (representation (Some tag) true) false a Last) (a ≡ unchanged (plain 404 request.closes))
+      either (is_there t selector) (AfterConditions request (representation (Some tag) true) false a Last) (a ≡ unchanged (plain 404 request.closes))
       (λ _. behind Delete c request a (Some tag) true false Last (node_cut usage selector t tag held known)) (λ _. only Delete c request a 404 refl refl) is
 
 -- ---- all in order

@@ -31,8 +31,8 @@ pub record Representation : Type 0 where
 
 -- the reply of a request's conditions, or what follows where they pass; by whether the request
 -- reads (RFC 9110, section 13.2)
-abbrev pub BehindConditions : Request → Representation → Bool → Answer → Type 0 → Type 0
-BehindConditions request current reading a GoesOn =
+abbrev pub AfterConditions : Request → Representation → Bool → Answer → Type 0 → Type 0
+AfterConditions request current reading a GoesOn =
     (stop : Option SentReply) × IsStop request current.tag current.exists reading stop
     × MatchOption stop GoesOn (λ reply. a ≡ unchanged reply)
 

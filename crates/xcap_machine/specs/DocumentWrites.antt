@@ -8,7 +8,7 @@ use Rattle.std.specs.Bool.{MatchBool}
 use Rattle.std.specs.Option.{option_map_or}
 use Rattle.xml_tree.specs.PathTexts.{path_text}
 use Rattle.xml_tree.specs.Tree.{Tree}
-use Rattle.xml_names.specs.Limits.{max_levels}
+use Rattle.xml_names.specs.declared.limits.TheConstants.{MAX_LEVELS}
 use Rattle.tree_text.specs.Faults.{TextAnswer}
 use Rattle.tree_text.specs.declared.fault.TextFault.{TextFault}
 use Rattle.tree_text.specs.declared.fault.TextFault.TheVariants as texts
@@ -32,11 +32,11 @@ use Rattle.reply_text.specs.declared.media_types.MediaType.{MediaType}
 use Rattle.http_wire.specs.declared.request.Request.{Request}
 use Rattle.request_checks.specs.MediaTypes.{document_media, has_type}
 use Rattle.xcap_uri.specs.Ancestors.{home_uri}
-use Rattle.store_core.specs.DocumentChanges.{act_of, against, document_in, stored_name, note_for}
+use Rattle.store_core.specs.DocumentChanges.{act_of, refusal_of, document_in, stored_name, note_for}
 use Rattle.store_core.specs.declared.refusal.StoreRefusal.{StoreRefusal}
 use Rattle.store_core.specs.declared.refusal.StoreRefusal.TheVariants.{ServiceTaken}
 use Rattle.store_core.specs.Contents.{StoreContents}
-use Rattle.xcap_machine.specs.Answers.{Answer, BehindConditions, unchanged, conflict, tagged}
+use Rattle.xcap_machine.specs.Answers.{Answer, AfterConditions, unchanged, conflict, tagged}
 use Rattle.xcap_machine.specs.Resources.{version_of}
 
 -- ---- what stops a request that writes
@@ -80,7 +80,7 @@ change_answer c id change closes reply =
     let held = document_in stored_name c.documents id in
     let note = note_for c id change held in
     option_map_or (λ refusal. unchanged (refusal_reply refusal closes))
-    (against c id change held (act_of change))
+    (refusal_of c id change held (act_of change))
     (record { reply = reply note; made = Some (id, note) })
 
 -- the reply to a PUT: the resource is new, or replaces the old one; the document's new tag is the
@@ -101,11 +101,11 @@ put_answer c id closes t =
     let exists = is_some (version_of c id) in
     change_answer c id (put_change exists t) closes (put_reply exists closes)
 
--- the answer to a body that is parsed as a tree of at most `max_levels` levels, which has a fault
+-- the answer to a body that is parsed as a tree of at most `MAX_LEVELS` levels, which has a fault
 -- as a document of the usage, or none; or the body has a fault
 abbrev pub PutsSpelled : Usage → Request → (Tree → Answer) → Answer → Type 0
 PutsSpelled usage request answer a =
-    (read : Result Tree TextFault) × TextAnswer max_levels [] request.body read
+    (read : Result Tree TextFault) × TextAnswer MAX_LEVELS [] request.body read
     × MatchResult read
     (λ t.
     (judgement : Option Fault) × HasFirstFault usage t judgement
@@ -125,7 +125,7 @@ abbrev pub PutsDocument : StoreContents → DocId → Usage → Request → Answ
 PutsDocument c id usage request a =
     let version = version_of c id in
     let tag : Option ℕ = option_map (λ held. held.1) version in
-    BehindConditions request (record { tag = tag; exists = is_some version }) false a
+    AfterConditions request (record { tag = tag; exists = is_some version }) false a
     (PutsBody usage (document_media id.auid) request (put_answer c id request.closes) a)
 
 -- no document is deeper than directly in a home (RFC 4825, section 8.2.1)
@@ -143,5 +143,5 @@ deleted_reply closes note = plain 200 closes
 abbrev pub DeletesDocument : StoreContents → DocId → Request → Answer → Type 0
 DeletesDocument c id request a =
     MatchOption (version_of c id) (a ≡ unchanged (plain 404 request.closes)) (λ held.
-    BehindConditions request (record { tag = Some held.1; exists = true }) false a
+    AfterConditions request (record { tag = Some held.1; exists = true }) false a
     (a ≡ change_answer c id RemoveDocument request.closes (deleted_reply request.closes)))

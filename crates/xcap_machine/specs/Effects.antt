@@ -6,7 +6,8 @@ use Rattle.std.specs.Prelude.{◌≡◌, ℕ, nat_le, codes, List, [], map, Opti
 use Rattle.std.specs.Prelude.{◌+◌}
 use Rattle.std.specs.Bool.{MatchBool}
 use Rattle.xml_tree.specs.Tree.{Tree, at}
-use Rattle.xml_names.specs.Limits.{max_levels, u64_max}
+use Rattle.xml_names.specs.Limits.{u64_max}
+use Rattle.xml_names.specs.declared.limits.TheConstants.{MAX_LEVELS}
 use Rattle.tree_text.specs.Faults.{BodyAnswer, TextAnswer}
 use Rattle.node_select.specs.Selection.{Found, SelectsPath}
 use Rattle.node_select.specs.declared.selector.End.{End}
@@ -36,10 +37,10 @@ use Rattle.xcap_machine.specs.Resources.{version_of}
 -- ---- what was put is there
 
 -- the stored document has this tag afterwards, and is the tree that the body is parsed as
-pub record DocumentIsThere (next : StoreContents) (id : DocId) (tag : ℕ)
+pub record DocumentExists (next : StoreContents) (id : DocId) (tag : ℕ)
     (body : List ℕ) : Type 0 where
   pub tree : Tree
-  pub spelled : TextAnswer max_levels [] body (Ok tree)
+  pub spelled : TextAnswer MAX_LEVELS [] body (Ok tree)
   pub held : version_of next id ≡ Some (tree, tag)
 
 -- a PUT of a node that made a change: the contents before and after it, the document, its tag
@@ -54,7 +55,7 @@ pub record AcceptedPut : Type 0 where
 
 -- in the document afterwards the selector selects exactly the element that the body is parsed as
 -- in the scope of the edit target that it had before
-pub record ElementIsThere (put : AcceptedPut) : Type 0 where
+pub record ElementExists (put : AcceptedPut) : Type 0 where
   pub before : Tree
   pub old_tag : ℕ
   pub was_held : version_of put.old put.id ≡ Some (before, old_tag)
@@ -70,7 +71,7 @@ pub record ElementIsThere (put : AcceptedPut) : Type 0 where
 
 -- in the document afterwards the attribute that the selector finds, whose name this is, has the
 -- value of the body
-pub record ValueIsThere (put : AcceptedPut) (uri local : List ℕ) : Type 0 where
+pub record ValueExists (put : AcceptedPut) (uri local : List ℕ) : Type 0 where
   pub value : List ℕ
   pub spelled : BodyAnswer put.body (Ok value)
   pub after : Tree
@@ -80,28 +81,28 @@ pub record ValueIsThere (put : AcceptedPut) (uri local : List ℕ) : Type 0 wher
       value
 
 -- by what the selector ends in; namespace bindings are never put
-abbrev pub NodeIsThere : AcceptedPut → End → Type 0
-NodeIsThere put Element = ElementIsThere put
-NodeIsThere put (Attribute uri local) = ValueIsThere put uri local
-NodeIsThere put Namespaces = ⊥
+abbrev pub NodeExists : AcceptedPut → End → Type 0
+NodeExists put Element = ElementExists put
+NodeExists put (Attribute uri local) = ValueExists put uri local
+NodeExists put Namespaces = ⊥
 
 -- by what was put: a document or a node of one
-abbrev pub TargetIsThere : StoreContents → StoreContents → Target → ℕ → List ℕ → Type 0
-TargetIsThere c next (Document id) tag body = DocumentIsThere next id tag body
-TargetIsThere c next (Node id selector) tag body =
+abbrev pub TargetExists : StoreContents → StoreContents → Target → ℕ → List ℕ → Type 0
+TargetExists c next (Document id) tag body = DocumentExists next id tag body
+TargetExists c next (Node id selector) tag body =
     let put : AcceptedPut =
     record { old = c; new = next; id = id; tag = tag; selector = selector; body = body } in
-    NodeIsThere put selector.end
-TargetIsThere c next _ tag body = ⊥
+    NodeExists put selector.end
+TargetExists c next _ tag body = ⊥
 
 -- where a PUT made a change, from the contents before to the next ones, its address means a
 -- target, which is there as the body says
-abbrev pub PutIsThere : List ℕ → StoreContents → Request → Option Edit → StoreContents → Type 0
-PutIsThere root c request edit next =
+abbrev pub PutExists : List ℕ → StoreContents → Request → Option Edit → StoreContents → Type 0
+PutExists root c request edit next =
     IfSome edit (λ e.
     method_of request.method ≡ Put
     → (target : Target) × TargetResult root request.target (Ok target)
-    × TargetIsThere c next target e.note.next request.body)
+    × TargetExists c next target e.note.next request.body)
 
 -- ---- what was deleted is gone
 

@@ -1,47 +1,34 @@
 -- Feeds of elements: whether an element may have changed since a version of its document. RFC
 -- 5874, section 3, defines the diff document of an element. That such a feed has an address, and
 -- that neither conditions nor tags apply to it, is this server's own.
-use Rattle.std.specs.Prelude.{◌≡◌, ℕ, List}
+use Rattle.std.specs.Prelude.{◌≡◌, ℕ}
 use Rattle.xml_tree.specs.Tree.{Tree}
 use Rattle.doc_names.specs.Ids.{id_text}
-use Rattle.doc_names.specs.declared.doc_id.DocId.{DocId}
-use Rattle.node_select.specs.declared.selector.Selector.{Selector}
 use Rattle.reply_text.specs.ReplyHeads.{plain}
 use Rattle.patch_rules.specs.Notices.{gone_notice}
 use Rattle.store_core.specs.Since.{ChangesSince, Gone, Unknown, ReportedChanges, since}
-use Rattle.element_watch.specs.WatchedElements.{IsElementNotice}
+use Rattle.element_watch.specs.WatchedElements.{IsElementNotice, WatchedElement}
 use Rattle.xcap_machine.specs.Answers.{Answer, unchanged}
 use Rattle.xcap_machine.specs.Feeds.{sends_notice}
 use Rattle.xcap_machine.specs.ReadRequests.{ReadRequest}
 use Rattle.xcap_machine.specs.Servers.{ServerState}
 
--- the feed of an element: the tag of the version that the client has, the document, and the
--- selector, with its text as written
+-- the feed of an element: the tag of the version that the client has, and the element
 pub record ElementQuery : Type 0 where
   pub tag : ℕ
-  pub id : DocId
-  pub selector : Selector
-  pub raw : List ℕ
+  pub watched : WatchedElement
 
 -- the answer by the result of the since-query: the document is gone; the changes since the tag are
 -- no longer known; or the diff document of the element
 abbrev pub TellsElement : ServerState → ElementQuery → ChangesSince → ReadRequest → Answer → Type 0
 TellsElement server query Gone get a =
-    a ≡ sends_notice (gone_notice server.root (id_text query.id) query.tag) get
+    a ≡ sends_notice (gone_notice server.root (id_text query.watched.doc) query.tag) get
 TellsElement server query Unknown get a = a ≡ unchanged (plain 410 get.request.closes)
 TellsElement server query (ReportedChanges ns) get a =
-    (notice : Tree)
-    × IsElementNotice
-    (record {
-      root = server.root;
-      doc = query.id;
-      selector = query.selector;
-      raw = query.raw;
-    })
-    server.content ns notice
+    (notice : Tree) × IsElementNotice server.root query.watched server.content ns notice
     × (a ≡ sends_notice notice get)
 
 -- GET or HEAD of the feed of an element
 abbrev pub ReadsElementFeed : ServerState → ElementQuery → ReadRequest → Answer → Type 0
 ReadsElementFeed server query get a =
-    TellsElement server query (since server.content query.id query.tag) get a
+    TellsElement server query (since server.content query.watched.doc query.tag) get a

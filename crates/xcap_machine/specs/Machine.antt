@@ -17,19 +17,19 @@ after_answer m None = m
 after_answer m (Some made) = after m made.0 made.1.change
 
 -- the change that watchers are notified of
-abbrev pub told_as : Edit → Made
-told_as e = (e.doc, e.note)
+abbrev pub made_from : Edit → Made
+made_from e = (e.doc, e.note)
 
 -- the answer with a reply, and with the change of an edit, if there is one
 abbrev pub answer_as : SentReply → Option Edit → Answer
-answer_as reply edit = record { reply = reply; made = option_map told_as edit }
+answer_as reply edit = record { reply = reply; made = option_map made_from edit }
 
 -- The step of the machine of this root: in the state `m`, a request gets this reply, the machine
 -- is then in the state `next`, and watchers are notified of this edit, if a change was made.
 pub record Step (root : List ℕ) (m : State) (request : Request) (reply : SentReply) (next : State)
     (edit : Option Edit) : Type 0 where
   pub answers : IsAnswer root (stock_of m) request (answer_as reply edit)
-  pub goes_on : next ≡ after_answer m (option_map told_as edit)
+  pub goes_on : next ≡ after_answer m (option_map made_from edit)
 
 -- a step from a valid state to a valid state
 abbrev pub ValidStep : List ℕ → State → Request → SentReply → State → Option Edit → Type 0
@@ -48,4 +48,4 @@ content_after_answer c (Some made) = content_after c made.0 made.1.change
 pub record Does (root : List ℕ) (c : StoreContents) (request : Request) (reply : SentReply)
     (next : StoreContents) (edit : Option Edit) : Type 0 where
   pub answers : IsAnswer root c request (answer_as reply edit)
-  pub goes_on : next ≡ content_after_answer c (option_map told_as edit)
+  pub goes_on : next ≡ content_after_answer c (option_map made_from edit)

@@ -9,7 +9,7 @@ use Rattle.store_core.specs.Contents.{StoreContents}
 use Rattle.xml_tree.specs.Tree.{Tree}
 use Rattle.xml_tree.specs.TreeScopes.{scope_around, scope_at}
 use Rattle.xml_names.specs.declared.names.Decl.{Decl}
-use Rattle.xml_names.specs.Limits.{max_levels}
+use Rattle.xml_names.specs.declared.limits.TheConstants.{MAX_LEVELS}
 use Rattle.tree_text.specs.Faults.{BodyAnswer, TextAnswer}
 use Rattle.tree_text.specs.declared.fault.TextFault.{TextFault}
 use Rattle.tree_text.specs.declared.fault.ValueFault.{ValueFault}
@@ -37,7 +37,7 @@ use Rattle.reply_text.specs.ReplyHeads.{SentReply, plain}
 use Rattle.http_wire.specs.declared.request.Request.{Request}
 use Rattle.request_checks.specs.MediaTypes.{has_type}
 use Rattle.xcap_uri.specs.Ancestors.{ancestor_uri}
-use Rattle.xcap_machine.specs.Answers.{Answer, BehindConditions, unchanged, conflict, tagged}
+use Rattle.xcap_machine.specs.Answers.{Answer, AfterConditions, unchanged, conflict, tagged}
 use Rattle.xcap_machine.specs.Resources.{version_of}
 use Rattle.xcap_machine.specs.Servers.{ServerState}
 use Rattle.xcap_machine.specs.DocumentWrites.{change_answer, fault_conflict, put_reply}
@@ -73,11 +73,11 @@ scope_for t (Over p) = scope_around p t
 scope_for t (Under q) = scope_at q t
 scope_for t _ = []
 
--- the greatest height of an element there: a document has at most `max_levels`
+-- the greatest height of an element there: a document has at most `MAX_LEVELS`
 abbrev pub levels_for : Spot → ℕ
-levels_for (Over p) = max_levels - length p
-levels_for (Under q) = max_levels - suc (length q)
-levels_for Beside = max_levels
+levels_for (Over p) = MAX_LEVELS - length p
+levels_for (Under q) = MAX_LEVELS - suc (length q)
+levels_for Beside = MAX_LEVELS
 levels_for (Value p) = 0
 
 -- whether the node is there already, so that it is replaced
@@ -152,7 +152,7 @@ PutsFrom server put held (Err none) a =
     let uri = ancestor_uri server.root put.id held.0 put.selector.steps in
     a ≡ unchanged (conflict (conflicts.NoParent uri) put.request.closes)
 PutsFrom server put held (Ok spot) a =
-    BehindConditions put.request
+    AfterConditions put.request
     (record { tag = Some held.1; exists = is_there held.0 put.selector }) false a
     (PutsFragment server.content put held.0 spot a)
 
@@ -183,6 +183,6 @@ abbrev pub DeletesNode : StoreContents → NodeWrite → Answer → Type 0
 DeletesNode c cut a =
     MatchOption (version_of c cut.id) (a ≡ unchanged (plain 404 cut.request.closes)) (λ held.
     MatchBool (is_there held.0 cut.selector)
-    (BehindConditions cut.request (record { tag = Some held.1; exists = true }) false a
+    (AfterConditions cut.request (record { tag = Some held.1; exists = true }) false a
     (CutsNode c cut held.0 a))
     (a ≡ unchanged (plain 404 cut.request.closes)))

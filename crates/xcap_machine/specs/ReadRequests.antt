@@ -12,7 +12,7 @@ use Rattle.request_checks.specs.MediaTypes.{document_media}
 use Rattle.request_checks.specs.Methods.{for_method}
 use Rattle.request_checks.specs.declared.method.Method.{Method}
 use Rattle.reply_bodies.specs.Nodes.{encoded, found_text, node_media}
-use Rattle.xcap_machine.specs.Answers.{Answer, BehindConditions, found, unchanged}
+use Rattle.xcap_machine.specs.Answers.{Answer, AfterConditions, found, unchanged}
 use Rattle.xcap_machine.specs.Resources.{IsResourceOf, Resource, absent, beyond_limit, there}
 
 -- a GET or HEAD: the method, and the request
@@ -21,10 +21,10 @@ pub record ReadRequest : Type 0 where
   pub request : Request
 
 -- what is found in a document with this tag is sent, unless a condition stops the request
-abbrev pub SendsFound : Option (List ℕ) → ℕ → MediaType → ReadRequest → Answer → Type 0
-SendsFound None tag media get a = a ≡ unchanged (plain 404 get.request.closes)
-SendsFound (Some text) tag media get a =
-    BehindConditions get.request (record { tag = Some tag; exists = true }) true a
+abbrev pub AnswersWithFound : Option (List ℕ) → ℕ → MediaType → ReadRequest → Answer → Type 0
+AnswersWithFound None tag media get a = a ≡ unchanged (plain 404 get.request.closes)
+AnswersWithFound (Some text) tag media get a =
+    AfterConditions get.request (record { tag = Some tag; exists = true }) true a
     (a ≡ unchanged (for_method get.method (found (Some tag) media text get.request.closes)))
 
 -- a document is sent
@@ -32,14 +32,14 @@ abbrev pub SendsDocument : Resource → MediaType → ReadRequest → Answer →
 SendsDocument absent media get a = a ≡ unchanged (plain 404 get.request.closes)
 SendsDocument beyond_limit media get a = a ≡ unchanged (plain 507 get.request.closes)
 SendsDocument (there t tag) media get a =
-    SendsFound (Some (encode_utf8_all (document_print t))) tag media get a
+    AnswersWithFound (Some (encode_utf8_all (document_print t))) tag media get a
 
 -- a node of a document is sent
 abbrev pub SendsNode : Resource → Selector → ReadRequest → Answer → Type 0
 SendsNode absent selector get a = a ≡ unchanged (plain 404 get.request.closes)
 SendsNode beyond_limit selector get a = a ≡ unchanged (plain 507 get.request.closes)
 SendsNode (there t tag) selector get a =
-    SendsFound (encoded (found_text t selector)) tag (node_media selector.end) get a
+    AnswersWithFound (encoded (found_text t selector)) tag (node_media selector.end) get a
 
 -- GET or HEAD of a document, and of a node of one
 abbrev pub ReadsDocument : StoreContents → DocId → ReadRequest → Answer → Type 0

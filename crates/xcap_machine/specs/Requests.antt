@@ -76,7 +76,8 @@ ReadsTarget server (Deep auid home) get a = a ≡ unchanged (plain 404 get.reque
 ReadsTarget server (Feed mode tag id) get a =
     ReadsFeed server (record { mode = mode; tag = tag; id = id }) get a
 ReadsTarget server (ElementFeed tag id selector raw) get a =
-    ReadsElementFeed server (record { tag = tag; id = id; selector = selector; raw = raw }) get a
+    ReadsElementFeed server
+    (record { tag = tag; watched = record { doc = id; selector = selector; raw = raw } }) get a
 ReadsTarget server (Flat id service) get a = ReadsFlat server id service get a
 
 -- feeds and flat lists are read only, so they never come here

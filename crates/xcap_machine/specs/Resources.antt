@@ -5,7 +5,8 @@ use Rattle.std.specs.Prelude.{if◌then◌else◌}
 use Rattle.std.specs.Option.{option_map_or}
 use Rattle.std.specs.Str.{bytes_eq}
 use Rattle.xml_tree.specs.Tree.{Tree}
-use Rattle.usage_docs.specs.Services.{index_of_documents, document_len, index_limit}
+use Rattle.usage_docs.specs.Services.{index_of_documents, document_len}
+use Rattle.usage_docs.specs.declared.service_index.TheConstants.{INDEX_LIMIT}
 use Rattle.usage_docs.specs.Capabilities.{capabilities}
 use Rattle.doc_names.specs.declared.doc_id.Auid.{Auid}
 use Rattle.doc_names.specs.declared.doc_id.Auid.TheVariants.{ResourceLists, RlsServices, XcapCaps}
@@ -41,7 +42,7 @@ LeadsUnderGlobal c RlsServices false r = r ≡ absent
 LeadsUnderGlobal c RlsServices true r =
     (root : Tree) × IsIndexOfServices c root
     × (r
-    ≡ (if nat_lt index_limit (document_len root) then beyond_limit else there root (c.next - 1)))
+    ≡ (if nat_lt INDEX_LIMIT (document_len root) then beyond_limit else there root (c.next - 1)))
 LeadsUnderGlobal c XcapCaps false r = r ≡ absent
 LeadsUnderGlobal c XcapCaps true r = r ≡ there capabilities 0
 

@@ -22,7 +22,7 @@ pub record VersionNotes : Type 0 where
 
 -- store contents represent a valid state in which the document has this version, and have these
 -- change records since the version's tag
-pub record TellsSince (c : StoreContents) (m : State) (v : VersionNotes) : Type 0 where
+pub record ReportsSince (c : StoreContents) (m : State) (v : VersionNotes) : Type 0 where
   pub kept : IsValidState m
   pub stands : Represents c m
   pub there : document_in document_name m.documents v.id ≡ Some v.document

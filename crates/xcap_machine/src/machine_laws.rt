@@ -9,13 +9,13 @@ ghost use Rattle.reply_text.specs.ReplyHeads.{SentReply};
 ghost use Rattle.request_checks.specs.Methods.{method_of};
 ghost use Rattle.store_core.specs.Contents.{Represents, StoreContents};
 ghost use Rattle.store_core.specs.ValidStates.{IsValidState};
-ghost use Rattle.store_core.specs.DocumentChanges.{changing};
+ghost use Rattle.store_core.specs.DocumentChanges.{change_result};
 ghost use Rattle.store_core.specs.Queries.{Asks};
 ghost use Rattle.store_core.specs.State.{State};
 ghost use Rattle.xcap_uri.specs.Targets.{TargetResult};
 ghost use Rattle.xcap_uri.specs.declared.target.Target.{Target};
 ghost use Rattle.xcap_machine.specs.Answers.{Answer};
-ghost use Rattle.xcap_machine.specs.Effects.{DeletedIsGone, KeyAddressesStay, PutIsThere};
+ghost use Rattle.xcap_machine.specs.Effects.{DeletedIsGone, KeyAddressesStay, PutExists};
 ghost use Rattle.xcap_machine.specs.Effects.{SecondPutLeavesTrees};
 ghost use Rattle.xcap_machine.specs.KeyAddresses.{KeepsAddressesOf};
 ghost use Rattle.xcap_machine.specs.Machine.{Does, ValidStep, Step};
@@ -86,7 +86,7 @@ pub fn what_was_put_is_there()
     ensures is_there { (root : List ℕ) (c next : StoreContents) (request : Request)
         (reply : SentReply)
         (edit : Option Edit) → Does root c request reply next edit
-        → PutIsThere root c request edit next }
+        → PutExists root c request edit next }
 {}
 
 /// A law: after an accepted DELETE the address selects nothing.
@@ -113,7 +113,7 @@ pub fn a_second_put_leaves_every_tree()
 pub fn changes_that_are_made_leave_key_addresses()
     ensures keeps_selected { (c : StoreContents) (m : State) (id : DocId) (change : Change)
         (note : Note) (next : StoreContents) → Represents c m → IsValidState m → Asks c id change
-        → changing c id change ≡ Ok (note, next) → KeepsAddressesOf c id change next }
+        → change_result c id change ≡ Ok (note, next) → KeepsAddressesOf c id change next }
 {}
 
 /// A law: each change that the machine makes of a document that was stored, and still is,

@@ -13,7 +13,8 @@ ghost use Rattle.store_core.specs.Contents.{Represents, StoreContents};
 ghost use Rattle.store_core.specs.ValidStates.{IsValidState};
 ghost use Rattle.store_core.specs.Since.{ReportedChanges, since};
 ghost use Rattle.store_core.specs.State.{Document, State, Version};
-ghost use Rattle.xcap_machine.specs.Subscribers.{Brings, TellsSince, VersionNotes, answer_between};
+ghost use Rattle.xcap_machine.specs.Subscribers.{Brings, ReportsSince, VersionNotes};
+ghost use Rattle.xcap_machine.specs.Subscribers.{answer_between};
 ghost use Rattle.xcap_machine.specs.Subscribers.{fetch_between, subscribed};
 
 use xcap_uri::roots_are_spelled_by_the_grammar;
@@ -24,7 +25,7 @@ pub fn notes_are_told_since_a_version()
     ensures version_exists { (c : StoreContents) (m : State) (id : DocId) (tag : ℕ) (ns : List Note)
         → IsValidState m → Represents c m → since c id tag ≡ ReportedChanges ns
         → (d : Document) × (from : Version) × (from.tag ≡ tag)
-        × TellsSince c m (record { id = id; document = d; from = from; notes = ns }) }
+        × ReportsSince c m (record { id = id; document = d; from = from; notes = ns }) }
 {}
 
 /// A law: where the store has the change records since a version of a document, a subscriber with
@@ -34,15 +35,15 @@ pub fn notes_are_told_since_a_version()
 /// document's text is read back as the same tree (RFC 5875, section 4.3).
 pub fn versions_are_replayed()
     ensures step_by_step { (c : StoreContents) (m : State) (v : VersionNotes) (root : List ℕ)
-        → TellsSince c m v → is_root_text root ≡ true → is_encodable v.id ≡ true
+        → ReportsSince c m v → is_root_text root ≡ true → is_encodable v.id ≡ true
         → Brings v.id (patching_notice root (id_text v.id) v.from.tag v.notes) (subscribed v.from)
         (answer_between v.from v.document.now) (subscribed v.document.now) }
     ensures aggregated { (c : StoreContents) (m : State) (v : VersionNotes) (root : List ℕ)
-        → TellsSince c m v → is_root_text root ≡ true → is_encodable v.id ≡ true
+        → ReportsSince c m v → is_root_text root ≡ true → is_encodable v.id ≡ true
         → Brings v.id (aggregate_notice root (id_text v.id) v.from.tag v.notes) (subscribed v.from)
         (answer_between v.from v.document.now) (subscribed v.document.now) }
     ensures tags_alone { (c : StoreContents) (m : State) (v : VersionNotes) (root : List ℕ)
-        → TellsSince c m v → is_root_text root ≡ true → is_encodable v.id ≡ true
+        → ReportsSince c m v → is_root_text root ≡ true → is_encodable v.id ≡ true
         → Brings v.id (tags_notice root (id_text v.id) v.from.tag v.notes) (subscribed v.from)
         (fetch_between v.from v.document.now) (subscribed v.from) }
 {

@@ -7,7 +7,7 @@ use Rattle.doc_names.specs.declared.doc_id.DocId.{DocId}
 use Rattle.http_wire.specs.declared.request.Request.{Request}
 use Rattle.reply_text.specs.ReplyHeads.{SentReply, plain}
 use Rattle.request_checks.specs.Conditions.{IsStop}
-use Rattle.xcap_machine.specs.Answers.{Answer, BehindConditions, unchanged}
+use Rattle.xcap_machine.specs.Answers.{Answer, AfterConditions, unchanged}
 use Rattle.xcap_machine.specs.Resources.{version_of}
 use Rattle.xcap_machine.specs.DocumentWrites.{DeletesDocument, change_answer, deleted_reply}
 use Rattle.xcap_machine.specs.inner.Cases.{DeletesDocumentIn, version_tag as tag_of}
@@ -27,10 +27,10 @@ module _ (request : Request) (v : Option (Tree × ℕ)) (tag : Option ℕ) (exis
       subst (λ (b : Bool). IsStop request (tag_of v) b false stop) (known ∙ ap (λ (x : Option ℕ). is_some x) tagged ∙ tagged_where_held v)
       (subst (λ (x : Option ℕ). IsStop request x exists false stop) tagged is)
 
-  pub put_stops : (reply : SentReply) (P : Type 0) → stop ≡ Some reply → BehindConditions request (representation (tag_of v) (is_some v)) false (unchanged reply) P
+  pub put_stops : (reply : SentReply) (P : Type 0) → stop ≡ Some reply → AfterConditions request (representation (tag_of v) (is_some v)) false (unchanged reply) P
   put_stops reply P so = stopped request (tag_of v) (is_some v) false stop is_its_stop reply P so
 
-  pub put_goes_on : (a : Answer) (P : Type 0) → stop ≡ None → P → BehindConditions request (representation (tag_of v) (is_some v)) false a P
+  pub put_goes_on : (a : Answer) (P : Type 0) → stop ≡ None → P → AfterConditions request (representation (tag_of v) (is_some v)) false a P
   put_goes_on a P so p = unstopped request (tag_of v) (is_some v) false stop is_its_stop a P so p
 
 -- ---- DELETE
@@ -54,7 +54,7 @@ module _ (c : Content) (id : DocId) (request : Request) where
     abbrev Removed : Answer → Type 0
     Removed a = a ≡ change_answer c id RemoveDocument request.closes (deleted_reply request.closes)
 
-    held_so : (a : Answer) → BehindConditions request (representation (Some tag) true) false a (Removed a) → DeletesDocument c id request a
+    held_so : (a : Answer) → AfterConditions request (representation (Some tag) true) false a (Removed a) → DeletesDocument c id request a
     held_so a is =
         let t = with_tag (version_of c id) tag tagged in
         subst (λ (v : Option (Tree × ℕ)). DeletesDocumentIn c id v request a) (sym t.1) is

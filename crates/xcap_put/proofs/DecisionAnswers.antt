@@ -4,7 +4,7 @@ use Rattle.doc_names.specs.declared.doc_id.DocId.{DocId}
 use Rattle.edit_ops.specs.declared.change.Change.{Change}
 use Rattle.edit_ops.specs.Notes.{Note}
 use Rattle.reply_text.specs.ReplyHeads.{SentReply}
-use Rattle.store_core.specs.DocumentChanges.{changing, content_after}
+use Rattle.store_core.specs.DocumentChanges.{change_result, content_after}
 use Rattle.store_core.specs.PreparedChanges.{IsReady, Readied}
 use Rattle.store_core.specs.StoreViews.{Stored}
 use Rattle.store_core.specs.declared.refusal.StoreRefusal.{StoreRefusal}
@@ -36,9 +36,9 @@ module _ (c : Content) (id : DocId) (change : Change) (closes : Bool) (reply_to 
 
   -- a change that the store prepared has all its memory
   pub makes : (reply : SentReply) (r : Result Readied StoreRefusal) (p : Readied) → r ≡ Ok p
-      → IfOk r (λ q. (q.doc ≡ id) × (changing c id change ≡ Ok (q.note, content_after c id change)) × (q.note.change ≡ change)) → IfOk r (λ q. IsReady s q) → reply ≡ reply_to p.note → Decides Is s (Changes reply p)
+      → IfOk r (λ q. (q.doc ≡ id) × (change_result c id change ≡ Ok (q.note, content_after c id change)) × (q.note.change ≡ change)) → IfOk r (λ q. IsReady s q) → reply ≡ reply_to p.note → Decides Is s (Changes reply p)
   makes reply r p is prepared ready told =
-      let of_p = subst (λ (x : Result Readied StoreRefusal). IfOk x (λ q. (q.doc ≡ id) × (changing c id change ≡ Ok (q.note, content_after c id change)) × (q.note.change ≡ change))) is prepared in
+      let of_p = subst (λ (x : Result Readied StoreRefusal). IfOk x (λ q. (q.doc ≡ id) × (change_result c id change ≡ Ok (q.note, content_after c id change)) × (q.note.change ≡ change))) is prepared in
       let with_reply : SentReply → Answer = λ r. record { reply = r; made = Some (p.doc, p.note) } in
       let with_name : DocId → Answer = λ d. record { reply = reply_to p.note; made = Some (d, p.note) } in
       record {
@@ -47,7 +47,7 @@ module _ (c : Content) (id : DocId) (change : Change) (closes : Bool) (reply_to 
       }
 
   -- a change that is refused
-  pub refuses : (reply : SentReply) (r : Result Readied StoreRefusal) (refusal : StoreRefusal) → r ≡ Err refusal → IfErr r (λ e. changing c id change ≡ Err e) → reply ≡ refusal_reply refusal closes → Decides Is s (Stays reply)
+  pub refuses : (reply : SentReply) (r : Result Readied StoreRefusal) (refusal : StoreRefusal) → r ≡ Err refusal → IfErr r (λ e. change_result c id change ≡ Err e) → reply ≡ refusal_reply refusal closes → Decides Is s (Stays reply)
   refuses reply r refusal is against told =
-      let e = subst (λ (x : Result Readied StoreRefusal). IfErr x (λ e. changing c id change ≡ Err e)) is against in
+      let e = subst (λ (x : Result Readied StoreRefusal). IfErr x (λ e. change_result c id change ≡ Err e)) is against in
       stays Is s reply (ap unchanged told ∙ sym (as_the_store c id change closes reply_to ∙ ap (λ (x : Result (Note × Content) StoreRefusal). told_by_store id closes reply_to x) e))

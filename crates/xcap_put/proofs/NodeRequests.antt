@@ -12,7 +12,7 @@ use Rattle.reply_text.specs.ReplyHeads.{SentReply}
 use Rattle.request_checks.specs.Conditions.{IsStop}
 use Rattle.store_core.specs.StoreViews.{Stored}
 use Rattle.store_core.specs.Contents.{StoreContents as Content}
-use Rattle.xcap_machine.specs.Answers.{Answer, BehindConditions, unchanged}
+use Rattle.xcap_machine.specs.Answers.{Answer, AfterConditions, unchanged}
 use Rattle.xcap_machine.specs.NodeWrites.{CutsNode, PutsFragment, is_there}
 use Rattle.xcap_machine.specs.Resources.{version_of}
 use Rattle.xcap_machine.specs.inner.Cases.{DeletesNodeOf, PutsNodeOf}
@@ -30,7 +30,7 @@ use Rattle.xcap_put.proofs.PlanAnswers.{Plans, plans_so, stopped_by}
 
 module _ (usage : Usage) (t : Tree) (request : Request) (tag : ℕ) (exists there : Bool) (known : exists ≡ there) (P : Content → DocId → Answer → Type 0) where
   abbrev pub BehindIt : Content → DocId → Answer → Type 0
-  BehindIt c id a = BehindConditions request (representation (Some tag) there) false a (P c id a)
+  BehindIt c id a = AfterConditions request (representation (Some tag) there) false a (P c id a)
 
   module _ (stop : Option SentReply) (is : IsStop request (Some tag) exists false stop) where
     is_its_stop : IsStop request (Some tag) there false stop
@@ -51,7 +51,7 @@ module _ (root : List ℕ) (id : DocId) (usage : Usage) (selector : Selector) (t
   PutsIt c a = PutsNodeOf (server_of root c) (write_of id usage selector request) (t, tag) a
 
   abbrev PutsThere : Spot → Content → DocId → Answer → Type 0
-  PutsThere spot c d a = BehindConditions request (representation (Some tag) (is_there t selector)) false a (PutsFragment c (write_of d usage selector request) t spot a)
+  PutsThere spot c d a = AfterConditions request (representation (Some tag) (is_there t selector)) false a (PutsFragment c (write_of d usage selector request) t spot a)
 
   pub put_at_spot : {E : Type 0} (spot : Spot) → IsSpot t selector (Ok spot) → (plan : Result Plan E) → IfOk plan (Plans usage t request.closes (PutsThere spot)) → IfOk plan (IsPlanFor usage t id request.closes PutsIt)
   put_at_spot spot is (Ok plan) plans = let p = plans id in record { answers = λ c. (Ok spot, is, p.answers c); may_be_made = p.may_be_made }
@@ -64,9 +64,9 @@ module _ (usage : Usage) (selector : Selector) (t : Tree) (tag : ℕ) (request :
   DeletesIt c id a = DeletesNodeOf c (write_of id usage selector request) (t, tag) a
 
   pub there : {E : Type 0} (plan : Result Plan E) → is_there t selector ≡ true
-      → IfOk plan (Plans usage t request.closes (λ c id a. BehindConditions request (representation (Some tag) true) false a (CutsNode c (write_of id usage selector request) t a))) → IfOk plan (Plans usage t request.closes DeletesIt)
+      → IfOk plan (Plans usage t request.closes (λ c id a. AfterConditions request (representation (Some tag) true) false a (CutsNode c (write_of id usage selector request) t a))) → IfOk plan (Plans usage t request.closes DeletesIt)
   there plan is plans =
-      plans_so usage t request.closes (λ c id a. BehindConditions request (representation (Some tag) true) false a (CutsNode c (write_of id usage selector request) t a)) DeletesIt (λ c id a so. at_true _ _ _ is so) plan plans
+      plans_so usage t request.closes (λ c id a. AfterConditions request (representation (Some tag) true) false a (CutsNode c (write_of id usage selector request) t a)) DeletesIt (λ c id a so. at_true _ _ _ is so) plan plans
 
 -- ---- the decision by a plan
 

@@ -18,7 +18,7 @@ use Rattle.edit_rules.specs.Spots.{IsSpotOf, SelectNothing}
 use Rattle.edit_rules.specs.declared.spot.Spot.{Spot}
 use Rattle.edit_rules.specs.declared.spot.Spot.TheVariants.{Over, Under, Beside, Value}
 use Rattle.xcap_machine.specs.NodeWrites.{is_there, levels_for, scope_for}
-use Rattle.xcap_put.specs.inner.RequestPlans.{LeadsSomewhere}
+use Rattle.xcap_put.specs.inner.RequestPlans.{SpotExists}
 
 -- ---- whether the node is there
 
@@ -59,7 +59,7 @@ module _ (t : Tree) (selector : Selector) (spot : Spot) (is : IsSpotOf t selecto
 
 -- ---- the element of an edit target
 
-pub leads : (t : Tree) (selector : Selector) (spot : Spot) → IsSpotOf t selector spot → LeadsSomewhere t spot
+pub leads : (t : Tree) (selector : Selector) (spot : Spot) → IsSpotOf t selector spot → SpotExists t spot
 leads t selector (Over p) is = path_there selector.steps t p is.1
 leads t selector (Under q) is = path_there is.2.before t q is.2.selects
 leads t selector Beside is = tt
@@ -107,7 +107,7 @@ there_low t p there low = by (at p t) refl there
     by None is h = cc
     by (Some e) is h = let k = height-at p e t is in omega (arith, k, low)
 
-pub scope_fits : (t : Tree) (spot : Spot) → LeadsSomewhere t spot → height t ≤ 64 → length (scope_for t spot) + levels_for spot ≤ 67
+pub scope_fits : (t : Tree) (spot : Spot) → SpotExists t spot → height t ≤ 64 → length (scope_for t spot) + levels_for spot ≤ 67
 scope_fits t (Over p) there low = let a = around_len p t in let h = there_low t p there low in omega arith
 scope_fits t (Under q) there low = let a = scope_len q t in let h = there_low t q there low in omega arith
 scope_fits t Beside there low = omega arith

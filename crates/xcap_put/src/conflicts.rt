@@ -13,7 +13,11 @@ use xml_names::Text;
 use xml_tree::print_path;
 
 /// The reply with an error document.
-pub(crate) fn conflict(alloc: Global, body: &ErrorBody, closes: bool) -> Result<Reply, NoMemory>
+pub(crate) fn conflict_reply(
+    alloc: Global,
+    body: &ErrorBody,
+    closes: bool,
+) -> Result<Reply, NoMemory>
     ensures ok { IfOk result (λ reply. reply ≡ conflict body.now closes) }
 {
     let document = error_document(alloc, body)?;
@@ -24,7 +28,7 @@ pub(crate) fn conflict(alloc: Global, body: &ErrorBody, closes: bool) -> Result<
 pub(crate) fn no_parent(alloc: Global, uri: Text, closes: bool) -> Result<Reply, NoMemory>
     ensures ok { IfOk result (λ reply. reply ≡ conflict (conflicts.NoParent uri) closes) }
 {
-    conflict(alloc, &ErrorBody::NoParent(uri), closes)
+    conflict_reply(alloc, &ErrorBody::NoParent(uri), closes)
 }
 
 // The place of a clash: the path of the element, `/@` and the key.

@@ -1,6 +1,5 @@
 //! The body of a PUT of a node (RFC 4825, sections 8.2.3 and 8.2.4).
 ghost use Rattle.std.specs.Prelude.{◌≡◌, ◌≤◌, IfOk, IsSome};
-ghost use Rattle.xml_names.specs.Limits.{max_levels};
 ghost use Rattle.xml_tree.specs.TreeScopes.{scope_around, scope_at};
 ghost use Rattle.xml_tree.specs.Tree.{at, height};
 ghost use Rattle.reply_bodies.specs.declared.conflicts.ErrorBody.TheVariants as conflicts;
@@ -18,10 +17,10 @@ ghost use Rattle.xcap_put.specs.declared.plan.Plan.TheVariants.{Stops};
 ghost use Rattle.xcap_machine.specs.NodeWrites.{MayBeWritten, PutsAt, PutsElement, PutsFragment};
 ghost use Rattle.xcap_machine.specs.NodeWrites.{PutsValue, is_there, levels_for, scope_for};
 ghost use Rattle.xcap_machine.specs.NodeWrites.{value_conflict};
-ghost use Rattle.xcap_put.specs.inner.RequestPlans.{IsPlanFor, LeadsSomewhere};
+ghost use Rattle.xcap_put.specs.inner.RequestPlans.{IsPlanFor, SpotExists};
 
 use crate::NoMemory;
-use crate::conflicts::conflict;
+use crate::conflicts::conflict_reply;
 use crate::plan::{Plan, plan_of};
 use crate::request_bodies::text_conflict;
 use doc_names::Usage;
@@ -62,7 +61,7 @@ fn scope_around<'a>(tree: &'a Element, path: &Path) -> Scope<'a>
 
 // The declarations in scope around an element that is put at an edit target.
 fn scope_for<'a>(tree: &'a Element, spot: &Spot) -> Scope<'a>
-    requires valid_spot { LeadsSomewhere tree.now spot.now }
+    requires valid_spot { SpotExists tree.now spot.now }
     ensures exact { result ≡ scope_for tree.now spot.now }
 {
     match spot {
@@ -92,8 +91,8 @@ fn read_element(
     spot: &Spot,
     bytes: &[u8],
 ) -> Result<Element, ReadError<TextFault>>
-    requires height_bounded { height tree.now ≤ max_levels }
-    requires valid_spot { LeadsSomewhere tree.now spot.now }
+    requires height_bounded { height tree.now ≤ MAX_LEVELS }
+    requires valid_spot { SpotExists tree.now spot.now }
     ensures grammar_answer { Answered
         (TextAnswer (levels_for spot.now) (scope_for tree.now spot.now) bytes.now) result }
     ensures is_proper { IfOk result (λ e. IsProperAt tree.now spot.now e × HasRoomAt spot.now e) }
@@ -108,7 +107,7 @@ fn refused_element(alloc: Global, fault: TextFault, closes: bool) -> Result<Plan
         (λ plan. plan ≡ Stops (conflict (text_conflict conflicts.NotXmlFrag fault) closes)) }
 {
     let body = text_conflict(ErrorBody::NotXmlFrag, fault);
-    let reply = conflict(alloc, &body, closes)?;
+    let reply = conflict_reply(alloc, &body, closes)?;
     Ok(Plan::Stops(reply))
 }
 
@@ -160,7 +159,7 @@ fn refused_value(alloc: Global, fault: ValueFault, closes: bool) -> Result<Plan,
         (λ plan. plan ≡ Stops (conflict (value_conflict fault) closes)) }
 {
     let body = value_conflict(fault);
-    let reply = conflict(alloc, &body, closes)?;
+    let reply = conflict_reply(alloc, &body, closes)?;
     Ok(Plan::Stops(reply))
 }
 

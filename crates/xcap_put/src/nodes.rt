@@ -7,7 +7,7 @@ ghost use Rattle.node_select.specs.declared.selector.End.TheVariants as ends;
 ghost use Rattle.edit_rules.specs.Spots.{IsSpotOf};
 ghost use Rattle.edit_rules.specs.declared.refusal.EditRefusal.TheVariants as refusals;
 ghost use Rattle.store_core.specs.ValidStates.{IsSound};
-ghost use Rattle.xcap_machine.specs.Answers.{BehindConditions, unchanged};
+ghost use Rattle.xcap_machine.specs.Answers.{AfterConditions, unchanged};
 ghost use Rattle.xcap_machine.specs.NodeWrites.{DeletesNode, PutsFragment, PutsNode, MayBeWritten};
 ghost use Rattle.xcap_machine.specs.NodeWrites.{is_there};
 ghost use Rattle.xcap_machine.specs.Resources.{version_of};
@@ -73,7 +73,7 @@ fn plan_at(
     requires valid_spot { IsSpotOf tree.now selector.now spot.now }
     ensures plans_put { IfOk result
         (λ plan. (id : TheDocId) → IsPlanFor usage tree.now id request.now.closes
-        (λ c a. BehindConditions request.now
+        (λ c a. AfterConditions request.now
         (record { tag = Some tag; exists = is_there tree.now selector.now }) false a
         (PutsFragment c
         (record { id = id; usage = usage; selector = selector.now; request = request.now })

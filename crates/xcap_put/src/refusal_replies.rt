@@ -6,7 +6,7 @@ ghost use Rattle.xcap_machine.specs.DocumentWrites.{clash_field, fault_conflict,
 ghost use Rattle.reply_bodies.specs.declared.conflicts.ErrorBody.TheVariants as conflicts;
 
 use crate::NoMemory;
-use crate::conflicts::{conflict, fault_conflict, uniqueness};
+use crate::conflicts::{conflict_reply, fault_conflict, uniqueness};
 use edit_plans::EditRefusal;
 use reply_bodies::ErrorBody;
 use reply_text::Reply;
@@ -20,7 +20,7 @@ fn taken_address_reply(alloc: Global, clash: Clash, closes: bool) -> Result<Repl
         (λ reply. reply ≡ conflict (conflicts.Unique (clash_field clash)) closes) }
 {
     let body = uniqueness(alloc, &clash)?;
-    conflict(alloc, &body, closes)
+    conflict_reply(alloc, &body, closes)
 }
 
 /// The reply to a change that the store refuses: a conflict, or 507 beyond a limit.
@@ -42,10 +42,11 @@ pub(crate) fn refusal_reply(
 
 // The reply to a change that would give a document this fault.
 fn faulty(alloc: Global, fault: Fault, closes: bool) -> Result<Reply, NoMemory>
-    ensures fault_reply { IfOk result (λ reply. reply ≡ conflict (fault_conflict fault) closes) }
+    ensures fault_reply { IfOk result (λ reply. reply
+        ≡ conflict (fault_conflict fault) closes) }
 {
     let body = fault_conflict(alloc, &fault)?;
-    conflict(alloc, &body, closes)
+    conflict_reply(alloc, &body, closes)
 }
 
 /// The reply to a change of a node for which there is no planned change.
@@ -54,8 +55,8 @@ pub(crate) fn unplanned(alloc: Global, why: EditRefusal, closes: bool) -> Result
 {
     match why {
         EditRefusal::NotFound => Ok(Reply::fixed(404, closes)),
-        EditRefusal::CannotInsert => conflict(alloc, &ErrorBody::CannotInsert, closes),
-        EditRefusal::CannotDelete => conflict(alloc, &ErrorBody::CannotDelete, closes),
+        EditRefusal::CannotInsert => conflict_reply(alloc, &ErrorBody::CannotInsert, closes),
+        EditRefusal::CannotDelete => conflict_reply(alloc, &ErrorBody::CannotDelete, closes),
         EditRefusal::Faulty(fault) => faulty(alloc, fault, closes),
     }
 }

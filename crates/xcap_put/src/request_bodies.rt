@@ -1,6 +1,5 @@
 //! The body of a PUT of a document (RFC 4825, section 8.2.2).
 ghost use Rattle.std.specs.Prelude.{◌≡◌, ◌≤◌, [], IfOk, Ok};
-ghost use Rattle.xml_names.specs.Limits.{max_levels};
 ghost use Rattle.xml_tree.specs.Proper.{ProperIn};
 ghost use Rattle.xml_tree.specs.Tree.{height};
 ghost use Rattle.reply_bodies.specs.declared.conflicts.ErrorBody.TheVariants as conflicts;
@@ -10,7 +9,7 @@ ghost use Rattle.xcap_machine.specs.inner.Cases.{PutsText};
 ghost use Rattle.xcap_put.specs.inner.Bodies.{Comes};
 
 use crate::NoMemory;
-use crate::conflicts::{conflict, fault_conflict};
+use crate::conflicts::{conflict_reply, fault_conflict};
 use doc_names::Usage;
 use http_wire::Request;
 use reply_bodies::ErrorBody;
@@ -51,7 +50,7 @@ fn refused_text(alloc: Global, fault: TextFault, closes: bool) -> Result<Reply, 
         (λ reply. reply ≡ conflict (text_conflict conflicts.NotWellFormed fault) closes) }
 {
     let body = text_conflict(ErrorBody::NotWellFormed, fault);
-    conflict(alloc, &body, closes)
+    conflict_reply(alloc, &body, closes)
 }
 
 // Checks a tree that was parsed.
@@ -62,7 +61,7 @@ fn check_document(
     closes: bool,
 ) -> Result<Body, NoMemory>
     requires proper { ProperIn [] root }
-    requires height_bounded { height root ≤ max_levels }
+    requires height_bounded { height root ≤ MAX_LEVELS }
     ensures comes_of_tree { IfOk result
         (λ body. Comes (λ answer a. PutsText usage (Ok root) closes answer a) usage body) }
 {
@@ -71,14 +70,14 @@ fn check_document(
         Some(fault) => {
             drop(root);
             let body = fault_conflict(alloc, &fault)?;
-            let reply = conflict(alloc, &body, closes)?;
+            let reply = conflict_reply(alloc, &body, closes)?;
             Ok(Body::Refused(reply))
         }
     }
 }
 
 // Reads a body of the usage's media type.
-fn body_read(alloc: Global, usage: Usage, request: &Request) -> Result<Body, NoMemory>
+fn read_body(alloc: Global, usage: Usage, request: &Request) -> Result<Body, NoMemory>
     ensures comes_of_text { IfOk result
         (λ body. Comes (λ answer a. PutsSpelled usage request.now answer a) usage body) }
 {
@@ -105,5 +104,5 @@ pub(crate) fn body_of(
     if !has_type(request, media) {
         return Ok(Body::Refused(Reply::fixed(415, request.closes)));
     }
-    body_read(alloc, usage, request)
+    read_body(alloc, usage, request)
 }

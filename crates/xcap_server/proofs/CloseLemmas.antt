@@ -30,10 +30,10 @@ use Rattle.reply_bodies.specs.Nodes.{node_media}
 use Rattle.xcap_uri.specs.declared.fault.UriFault.{UriFault}
 use Rattle.xcap_uri.specs.declared.target.Target.{Target}
 use Rattle.xcap_uri.specs.declared.target.Target.TheVariants.{Document, Node, Deep, Feed, ElementFeed, Flat}
-use Rattle.store_core.specs.DocumentChanges.{changing}
+use Rattle.store_core.specs.DocumentChanges.{change_result}
 use Rattle.store_core.specs.Contents.{StoreContents}
 use Rattle.store_core.specs.declared.refusal.StoreRefusal.{StoreRefusal}
-use Rattle.xcap_machine.specs.Answers.{Answer, BehindConditions, Made, unchanged}
+use Rattle.xcap_machine.specs.Answers.{Answer, AfterConditions, Made, unchanged}
 use Rattle.xcap_machine.specs.Requests.{ByMethod, ByTarget, ByUser, Deletes, IsAnswer, Puts, auid_of, home_of, takes}
 use Rattle.xcap_machine.specs.Resources.{version_of}
 use Rattle.xcap_machine.specs.NodeWrites.{CutsNode, PutsAt, PutsElement, PutsFragment, PutsFrom, cut_reply, is_there, plan_answer}
@@ -61,13 +61,13 @@ module _ (made : Made) (request : Request) (closes : Bool) where
     when false P Q reply reply' so is = never reply is
 
     module _ (tag : Option ℕ) (exists : Bool) (P : Type 0) (Q : Answer → Type 0) (so : P → Makes Q) where
-      by_outcome : (o : Outcome) → HasOutcome request.fields tag exists false o → Behind (stopped_by o tag request.closes) a P → Makes (λ b. BehindConditions other (representation tag exists) false b (Q b))
+      by_outcome : (o : Outcome) → HasOutcome request.fields tag exists false o → Behind (stopped_by o tag request.closes) a P → Makes (λ b. AfterConditions other (representation tag exists) false b (Q b))
       by_outcome Unreadable has is = never _ is
       by_outcome Go has is = let m = so is in (m.0, (None, (Go, has, refl), m.1), m.2)
       by_outcome NotModified has is = never _ is
       by_outcome Failed has is = never _ is
 
-      behind : BehindConditions request (representation tag exists) false a P → Makes (λ b. BehindConditions other (representation tag exists) false b (Q b))
+      behind : AfterConditions request (representation tag exists) false a P → Makes (λ b. AfterConditions other (representation tag exists) false b (Q b))
       behind is = by_outcome is.1.0 is.1.1 (subst (λ (stop : Option SentReply). Behind stop a P) is.1.2 is.2)
 
     module _ (c : StoreContents) (id : DocId) (reply reply' : Note → SentReply) where
@@ -77,7 +77,7 @@ module _ (made : Made) (request : Request) (closes : Bool) where
 
       by_change : (change : Change) → a ≡ change_answer c id change request.closes reply → Makes (λ b. b ≡ change_answer c id change closes reply')
       by_change change is =
-          let m = by_store (changing c id change) (is ∙ as_the_store c id change request.closes reply) in
+          let m = by_store (change_result c id change) (is ∙ as_the_store c id change request.closes reply) in
           (m.0, m.1 ∙ sym (as_the_store c id change closes reply'), m.2)
 
       by_plan : (plan : Result Change EditRefusal) → a ≡ plan_answer c id request.closes reply plan → Makes (λ b. b ≡ plan_answer c id closes reply' plan)
@@ -155,7 +155,7 @@ module _ (made : Made) (request : Request) (closes : Bool) where
       node_deleted : (usage : Usage) (selector : Selector) (version : Option (Tree × ℕ)) → DeletesNodeIn c (write_of id usage selector request) version a → Makes (λ b. DeletesNodeIn c (write_of id usage selector other) version b)
       node_deleted usage selector None is = never _ is
       node_deleted usage selector (Some (t, tag)) is =
-          when (is_there t selector) (BehindConditions request (representation (Some tag) true) false a (CutsNode c (write_of id usage selector request) t a)) (λ b. BehindConditions other (representation (Some tag) true) false b (CutsNode c (write_of id usage selector other) t b))
+          when (is_there t selector) (AfterConditions request (representation (Some tag) true) false a (CutsNode c (write_of id usage selector request) t a)) (λ b. AfterConditions other (representation (Some tag) true) false b (CutsNode c (write_of id usage selector other) t b))
           (plain 404 request.closes) (plain 404 closes)
           (behind (Some tag) true (CutsNode c (write_of id usage selector request) t a) (λ b. CutsNode c (write_of id usage selector other) t b) (cut usage selector t)) is
 

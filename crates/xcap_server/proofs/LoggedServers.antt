@@ -20,7 +20,7 @@ use Rattle.store_core.specs.State.{State, first_state}
 use Rattle.store_core.specs.StoreViews.{Stored}
 use Rattle.xcap_machine.specs.Answers.{Answer, Made}
 use Rattle.xcap_machine.specs.Laws.{tells_change}
-use Rattle.xcap_machine.specs.Machine.{ValidStep, Step, answer_as, content_after_answer, told_as}
+use Rattle.xcap_machine.specs.Machine.{ValidStep, Step, answer_as, content_after_answer, made_from}
 use Rattle.xcap_machine.specs.Requests.{IsAnswer}
 use Rattle.xcap_machine.proofs.Steps.{answer_closes}
 use Rattle.xcap_machine.proofs.Ways.{Way, changes, stays as changes_nothing, way_of}
@@ -81,11 +81,11 @@ writes root c request a made makes is = writes_by (method_of request.method) req
 
 -- ---- decided, added to the log, and made
 
-no_edit : (edit : Option Edit) → option_map told_as edit ≡ None → edit ≡ None
+no_edit : (edit : Option Edit) → option_map made_from edit ≡ None → edit ≡ None
 no_edit None h = refl
 no_edit (Some e) h = let no : ⊥ = cc in absurd no
 
-some_edit : (edit : Option Edit) (made : Made) → option_map told_as edit ≡ Some made → (e : Edit) × (edit ≡ Some e)
+some_edit : (edit : Option Edit) (made : Made) → option_map made_from edit ≡ Some made → (e : Edit) × (edit ≡ Some e)
 some_edit None made h = let no : ⊥ = cc in absurd no
 some_edit (Some e) made h = (e, refl)
 
@@ -155,31 +155,31 @@ module _ (old new : ServerState) (request : Request) (s : Stored) (d : Decision)
 
   module _ {E : Type 0} (r : Result (MachineReply Edit) E) (s' : Stored) (holds : new.content ≡ s'.content) where
     -- its record was added, or it couldn't be
-    pub carried_out : (fault : Result (Unit {0}) AppendFault) (log log' : LogState) (journal journal' : JournalState) → is_some (answer_of d).made ≡ true → CarriesOut s d request fault r s'
+    pub carried_out : (fault : Result (Unit {0}) AppendFault) (log log' : LogState) (journal journal' : JournalState) → is_some (answer_of d).made ≡ true → CarriesOut s (record { request = request; decision = d }) fault r s'
         → IsLoggable request → AddsRecord (record { log = log; journal = journal }) (record_of request) fault (record { log = log'; journal = journal' }) → IfOk r (λ a. Answers AnswersRequest (record { machine = old; log = log; journal = journal }) request a.reply (record { machine = new; log = log'; journal = journal' }) a.edit)
     carried_out fault log log' journal journal' some does loggable adds = by r fault does adds
       where
-        by : (r : Result (MachineReply Edit) E) (fault : Result (Unit {0}) AppendFault) → CarriesOut s d request fault r s' → AddsRecord (record { log = log; journal = journal }) (record_of request) fault (record { log = log'; journal = journal' }) → IfOk r (λ a. Answers AnswersRequest (record { machine = old; log = log; journal = journal }) request a.reply (record { machine = new; log = log'; journal = journal' }) a.edit)
+        by : (r : Result (MachineReply Edit) E) (fault : Result (Unit {0}) AppendFault) → CarriesOut s (record { request = request; decision = d }) fault r s' → AddsRecord (record { log = log; journal = journal }) (record_of request) fault (record { log = log'; journal = journal' }) → IfOk r (λ a. Answers AnswersRequest (record { machine = old; log = log; journal = journal }) request a.reply (record { machine = new; log = log'; journal = journal' }) a.edit)
         by (Ok a) (Ok x) does adds = answered_entered a log log' journal journal' some does.0 (holds ∙ does.1) loggable adds
         by (Ok a) (Err Failed) does adds = answered_failed a log log' journal journal' some does.0 does.1 (holds ∙ does.2) loggable adds
         by (Ok a) (Err NoMemory) does adds = absurd does
         by (Err e) fault does adds = tt
 
-    pub carried_closes : (fault : Result (Unit {0}) AppendFault) → CarriesOut s d request fault r s' → IfOk r (λ a. a.reply.closes ≡ request.closes)
+    pub carried_closes : (fault : Result (Unit {0}) AppendFault) → CarriesOut s (record { request = request; decision = d }) fault r s' → IfOk r (λ a. a.reply.closes ≡ request.closes)
     carried_closes fault does = by r fault does
       where
-        by : (r : Result (MachineReply Edit) E) (fault : Result (Unit {0}) AppendFault) → CarriesOut s d request fault r s' → IfOk r (λ a. a.reply.closes ≡ request.closes)
+        by : (r : Result (MachineReply Edit) E) (fault : Result (Unit {0}) AppendFault) → CarriesOut s (record { request = request; decision = d }) fault r s' → IfOk r (λ a. a.reply.closes ≡ request.closes)
         by (Ok a) (Ok x) does = decided_closes a does.0
         by (Ok a) (Err Failed) does = ap (λ (x : SentReply). x.closes) does.0
         by (Ok a) (Err NoMemory) does = absurd does
         by (Err e) fault does = tt
 
     -- memory ran out before anything was done
-    pub carried_nothing : {J : Type 0} (fault : Result (Unit {0}) AppendFault) (log log' : LogState) (journal journal' : JournalState) (j j' : J) → CarriesOut s d request fault r s' → (fault ≡ Err NoMemory → j' ≡ j)
+    pub carried_nothing : {J : Type 0} (fault : Result (Unit {0}) AppendFault) (log log' : LogState) (journal journal' : JournalState) (j j' : J) → CarriesOut s (record { request = request; decision = d }) fault r s' → (fault ≡ Err NoMemory → j' ≡ j)
         → AddsRecord (record { log = log; journal = journal }) (record_of request) fault (record { log = log'; journal = journal' }) → OnErr r ((new ≡ old) × (log' ≡ log) × (j' ≡ j))
     carried_nothing {J} fault log log' journal journal' j j' does quiet adds = by r fault does quiet adds
       where
-        by : (r : Result (MachineReply Edit) E) (fault : Result (Unit {0}) AppendFault) → CarriesOut s d request fault r s' → (fault ≡ Err NoMemory → j' ≡ j) → AddsRecord (record { log = log; journal = journal }) (record_of request) fault (record { log = log'; journal = journal' }) → OnErr r ((new ≡ old) × (log' ≡ log) × (j' ≡ j))
+        by : (r : Result (MachineReply Edit) E) (fault : Result (Unit {0}) AppendFault) → CarriesOut s (record { request = request; decision = d }) fault r s' → (fault ≡ Err NoMemory → j' ≡ j) → AddsRecord (record { log = log; journal = journal }) (record_of request) fault (record { log = log'; journal = journal' }) → OnErr r ((new ≡ old) × (log' ≡ log) × (j' ≡ j))
         by (Ok a) fault does quiet adds = tt
         by (Err e) (Ok x) does quiet adds = absurd does
         by (Err e) (Err Failed) does quiet adds = absurd does
@@ -199,7 +199,7 @@ module _ (root : List ℕ) where
 
   back : (s : ServerState) (m : State) → StandsAt root s m → (request : Request) → Accepts (ValidStep root) m request → Accepts AnswersRequest s request
   back s m here request a =
-      let made = told_as a.2 in (
+      let made = made_from a.2 in (
         a.0,
         record { root = s.root; content = content_after_answer s.content (Some made) },
         a.2,
@@ -230,8 +230,8 @@ module _ (root : List ℕ) where
   recorded_step m m' request reply e f =
       let kept = f.0 in
       let step : Step root m request reply m' (Some e) = f.1 in
-      let reads = (writes root (stock_of m) request (answer_as reply (Some e)) (told_as e) refl step.answers).1 in
-      let other = makes_too (told_as e) request false (answer_as reply (Some e)) refl root (stock_of m) reads step.answers in (
+      let reads = (writes root (stock_of m) request (answer_as reply (Some e)) (made_from e) refl step.answers).1 in
+      let other = makes_too (made_from e) request false (answer_as reply (Some e)) refl root (stock_of m) reads step.answers in (
         other.0.reply,
         (
           kept,

@@ -17,7 +17,7 @@ use Rattle.store_core.specs.Contents.{StoreContents, stock_of}
 use Rattle.store_core.specs.State.{State, first_state}
 use Rattle.xcap_machine.specs.Answers.{Answer, Made}
 use Rattle.xcap_machine.specs.Laws.{tells_change}
-use Rattle.xcap_machine.specs.Machine.{ValidStep, answer_as, told_as}
+use Rattle.xcap_machine.specs.Machine.{ValidStep, answer_as, made_from}
 use Rattle.xcap_machine.specs.Requests.{IsAnswer}
 use Rattle.xcap_machine.proofs.Ways.{Way, changes, stays, way_of}
 use Rattle.edit_journal.specs.LoggedRequests.{Accepts}
@@ -43,8 +43,8 @@ changes_by method closes c a made makes (changes reply tells same id change note
 recorded_step : (root : List ℕ) (m next : State) (request : Request) (reply : SentReply) (e : Edit) → ValidStep root m request reply next (Some e) → (reply' : SentReply) × ValidStep root m (recorded request) reply' next (Some e)
 recorded_step root m next request reply e step =
     let answer = answer_as reply (Some e) in
-    let writes = changes_by (method_of request.method) request.closes (stock_of m) answer (told_as e) refl (way_of root (stock_of m) request answer step.1.answers) in
-    let other = makes_too (told_as e) request false answer refl root (stock_of m) writes step.1.answers in (
+    let writes = changes_by (method_of request.method) request.closes (stock_of m) answer (made_from e) refl (way_of root (stock_of m) request answer step.1.answers) in
+    let other = makes_too (made_from e) request false answer refl root (stock_of m) writes step.1.answers in (
       other.0.reply,
       (
         step.0,

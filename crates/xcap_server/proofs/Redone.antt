@@ -9,7 +9,7 @@ use Rattle.store_core.specs.Contents.{Represents, StoreContents, stock_of}
 use Rattle.store_core.specs.ValidStates.{IsValidState}
 use Rattle.store_core.specs.State.{State, first_state}
 use Rattle.xcap_machine.specs.Answers.{Answer, Made}
-use Rattle.xcap_machine.specs.Machine.{ValidStep, answer_as, told_as}
+use Rattle.xcap_machine.specs.Machine.{ValidStep, answer_as, made_from}
 use Rattle.xcap_machine.specs.Requests.{IsAnswer}
 use Rattle.xcap_machine.proofs.OneAnswer.{one_answer}
 use Rattle.xcap_server.specs.ReplayedRequests.{Redoing, Refuses, ResultsFrom}
@@ -39,7 +39,7 @@ module _ (old new : ServerState) (request : Request) (reply : SentReply) (root :
   redo_done edit steps = (
     λ refuses. (
         let same = one_answer old.root old.content request _ _ refuses.1 (answered_so (Some edit) steps) in
-        let no : ◌≡◌ {A = Option Made} None (Some (told_as edit)) = ap (λ (a : Answer). a.made) same in
+        let no : ◌≡◌ {A = Option Made} None (Some (made_from edit)) = ap (λ (a : Answer). a.made) same in
         cc
         ),
     λ requests past. (

@@ -3,17 +3,17 @@ use Rattle.std.proofs.Common.{◌≡◌, ℕ, List, [], ◌∷◌, ◌++◌, tak
 use Rattle.http_wire.specs.declared.request.Request.{Request}
 use Rattle.edit_journal.specs.Journals.{IsFirstOf}
 use Rattle.edit_journal.specs.Logs.{LogState}
-use Rattle.edit_journal.specs.Limits.{max_journal_bytes}
+use Rattle.edit_journal.specs.declared.limits.TheConstants.{MAX_JOURNAL_BYTES}
 use Rattle.edit_journal.specs.Restarts.{RestartState, Restarts}
 use Rattle.edit_journal.specs.Texts.{IsRecordedRequest, text}
 use Rattle.edit_journal.specs.declared.journal_restart.RestartFault.{RestartFault}
 use Rattle.edit_journal.specs.declared.journal_restart.RestartFault.TheVariants.{ReadFailed, AppendFailed, Damaged, Refused, TooLong, NoMemory}
-use Rattle.edit_journal.specs.PrefixRestarts.{EndsBehind}
+use Rattle.edit_journal.specs.PrefixRestarts.{EndsAfter}
 use Rattle.edit_journal.proofs.RestartLemmas.{ends_behind}
 use Rattle.store_core.specs.Contents.{Represents, StoreContents}
 use Rattle.store_core.specs.State.{State, first_state}
 use Rattle.xcap_machine.specs.Answers.{Answer, Made, unchanged}
-use Rattle.xcap_machine.specs.Machine.{answer_as, told_as}
+use Rattle.xcap_machine.specs.Machine.{answer_as, made_from}
 use Rattle.xcap_machine.specs.Requests.{IsAnswer}
 use Rattle.xcap_machine.proofs.OneAnswer.{one_answer}
 use Rattle.xcap_server.specs.ReplayedRequests.{Redoing, Refuses, ResultsFrom}
@@ -26,7 +26,7 @@ not_refused : (server : ServerState) (state last : State) (next : Request) (othe
 not_refused server state last next others stands (reply, mid, edit, step, more) (reply', refuses) =
     let answers : IsAnswer server.root server.content next (answer_as reply (Some edit)) = subst (λ (c : StoreContents). IsAnswer server.root c next (answer_as reply (Some edit))) (sym stands) step.1.answers in
     let same = one_answer server.root server.content next (answer_as reply (Some edit)) (unchanged reply') answers refuses in
-    let no : ◌≡◌ {A = Option Made} (Some (told_as edit)) None = ap (λ (a : Answer). a.made) same in
+    let no : ◌≡◌ {A = Option Made} (Some (made_from edit)) None = ap (λ (a : Answer). a.made) same in
     cc
 
 module _ (all done : List Request) (last : State) (new : ServerState) (way : Redoing new.root (first_state 1) all last) (stood : ResultsFrom new done) where
@@ -43,9 +43,9 @@ module _ (all done : List Request) (last : State) (new : ServerState) (way : Red
       }
 
   abbrev Returns : List ℕ → List ℕ → Result LogState RestartFault → Type 0
-  Returns bytes rest result = (left : List Request) × RepresentsAgain new done left last × EndsBehind RefusesNone (record { all = all; bytes = bytes; done = done; left = left; rest = rest }) new result
+  Returns bytes rest result = (left : List Request) × RepresentsAgain new done left last × EndsAfter RefusesNone (record { all = all; bytes = bytes; done = done; left = left; rest = rest }) new result
 
-  returns : (bytes rest : List ℕ) (result : Result LogState RestartFault) (left : List Request) → EndsBehind Refuses (record { all = all; bytes = bytes; done = done; left = left; rest = rest }) new result → Returns bytes rest result
+  returns : (bytes rest : List ℕ) (result : Result LogState RestartFault) (left : List Request) → EndsAfter Refuses (record { all = all; bytes = bytes; done = done; left = left; rest = rest }) new result → Returns bytes rest result
   returns bytes rest (Ok log) left ends = (left, again left ends.requests, ends)
   returns bytes rest (Err ReadFailed) left ends = (left, again left ends.requests, ends)
   returns bytes rest (Err AppendFailed) left ends = (left, again left ends, ends)
@@ -58,9 +58,9 @@ module _ (all done : List Request) (last : State) (new : ServerState) (way : Red
 
 pub comes_back : (all : List Request) (last : State) (old new : RestartState ServerState) (result : Result LogState RestartFault)
     → All IsRecordedRequest all → Redoing old.replayer.root (first_state 1) all last → ResultsFrom old.replayer [] → new.replayer.root ≡ old.replayer.root
-    → (restarts : Restarts ResultsFrom Refuses old new result) → IsFirstOf (take max_journal_bytes restarts.bytes) (text all)
-    → (left : List Request) × RepresentsAgain new.replayer restarts.requests left last × EndsBehind RefusesNone (record { all = all; bytes = take max_journal_bytes restarts.bytes; done = restarts.requests; left = left; rest = restarts.rest }) new.replayer result
+    → (restarts : Restarts ResultsFrom Refuses old new result) → IsFirstOf (take MAX_JOURNAL_BYTES restarts.bytes) (text all)
+    → (left : List Request) × RepresentsAgain new.replayer restarts.requests left last × EndsAfter RefusesNone (record { all = all; bytes = take MAX_JOURNAL_BYTES restarts.bytes; done = restarts.requests; left = left; rest = restarts.rest }) new.replayer result
 comes_back all last old new result told way none root r begins =
     let ends = ends_behind ResultsFrom Refuses all old new result told r begins in
     let way' = subst (λ (x : List ℕ). Redoing x (first_state 1) all last) (sym root) way in
-    returns all r.requests last new.replayer way' (r.stood [] none) (take max_journal_bytes r.bytes) r.rest result ends.0 ends.1
+    returns all r.requests last new.replayer way' (r.stood [] none) (take MAX_JOURNAL_BYTES r.bytes) r.rest result ends.0 ends.1

@@ -9,7 +9,7 @@ use Rattle.store_core.specs.State.{State}
 use Rattle.store_core.specs.Contents.{Represents}
 use Rattle.store_core.specs.ValidStates.{IsValidState}
 use Rattle.xcap_machine.specs.Machine.{Does, ValidStep, answer_as}
-use Rattle.xcap_machine.specs.Effects.{DeletedIsGone, KeyAddressesStay, PutIsThere, SecondPutLeavesTrees}
+use Rattle.xcap_machine.specs.Effects.{DeletedIsGone, KeyAddressesStay, PutExists, SecondPutLeavesTrees}
 use Rattle.xcap_machine.specs.SubscriberVersions.{SubscribersHold}
 use Rattle.xcap_machine.proofs.FeedAnswers.{holds}
 use Rattle.xcap_machine.proofs.Addresses.{addresses_stay}
@@ -106,8 +106,8 @@ module _ (s now s' : ServerState) (is : s ≡ now) (request : Request) where
   pub answered_closes : {E : Type 0} (r : Result (MachineReply Edit) E) → IfOk r (λ a. AnswersRequest s request a.reply s' a.edit) → IfOk r (λ a. a.reply.closes ≡ request.closes)
   answered_closes r = of_all (λ a. a.reply.closes ≡ request.closes) (λ a does. answer_closes now.root now.content request (answer_as a.reply a.edit) does.answers) r
 
-  pub answered_put : {E : Type 0} (r : Result (MachineReply Edit) E) → IfOk r (λ a. AnswersRequest s request a.reply s' a.edit) → IfOk r (λ a. PutIsThere now.root now.content request a.edit s'.content)
-  answered_put r = of_all (λ a. PutIsThere now.root now.content request a.edit s'.content) (λ a does. put_is_there now.root now.content s'.content request a.reply a.edit does) r
+  pub answered_put : {E : Type 0} (r : Result (MachineReply Edit) E) → IfOk r (λ a. AnswersRequest s request a.reply s' a.edit) → IfOk r (λ a. PutExists now.root now.content request a.edit s'.content)
+  answered_put r = of_all (λ a. PutExists now.root now.content request a.edit s'.content) (λ a does. put_is_there now.root now.content s'.content request a.reply a.edit does) r
 
   pub answered_delete : {E : Type 0} (r : Result (MachineReply Edit) E) → IfOk r (λ a. AnswersRequest s request a.reply s' a.edit) → IfOk r (λ a. DeletedIsGone now.root request a.edit s'.content)
   answered_delete r = of_all (λ a. DeletedIsGone now.root request a.edit s'.content) (λ a does. deleted_is_gone now.root now.content s'.content request a.reply a.edit does) r

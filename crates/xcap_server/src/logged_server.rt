@@ -3,7 +3,7 @@ ghost use Rattle.std.specs.Prelude.{◌≡◌, ◌≤◌, ◌-◌, ◌*◌, List
 ghost use Rattle.http_wire.specs.declared.request.Request.{Request as TheRequest};
 ghost use Rattle.xml_names.specs.Limits.{u64_max};
 ghost use Rattle.edit_journal.specs.Journals.{IsJournalProgress};
-ghost use Rattle.edit_journal.specs.Limits.{max_record_bytes};
+ghost use Rattle.edit_journal.specs.declared.limits.TheConstants.{MAX_RECORD_BYTES};
 ghost use Rattle.edit_journal.specs.Logs.{Fits};
 ghost use Rattle.edit_journal.specs.LoggedMachines.{HoldsLog};
 ghost use Rattle.edit_journal.specs.LoggedRequests.{Accepts, IsLoggable};
@@ -28,7 +28,7 @@ use xcap_io::Port;
 /// is then whole in the journal. Where the record can't be added, the reply is the 500, and
 /// nothing is changed except the journal after the whole records, from which the next append cuts
 /// what was left. Where the journal has the records of the requests that the server stands for, it
-/// does so afterwards.
+/// still has them afterwards.
 ///
 /// # Errors
 /// `NoMemory` when out of memory; nothing has changed then.
@@ -40,7 +40,7 @@ pub fn answer_logged<J: Journal>(
 ) -> Result<MachineReply<Edit>, AllocError>
     requires loggable { IsLoggable request.now }
     requires fits { Fits log.old (J.state journal.old) }
-    requires room_left { log.old.len ≤ u64_max - max_record_bytes }
+    requires room_left { log.old.len ≤ u64_max - MAX_RECORD_BYTES }
     ensures machine_reply { IfOk result
         (λ answered. (m : State) → IsValidState m → Represents server.old.content m
         → AnswersLogged m
@@ -63,7 +63,7 @@ pub fn answer_logged<J: Journal>(
 
 /// Serves the next connections of a port, at most `count`, as `serve_port` does, with the
 /// answers of `answer_logged`. Where the journal has the records of the requests that the server
-/// stands for, it does so afterwards.
+/// stands for, it still has them afterwards.
 pub fn serve_port_logged<J: Journal, P: Port, W: Watchers<Edit>>(
     server: &mut Server,
     log: &mut JournalLog,

@@ -45,7 +45,7 @@ fn answer_without_change(
     request: &Request,
 ) -> Result<MachineReply<Edit>, AllocError>
     ensures makes_nothing { (s : Stored) (d : TheDecision)
-        → CarriesOut s d request.now (Err fault) result s }
+        → CarriesOut s (record { request = request.now; decision = d }) (Err fault) result s }
 {
     match fault {
         AppendFault::Failed => Ok(append_failure_reply(request)),
@@ -61,7 +61,9 @@ fn carry_out(
     request: &Request,
 ) -> Result<MachineReply<Edit>, AllocError>
     requires ready { IsReadyFor store.old decision }
-    ensures carries_out { CarriesOut store.old decision request.now entered result store.new }
+    ensures carries_out { CarriesOut store.old
+        (record { request = request.now; decision = decision })
+        entered result store.new }
 {
     match entered {
         Ok(()) => Ok(commit(store, decision)),

@@ -3,11 +3,11 @@ ghost use Rattle.std.specs.Prelude.{◌≡◌, ℕ, ◌≤◌, ◌++◌, List, [
 ghost use Rattle.http_wire.specs.declared.request.Request.{Request};
 ghost use Rattle.edit_journal.specs.Journals.{IsFirstOf, JournalState};
 ghost use Rattle.edit_journal.specs.Logs.{LogState};
-ghost use Rattle.edit_journal.specs.Limits.{max_journal_bytes};
+ghost use Rattle.edit_journal.specs.declared.limits.TheConstants.{MAX_JOURNAL_BYTES};
 ghost use Rattle.edit_journal.specs.Restarts.{RestartState, Restarts};
 ghost use Rattle.edit_journal.specs.Texts.{IsRecordedRequest, text};
 ghost use Rattle.edit_journal.specs.declared.journal_restart.RestartFault.{RestartFault};
-ghost use Rattle.edit_journal.specs.PrefixRestarts.{EndsBehind};
+ghost use Rattle.edit_journal.specs.PrefixRestarts.{EndsAfter};
 ghost use Rattle.store_core.specs.State.{State, first_state};
 ghost use Rattle.xcap_server.specs.LoggedServers.{Logs};
 ghost use Rattle.xcap_server.specs.ReplayedRequests.{Redoing, Refuses, ResultsFrom};
@@ -26,12 +26,12 @@ pub fn servers_come_back_from_first_bytes()
         → All IsRecordedRequest all → Redoing old.replayer.root (first_state 1) all last
         → ResultsFrom old.replayer [] → new.replayer.root ≡ old.replayer.root
         → (restarts : Restarts ResultsFrom Refuses old new result)
-        → IsFirstOf (take max_journal_bytes restarts.bytes) (text all)
+        → IsFirstOf (take MAX_JOURNAL_BYTES restarts.bytes) (text all)
         → (left : List Request) × RepresentsAgain new.replayer restarts.requests left last
-        × EndsBehind RefusesNone
+        × EndsAfter RefusesNone
         (record {
           all = all;
-          bytes = take max_journal_bytes restarts.bytes;
+          bytes = take MAX_JOURNAL_BYTES restarts.bytes;
           done = restarts.requests;
           left = left;
           rest = restarts.rest;

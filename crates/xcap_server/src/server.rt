@@ -4,7 +4,7 @@ ghost use Rattle.xcap_uri.specs.Targets.{under_root};
 ghost use Rattle.store_core.specs.State.{State};
 ghost use Rattle.store_core.specs.Contents.{Represents};
 ghost use Rattle.store_core.specs.ValidStates.{IsValidState};
-ghost use Rattle.xcap_machine.specs.Effects.{DeletedIsGone, KeyAddressesStay, PutIsThere};
+ghost use Rattle.xcap_machine.specs.Effects.{DeletedIsGone, KeyAddressesStay, PutExists};
 ghost use Rattle.xcap_machine.specs.Effects.{SecondPutLeavesTrees};
 ghost use Rattle.xcap_machine.specs.Machine.{ValidStep};
 ghost use Rattle.xcap_machine.specs.SubscriberVersions.{SubscribersHold};
@@ -96,7 +96,7 @@ pub fn answer(server: &mut Server, request: &Request) -> Result<MachineReply<Edi
         → (next : State) × ValidStep server.old.root m request.now answered.reply next answered.edit
         × Represents server.new.content next) }
     ensures put_is_there { IfOk result (λ answered.
-        PutIsThere server.old.root server.old.content request.now answered.edit
+        PutExists server.old.root server.old.content request.now answered.edit
         server.new.content) }
     ensures deleted_is_gone { IfOk result (λ answered.
         DeletedIsGone server.old.root request.now answered.edit server.new.content) }

@@ -3,11 +3,12 @@ use Rattle.std.proofs.Common.{◌≡◌, ◌⊎◌, ℕ, true, ◌&&◌, if◌th
 use Rattle.std.proofs.lemmas.Bool.{and_from, and_parts}
 use Rattle.std.proofs.lemmas.Str.{IsUtf8-from_is_utf8, scalars-chars}
 use Rattle.std.specs.List.{list_all}
-use Rattle.std.specs.Str.{all_scalars, is_utf8}
+use Rattle.std.specs.Str.{all_scalars, chars, is_utf8}
 use Rattle.percent_encoding.specs.Percent.{percent_decode}
 use Rattle.xml_names.specs.declared.names.Decl.{Decl}
 use Rattle.doc_names.specs.declared.doc_id.DocId.{DocId}
 use Rattle.doc_names.specs.declared.doc_id.Home.TheVariants.{User}
+use Rattle.doc_names.specs.Usages.{auid_text}
 use Rattle.node_select.specs.declared.fault.SelectorFault.{SelectorFault}
 use Rattle.node_select.specs.declared.selector.End.{End}
 use Rattle.node_select.specs.declared.selector.End.TheVariants as ends
@@ -15,7 +16,7 @@ use Rattle.node_select.specs.declared.selector.Selector.{Selector}
 use Rattle.xcap_uri.specs.Delimiters.{front_before, rest_after, pieces}
 use Rattle.xcap_uri.specs.Escapes.{StandsFor, has_whole_escapes}
 use Rattle.xcap_uri.specs.Roots.{slash}
-use Rattle.xcap_uri.specs.Shapes.{Names, auid_word, doc_of, mode_word, names_deep, names_document, names_element_feed, names_feed, names_flat, names_node}
+use Rattle.xcap_uri.specs.Shapes.{Names, doc_of, mode_word, names_deep, names_document, names_element_feed, names_feed, names_flat, names_node}
 use Rattle.xcap_uri.specs.Targets.{AreSegments, Means, NamedAnswer, RestAnswer, TargetResult, element_feed_of, is_element, node_of, question, raw_text}
 use Rattle.xcap_uri.specs.Words.{feed, users}
 use Rattle.xcap_uri.specs.declared.fault.UriFault.{UriFault}
@@ -52,7 +53,7 @@ in_feed_encodable a b c d e xui name h =
 -- ---- what an address means that asks for a feed
 
 -- a result that is no fault comes from the first of the two ways
-there : {Found Missing : Type 0} {fault : UriFault} (t : Target) → Found ⊎ (Missing × ◌≡◌ {A = Result Target UriFault} (Ok t) (Err fault)) → Found
+pub there : {Found Missing : Type 0} {fault : UriFault} (t : Target) → Found ⊎ (Missing × ◌≡◌ {A = Result Target UriFault} (Ok t) (Err fault)) → Found
 there t (inl found) = found
 there t (inr none) = absurd (no none.1)
   where
@@ -82,7 +83,7 @@ module _ (mode : Mode) (tag : ℕ) (doc : DocId) where
   by_shape segments selector bindings raw _ (names_deep auid home name next more e) h is = absurd cc
   by_shape segments selector bindings raw _ (names_feed other number digits auid usage xui name e is_tag stored f) h is =
       let same : doc_of auid (User xui) name ≡ doc = cc in
-      ap is_encodable (sym same) ∙ in_feed_encodable feed (mode_word other) digits (auid_word auid) users xui name (ap (list_all all_scalars) (sym e) ∙ h)
+      ap is_encodable (sym same) ∙ in_feed_encodable feed (mode_word other) digits (chars (auid_text auid)) users xui name (ap (list_all all_scalars) (sym e) ∙ h)
   by_shape segments selector bindings raw _ (names_element_feed number digits auid usage xui name text e is_tag stored f some) h is = absurd (no_element number _ raw is.0 is.2)
   by_shape segments selector bindings raw _ (names_flat xui name service e f) h is = absurd cc
 

@@ -6,7 +6,7 @@ use Rattle.std.specs.Char.{is_ascii_digit as is_digit}
 use Rattle.xml_grammar.specs.Digits.{decimal_digits}
 use Rattle.xml_grammar.specs.Rules.{number_from}
 use Rattle.xcap_uri.specs.Numerals.{begins_with_digit, numeral_of}
-use Rattle.xcap_uri.specs.inner.Numerals.{number_behind}
+use Rattle.xcap_uri.specs.inner.Numerals.{number_after}
 
 -- the greatest number of 64 bits
 abbrev top : ℕ
@@ -26,17 +26,17 @@ too_great true m h = rw (lt-leb m top h) refl
 too_great false m h = refl
 
 -- one digit more, where it is one and where the number stays small
-with_digit : (n c : ℕ) (cs : List ℕ) (digit small : Bool) → is_digit c ≡ digit → nat_le (n * 10 + (c - 48)) top ≡ small → (n * 10 + (c - 48) ≤ top → number_behind (n * 10 + (c - 48)) cs ≡ whole (n * 10 + (c - 48)) cs) → number_behind n (c ∷ cs) ≡ whole n (c ∷ cs)
+with_digit : (n c : ℕ) (cs : List ℕ) (digit small : Bool) → is_digit c ≡ digit → nat_le (n * 10 + (c - 48)) top ≡ small → (n * 10 + (c - 48) ≤ top → number_after (n * 10 + (c - 48)) cs ≡ whole (n * 10 + (c - 48)) cs) → number_after n (c ∷ cs) ≡ whole n (c ∷ cs)
 with_digit n c cs false small d s more = rw d refl
 with_digit n c cs true true d s more = rw (d, s) (more (leb-true (n * 10 + (c - 48)) top s))
 with_digit n c cs true false d s more =
     let beyond = leb-false (n * 10 + (c - 48)) top s in
     rw (d, s) (sym (too_great (list_all is_digit cs) (number_from decimal_digits (n * 10 + (c - 48)) cs) (omega (arith, beyond, grows (n * 10 + (c - 48)) cs))))
 
-value_is : (n : ℕ) (cs : List ℕ) → n ≤ top → number_behind n cs ≡ whole n cs
+value_is : (n : ℕ) (cs : List ℕ) → n ≤ top → number_after n cs ≡ whole n cs
 value_is n [] small = rw (le-leb n top small) refl
 value_is n (c ∷ cs) small = with_digit n c cs (is_digit c) (nat_le (n * 10 + (c - 48)) top) refl refl (λ fits. value_is (n * 10 + (c - 48)) cs fits)
 
 -- the number of a numeral
-pub numeral_is : (octets : List ℕ) → begins_with_digit octets ≡ true → number_behind 0 octets ≡ numeral_of octets
+pub numeral_is : (octets : List ℕ) → begins_with_digit octets ≡ true → number_after 0 octets ≡ numeral_of octets
 numeral_is octets begins = value_is 0 octets (omega arith) ∙ rw begins refl

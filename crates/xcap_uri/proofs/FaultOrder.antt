@@ -3,7 +3,7 @@ use Rattle.std.proofs.Common.{◌≡◌, Result, Ok, Err, inl, inr, refl, sym, s
 use Rattle.xml_names.specs.declared.read_error.ReadError.TheVariants.{Fault, NoMemory}
 use Rattle.xml_names.specs.Memory.{Answered}
 use Rattle.xcap_uri.specs.readers.Steps.{UriError, ◌>>=◌}
-use Rattle.xcap_uri.specs.Order.{Where, Given}
+use Rattle.xcap_uri.specs.Order.{FirstOrFault, Given}
 use Rattle.xcap_uri.specs.declared.fault.UriFault.{UriFault}
 
 -- what is found is a result of which this holds, and not out of memory
@@ -46,26 +46,26 @@ none_ok (Ok x) e a p q = absurd cc
 none_ok (Err x) e a p q = absurd cc
 
 module _ {A B : Type 0} (Is : A → Type 0) (fault : UriFault) (Next : A → Result B UriFault → Type 0) where
-  pub inside : (a : A) → Is a → (s : Result B UriError) → Meets (Next a) s → Meets (Where Is fault Next) s
+  pub inside : (a : A) → Is a → (s : Result B UriError) → Meets (Next a) s → Meets (FirstOrFault Is fault Next) s
   unfolding Meets
   inside a i (Ok value) m = inl (a, i, m)
   inside a i (Err (Fault f)) m = inl (a, i, m)
   inside a i (Err NoMemory) m = m
 
-  outside : (e : UriError) → e ≡ Fault fault → ((a : A) → Is a → ⊥) → (let s : Result B UriError = Err e in Meets (Where Is fault Next) s)
+  outside : (e : UriError) → e ≡ Fault fault → ((a : A) → Is a → ⊥) → (let s : Result B UriError = Err e in Meets (FirstOrFault Is fault Next) s)
   unfolding Meets
-  outside e same none = subst (λ (z : UriError). let s : Result B UriError = Err z in Meets (Where Is fault Next) s) (sym same) (inr (none, refl))
+  outside e same none = subst (λ (z : UriError). let s : Result B UriError = Err z in Meets (FirstOrFault Is fault Next) s) (sym same) (inr (none, refl))
 
-  by_result : (r s : Result A UriError) (next : A → Result B UriError) → Decides Is fault r → r ≡ s → ((a : A) → Is a → Meets (Next a) (next a)) → Meets (Where Is fault Next) (s >>= next)
+  by_result : (r s : Result A UriError) (next : A → Result B UriError) → Decides Is fault r → r ≡ s → ((a : A) → Is a → Meets (Next a) (next a)) → Meets (FirstOrFault Is fault Next) (s >>= next)
   by_result r (Ok a) next d e h = inside a (d.sound a e) (next a) (h a (d.sound a e))
   by_result r (Err x) next d e h = outside x (d.refused x e) (λ a i. none_ok r x a e (d.complete a i))
 
   -- a step, and what follows it
-  pub step : (r : Result A UriError) (next : A → Result B UriError) → Decides Is fault r → ((a : A) → Is a → Meets (Next a) (next a)) → Meets (Where Is fault Next) (r >>= next)
+  pub step : (r : Result A UriError) (next : A → Result B UriError) → Decides Is fault r → ((a : A) → Is a → Meets (Next a) (next a)) → Meets (FirstOrFault Is fault Next) (r >>= next)
   step r next d h = by_result r r next d refl h
 
   -- it has one result
-  pub one_step : (r : Result A UriError) → Decides Is fault r → ((a : A) (x y : Result B UriFault) → Next a x → Next a y → x ≡ y) → (x y : Result B UriFault) → Where Is fault Next x → Where Is fault Next y → x ≡ y
+  pub one_step : (r : Result A UriError) → Decides Is fault r → ((a : A) (x y : Result B UriFault) → Next a x → Next a y → x ≡ y) → (x y : Result B UriFault) → FirstOrFault Is fault Next x → FirstOrFault Is fault Next y → x ≡ y
   one_step r d h x y (inl p) (inl q) =
       let same : p.0 ≡ q.0 = same_ok r p.0 q.0 (d.complete p.0 p.1) (d.complete q.0 q.1) in
       h q.0 x y (subst (λ (a : A). Next a x) same p.2) q.2

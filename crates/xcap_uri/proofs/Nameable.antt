@@ -16,15 +16,15 @@ use Rattle.xcap_uri.specs.declared.shape.Shape.TheVariants.{Document, Node, Deep
 use Rattle.xcap_uri.specs.declared.target.Mode.{Mode}
 use Rattle.xcap_uri.specs.declared.target.Target.{Target}
 use Rattle.xcap_uri.specs.Delimiters.{front_before, rest_after, pieces}
-use Rattle.xcap_uri.specs.readers.Escapes.{text_read, optional_text_read}
+use Rattle.xcap_uri.specs.readers.Escapes.{parsed_text, parsed_optional_text}
 use Rattle.xcap_uri.specs.readers.Steps.{UriError, ◌>>=◌}
 use Rattle.doc_names.specs.Ids.{IsNameable, IsAddressable, IsReadableHome}
-use Rattle.xcap_uri.specs.readers.Queries.{optional_bindings_read}
+use Rattle.xcap_uri.specs.readers.Queries.{parsed_optional_bindings}
 use Rattle.xcap_uri.specs.Roots.{slash}
 use Rattle.xcap_uri.specs.Shapes.{doc_of, tag_spelled as tag_of}
 use Rattle.xcap_uri.specs.readers.Shapes as Shapes
 use Rattle.xcap_uri.specs.Targets.{raw_text, question, IsReadableTarget, under_root}
-use Rattle.xcap_uri.specs.readers.Targets.{segments_read, path_read, target_of, part_read, about_element, rest_read, under_read, target_read}
+use Rattle.xcap_uri.specs.readers.Targets.{parsed_segments, parsed_path, target_of, parsed_part, about_element, parsed_rest, parsed_under_root, parsed_target}
 use Rattle.xcap_uri.specs.Words.{users, global, feed, flat}
 use Rattle.doc_names.specs.Ids.{separator}
 
@@ -53,15 +53,15 @@ differ text e same = true≢false (sym ((bytes_decides text separator).1 same) �
 abbrev Segments : Type 0
 Segments = Result (List (List ℕ) × Option (List ℕ)) UriError
 
-separate : (text : List ℕ) (ss : List (List ℕ)) (b : Bool) → bytes_eq text separator ≡ b → IfOk (segments_read ss) (λ x. AreFree x.0) → let read : Segments = if b then Ok ([], Some (joined slash ss)) else (segments_read ss >>= λ x. Ok (text ∷ x.0, x.1)) in IfOk read (λ x. AreFree x.0)
+separate : (text : List ℕ) (ss : List (List ℕ)) (b : Bool) → bytes_eq text separator ≡ b → IfOk (parsed_segments ss) (λ x. AreFree x.0) → let read : Segments = if b then Ok ([], Some (joined slash ss)) else (parsed_segments ss >>= λ x. Ok (text ∷ x.0, x.1)) in IfOk read (λ x. AreFree x.0)
 unfolding AreFree
 separate text ss true e h = tt
-separate text ss false e h = bind_ok (segments_read ss) (λ x. Ok (text ∷ x.0, x.1)) (λ x. AreFree x.0) (λ x. AreFree x.0) h (λ x free. (differ text e, free))
+separate text ss false e h = bind_ok (parsed_segments ss) (λ x. Ok (text ∷ x.0, x.1)) (λ x. AreFree x.0) (λ x. AreFree x.0) h (λ x free. (differ text e, free))
 
-free : (ss : List (List ℕ)) → IfOk (segments_read ss) (λ x. AreFree x.0)
+free : (ss : List (List ℕ)) → IfOk (parsed_segments ss) (λ x. AreFree x.0)
 unfolding AreFree
 free [] = tt
-free (s ∷ ss) = bind_ok (text_read s) _ (λ _. Unit {0}) (λ x. AreFree x.0) (always (text_read s)) (λ text _. separate text ss (bytes_eq text separator) refl (free ss))
+free (s ∷ ss) = bind_ok (parsed_text s) _ (λ _. Unit {0}) (λ x. AreFree x.0) (always (parsed_text s)) (λ text _. separate text ss (bytes_eq text separator) refl (free ss))
 
 AreNameable : List (List ℕ) → Type 0
 AreNameable [] = Unit {0}
@@ -86,7 +86,7 @@ ReadableShape (Feed mode tag doc) = IsAddressable doc
 ReadableShape (ElementFeed tag doc text) = IsAddressable doc
 ReadableShape (Flat doc service) = IsAddressable doc
 
-document_ok : (doc : DocId) (selector : Option (List ℕ)) → IsAddressable doc → IfOk (Shapes.document doc selector) ReadableShape
+document_ok : (doc : DocId) (selector : Option (List ℕ)) → IsAddressable doc → IfOk (Shapes.document_shape doc selector) ReadableShape
 unfolding ReadableShape
 document_ok doc None good = good
 document_ok doc (Some []) good = tt
@@ -168,28 +168,28 @@ unless_empty ts selector false e free = named_ok ts selector (nameable ts free e
 target_ok : (shape : Shape) (bindings : List Decl) (raw : List ℕ) → ReadableShape shape → IfOk (target_of shape bindings raw) IsReadableTarget
 unfolding ReadableShape
 target_ok (Document doc) bindings raw good = good
-target_ok (Node doc text) bindings raw good = bind_ok (part_read bindings doc.auid text) _ (λ _. Unit {0}) IsReadableTarget (always _) (λ selector _. good)
+target_ok (Node doc text) bindings raw good = bind_ok (parsed_part bindings doc.auid text) _ (λ _. Unit {0}) IsReadableTarget (always _) (λ selector _. good)
 target_ok (Deep auid home) bindings raw good = good
 target_ok (Feed mode tag doc) bindings raw good = good
-target_ok (ElementFeed tag doc text) bindings raw good = bind_ok (part_read bindings doc.auid text >>= about_element) _ (λ _. Unit {0}) IsReadableTarget (always _) (λ selector _. good)
+target_ok (ElementFeed tag doc text) bindings raw good = bind_ok (parsed_part bindings doc.auid text >>= about_element) _ (λ _. Unit {0}) IsReadableTarget (always _) (λ selector _. good)
 target_ok (Flat doc service) bindings raw good = good
 
 -- what comes after the root
-rest_ok : (rest : List ℕ) → IfOk (rest_read rest) IsReadableTarget
+rest_ok : (rest : List ℕ) → IfOk (parsed_rest rest) IsReadableTarget
 rest_ok rest =
-    bind_ok (path_read (front_before question rest)) _ (λ x. AreFree x.0) IsReadableTarget (free (pieces slash (front_before question rest))) (λ path names.
-    bind_ok (optional_text_read path.1) _ (λ _. Unit {0}) IsReadableTarget (always _) (λ selector _.
-    bind_ok (optional_text_read (rest_after question rest)) _ (λ _. Unit {0}) IsReadableTarget (always _) (λ query _.
+    bind_ok (parsed_path (front_before question rest)) _ (λ x. AreFree x.0) IsReadableTarget (free (pieces slash (front_before question rest))) (λ path names.
+    bind_ok (parsed_optional_text path.1) _ (λ _. Unit {0}) IsReadableTarget (always _) (λ selector _.
+    bind_ok (parsed_optional_text (rest_after question rest)) _ (λ _. Unit {0}) IsReadableTarget (always _) (λ query _.
     bind_ok (Shapes.shape_of path.0 selector) _ ReadableShape IsReadableTarget (unless_empty path.0 selector (list_any Shapes.is_empty path.0) refl names) (λ shape good.
-    bind_ok (optional_bindings_read query) _ (λ _. Unit {0}) IsReadableTarget (always _) (λ bindings _.
+    bind_ok (parsed_optional_bindings query) _ (λ _. Unit {0}) IsReadableTarget (always _) (λ bindings _.
     target_ok shape bindings (raw_text path.1 (rest_after question rest)) good)))))
 
 -- and where the target is outside the root
-under_ok : (rest : Option (List ℕ)) → IfOk (under_read rest) IsReadableTarget
+under_ok : (rest : Option (List ℕ)) → IfOk (parsed_under_root rest) IsReadableTarget
 under_ok None = tt
 under_ok (Some rest) = rest_ok rest
 
-pub target_readable : (root target : List ℕ) → IfOk (target_read root target) IsReadableTarget
+pub target_readable : (root target : List ℕ) → IfOk (parsed_target root target) IsReadableTarget
 target_readable root target = under_ok (under_root root target)
 
 -- what the code returns

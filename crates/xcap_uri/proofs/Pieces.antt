@@ -5,7 +5,7 @@ use Rattle.std.specs.List.{list_all, onto_first as with_first}
 use Rattle.xml_tokens.specs.Tokens.{is_other}
 use Rattle.xml_grammar.specs.TextReading.{after_front}
 use Rattle.xml_grammar.specs.Rules.{AllPass}
-use Rattle.xcap_uri.specs.Delimiters.{rest_after_front, front_before, rest_after, behind_first, pieces}
+use Rattle.xcap_uri.specs.Delimiters.{rest_after_front, front_before, rest_after, after_first, pieces}
 use Rattle.xcap_uri.specs.Roots.{is_some_of}
 
 -- a test, by its two results
@@ -38,7 +38,7 @@ after_le : (p : ℕ → Bool) (text : List ℕ) → length (after_front p text) 
 after_le p [] = omega arith
 after_le p (c ∷ cs) = front_le p c cs (p c) refl (after_le p cs)
 
-first_less : (rest tail : List ℕ) → behind_first rest ≡ Some tail → length tail < length rest
+first_less : (rest tail : List ℕ) → after_first rest ≡ Some tail → length tail < length rest
 first_less [] tail e = cc
 first_less (b ∷ bs) tail e = let same : length bs ≡ length tail = ap (λ o. length (unwrap_or o [])) e in omega (arith, same)
 
@@ -65,7 +65,7 @@ after_all stop [] all = refl
 after_all stop (b ∷ bs) all = rw (not_true (b == stop) all.0) (after_all stop bs all.1)
 
 pub behind_all : (stop : ℕ) (xs : List ℕ) → AllPass (is_other stop) xs → rest_after stop xs ≡ None
-behind_all stop xs all = ap behind_first (after_all stop xs all)
+behind_all stop xs all = ap after_first (after_all stop xs all)
 
 pub pieces_one : (stop : ℕ) (xs : List ℕ) → AllPass (is_other stop) xs → pieces stop xs ≡ xs ∷ []
 pieces_one stop [] all = refl

@@ -50,44 +50,44 @@ some_uri_bad : (x : List ℕ × List ℕ) → OnlyBad (Queries.some_uri x)
 some_uri_bad ([], rest) = bad _
 some_uri_bad (c ∷ cs, rest) = good _
 
-uri_bad : (text : List ℕ) → OnlyBad (Queries.uri_read text)
+uri_bad : (text : List ℕ) → OnlyBad (Queries.parsed_uri text)
 uri_bad text = bind_bad (Queries.uri_chars 0 text) Queries.some_uri (uri_chars_bad 0 text) some_uri_bad
 
 past_bad : (rest : Option (List ℕ)) → OnlyBad (Queries.past rest)
 past_bad None = bad _
 past_bad (Some rest) = good rest
 
-equals_bad : (text : List ℕ) → OnlyBad (Queries.equals_past text)
+equals_bad : (text : List ℕ) → OnlyBad (Queries.after_equals text)
 equals_bad text = bind_bad (Queries.past (rest_after_front (codes "=") (after_front is_space text))) (λ rest. Ok (after_front is_space rest)) (past_bad _) (λ rest. good _)
 
-prefix_bad : (text : List ℕ) → OnlyBad (Queries.prefix_read text)
+prefix_bad : (text : List ℕ) → OnlyBad (Queries.parsed_prefix text)
 prefix_bad text = if_bad (head_is is_name_start text) _ _ (good _) (bad _)
 
 unreserved_bad : (x : List ℕ × List ℕ) → OnlyBad (Queries.unreserved x)
 unreserved_bad x = if_bad (Queries.is_reserved x.0) _ _ (bad _) (good x)
 
-free_prefix_bad : (text : List ℕ) → OnlyBad (Queries.free_prefix_read text)
-free_prefix_bad text = bind_bad (Queries.prefix_read text) Queries.unreserved (prefix_bad text) unreserved_bad
+free_prefix_bad : (text : List ℕ) → OnlyBad (Queries.parsed_free_prefix text)
+free_prefix_bad text = bind_bad (Queries.parsed_prefix text) Queries.unreserved (prefix_bad text) unreserved_bad
 
 item_of : (List ℕ × List ℕ) → (List ℕ × List ℕ) → Queries.Read Decl
 item_of p u = Ok (record { prefix = p.0; uri = u.0 }, u.1)
 
-item_bad : (text : List ℕ) → OnlyBad (Queries.item_read text)
+item_bad : (text : List ℕ) → OnlyBad (Queries.parsed_item text)
 unfolding item_of
 item_bad text =
     bind_bad (Queries.past (rest_after_front (codes "xmlns(") text)) _ (past_bad _)
-    (λ inner. bind_bad (Queries.free_prefix_read inner) _ (free_prefix_bad inner)
-    (λ p. bind_bad (Queries.equals_past p.1 >>= Queries.uri_read) (item_of p) (bind_bad (Queries.equals_past p.1) Queries.uri_read (equals_bad p.1) uri_bad)
+    (λ inner. bind_bad (Queries.parsed_free_prefix inner) _ (free_prefix_bad inner)
+    (λ p. bind_bad (Queries.after_equals p.1 >>= Queries.parsed_uri) (item_of p) (bind_bad (Queries.after_equals p.1) Queries.parsed_uri (equals_bad p.1) uri_bad)
     (λ u. good _)))
 
-items_bad : (n : ℕ) (text : List ℕ) → OnlyBad (Queries.items_read n text)
+items_bad : (n : ℕ) (text : List ℕ) → OnlyBad (Queries.parsed_items n text)
 items_bad n [] = good _
 items_bad zero (c ∷ text) = bad _
 items_bad (suc n) (c ∷ text) =
-    bind_bad (Queries.item_read (c ∷ text)) _ (item_bad (c ∷ text))
-    (λ x. bind_bad (Queries.items_read n (after_front is_blank x.1)) (λ items. Ok (x.0 ∷ items)) (items_bad n (after_front is_blank x.1)) (λ items. good _))
+    bind_bad (Queries.parsed_item (c ∷ text)) _ (item_bad (c ∷ text))
+    (λ x. bind_bad (Queries.parsed_items n (after_front is_blank x.1)) (λ items. Ok (x.0 ∷ items)) (items_bad n (after_front is_blank x.1)) (λ items. good _))
 
-optional_bad : (query : Option (List ℕ)) → OnlyBad (Queries.optional_bindings_read query)
+optional_bad : (query : Option (List ℕ)) → OnlyBad (Queries.parsed_optional_bindings query)
 optional_bad None = good _
 optional_bad (Some text) = items_bad (length text) (after_front is_blank text)
 
@@ -96,16 +96,16 @@ unfolding OnlyBad
 refused (Ok x) e p h = absurd cc
 refused (Err x) e p h = subst (λ (z : UriError). z ≡ Fault BadQuery) (let i : x ≡ e = cc in i) p
 
-pub query_decided : (query : Option (List ℕ)) → Decides (IsQuery query) BadQuery (Queries.optional_bindings_read query)
+pub query_decided : (query : Option (List ℕ)) → Decides (IsQuery query) BadQuery (Queries.parsed_optional_bindings query)
 query_decided query = record {
   sound = query_found query;
   complete = query_read query;
-  refused = λ e h. refused (Queries.optional_bindings_read query) e (optional_bad query) h;
+  refused = λ e h. refused (Queries.parsed_optional_bindings query) e (optional_bad query) h;
 }
 
 -- the bindings that are found are those of the rules, and there are no others
-pub query_is_read : (query : Option (List ℕ)) (bindings : List Decl) → IsQuery query bindings ↔ (Queries.optional_bindings_read query ≡ Ok bindings)
+pub query_is_read : (query : Option (List ℕ)) (bindings : List Decl) → IsQuery query bindings ↔ (Queries.parsed_optional_bindings query ≡ Ok bindings)
 query_is_read query bindings = (query_read query bindings, query_found query bindings)
 
 pub one_query : (query : Option (List ℕ)) (a b : List Decl) → IsQuery query a → IsQuery query b → a ≡ b
-one_query query a b p q = same_ok (Queries.optional_bindings_read query) a b (query_read query a p) (query_read query b q)
+one_query query a b p q = same_ok (Queries.parsed_optional_bindings query) a b (query_read query a p) (query_read query b q)

@@ -15,7 +15,7 @@ use Rattle.xml_tokens.proofs.NameFronts.{space_no_name}
 use Rattle.xcap_uri.specs.Delimiters.{rest_after_front}
 use Rattle.xcap_uri.specs.readers.Steps.{UriError, ◌>>=◌}
 use Rattle.xcap_uri.specs.Queries.{is_bracket_or_caret, is_blank, SpellsUri, ends, plain, escaped, nested, IsItem, AreItems, IsQuery}
-use Rattle.xcap_uri.specs.readers.Queries.{Read, past, equals_past, prefix_read, is_reserved, unreserved, free_prefix_read, some_uri, uri_chars, uri_read, item_read, items_read, optional_bindings_read}
+use Rattle.xcap_uri.specs.readers.Queries.{Read, past, after_equals, parsed_prefix, is_reserved, unreserved, parsed_free_prefix, some_uri, uri_chars, parsed_uri, parsed_item, parsed_items, parsed_optional_bindings}
 use Rattle.xcap_uri.specs.readers.UriSteps.{with_chars}
 use Rattle.xcap_uri.specs.declared.fault.UriFault.TheVariants.{BadQuery}
 use Rattle.xcap_uri.proofs.Pieces.{on_test, front_there}
@@ -117,7 +117,7 @@ ends_name : (before rest : List ℕ) → AllPass is_space before → head_is is_
 ends_name [] rest h = refl
 ends_name (c ∷ cs) rest h = space_no_name c h.0
 
-prefix_there : (p rest : List ℕ) → is_name p ≡ true → (p ≢ codes "xml") × (p ≢ codes "xmlns") → head_is is_name_char rest ≡ false → free_prefix_read (p ++ rest) ≡ Ok (p, rest)
+prefix_there : (p rest : List ℕ) → is_name p ≡ true → (p ≢ codes "xml") × (p ≢ codes "xmlns") → head_is is_name_char rest ≡ false → parsed_free_prefix (p ++ rest) ≡ Ok (p, rest)
 prefix_there p rest named free ended =
     let cut = all_in_front is_name_char p rest (name_passes p named) ended in
     rw (name_begins p rest named, cut.0, cut.1, is_free p free.0 free.1) refl
@@ -127,9 +127,9 @@ record IsPrefix (text prefix rest : List ℕ) : Type 0 where
   pub named : is_name prefix ≡ true
   pub free : (prefix ≢ codes "xml") × (prefix ≢ codes "xmlns")
 
-prefix_found : (text prefix rest : List ℕ) → free_prefix_read text ≡ Ok (prefix, rest) → IsPrefix text prefix rest
+prefix_found : (text prefix rest : List ℕ) → parsed_free_prefix text ≡ Ok (prefix, rest) → IsPrefix text prefix rest
 prefix_found text prefix rest e =
-    let s = steps (prefix_read text) unreserved (prefix, rest) e in
+    let s = steps (parsed_prefix text) unreserved (prefix, rest) e in
     let front = front_of is_name_char text in
     let back = after_front is_name_char text in
     let begun = passed (head_is is_name_start text) (Fault BadQuery) (front, back) s.first s.first_is in
@@ -143,7 +143,7 @@ prefix_found text prefix rest e =
 
 -- ---- `=`, with white space around it
 
-equals_there : (s t rest : List ℕ) → AllPass is_space s → AllPass is_space t → head_is is_space rest ≡ false → equals_past (s ++ (61 ∷ (t ++ rest))) ≡ Ok rest
+equals_there : (s t rest : List ℕ) → AllPass is_space s → AllPass is_space t → head_is is_space rest ≡ false → after_equals (s ++ (61 ∷ (t ++ rest))) ≡ Ok rest
 equals_there s t rest a b ended = rw ((all_in_front is_space s (61 ∷ (t ++ rest)) a refl).1, (all_in_front is_space t rest b ended).1) refl
 
 record IsEquals (text rest : List ℕ) : Type 0 where
@@ -154,7 +154,7 @@ record IsEquals (text rest : List ℕ) : Type 0 where
   pub behind_is : AllPass is_space behind
   pub ended : head_is is_space rest ≡ false
 
-equals_found : (text rest : List ℕ) → equals_past text ≡ Ok rest → IsEquals text rest
+equals_found : (text rest : List ℕ) → after_equals text ≡ Ok rest → IsEquals text rest
 equals_found text rest e =
     let s = steps (past (rest_after_front (codes "=") (after_front is_space text))) (λ x. let r : Result (List ℕ) UriError = Ok (after_front is_space x) in r) rest e in
     let word = front_there (codes "=") (after_front is_space text) s.first (past_there (rest_after_front (codes "=") (after_front is_space text)) s.first s.first_is) in
@@ -190,7 +190,7 @@ uri_begins d u (nested inner inside t v s r) first rest w e h = let same : 40 �
 some_there : (u rest : List ℕ) (first : ℕ) (more : List ℕ) → u ≡ first ∷ more → some_uri (u, rest) ≡ Ok (u, rest)
 some_there u rest first more e = rw e refl
 
-uri_there : (d u rest : List ℕ) → SpellsUri d u → (first : ℕ) (more : List ℕ) → u ≡ first ∷ more → uri_read (d ++ (41 ∷ rest)) ≡ Ok (u, rest)
+uri_there : (d u rest : List ℕ) → SpellsUri d u → (first : ℕ) (more : List ℕ) → u ≡ first ∷ more → parsed_uri (d ++ (41 ∷ rest)) ≡ Ok (u, rest)
 uri_there d u rest s first more e =
     ap (λ (r : Read (List ℕ)). r >>= some_uri) (read_on d u s 0 (41 ∷ rest) ∙ ap (with_chars u) (chars.ends 0 rest refl) ∙ ap (λ (l : List ℕ). let z : List ℕ × List ℕ = (l, rest) in let r : Read (List ℕ) = Ok z in r) (append-nil u))
     ∙ some_there u rest first more e
@@ -207,7 +207,7 @@ record IsUri (text uri rest : List ℕ) : Type 0 where
   pub more : List ℕ
   pub begun : uri ≡ first ∷ more
 
-uri_found : (text uri rest : List ℕ) → uri_read text ≡ Ok (uri, rest) → IsUri text uri rest
+uri_found : (text uri rest : List ℕ) → parsed_uri text ≡ Ok (uri, rest) → IsUri text uri rest
 uri_found text uri rest e =
     let s = steps (uri_chars 0 text) some_uri (uri, rest) e in
     let some = some_found s.first (uri, rest) s.then_is in
@@ -230,20 +230,20 @@ abbrev bound_in : List ℕ × List ℕ → List ℕ × List ℕ → Read Decl
 bound_in p u = Ok (record { prefix = p.0; uri = u.0 }, u.1)
 
 abbrev behind_prefix : List ℕ × List ℕ → Read Decl
-behind_prefix p = equals_past p.1 >>= uri_read >>= bound_in p
+behind_prefix p = after_equals p.1 >>= parsed_uri >>= bound_in p
 
 abbrev behind_word : List ℕ → Read Decl
-behind_word inner = free_prefix_read inner >>= behind_prefix
+behind_word inner = parsed_free_prefix inner >>= behind_prefix
 
-item_there : (text : List ℕ) (binding : Decl) (tail : List ℕ) → IsItem text binding → item_read (text ++ tail) ≡ Ok (binding, tail)
+item_there : (text : List ℕ) (binding : Decl) (tail : List ℕ) → IsItem text binding → parsed_item (text ++ tail) ≡ Ok (binding, tail)
 item_there text binding tail is =
     let uri = is.spelling ++ (41 ∷ tail) in
     let equals = is.before ++ (61 ∷ (is.behind ++ uri)) in
     let begins = spelling_begins is.spelling binding.uri is.spelled is.begins.0 is.begins.1 (41 ∷ tail) is.begins.2 is.begins.3 in
-    ap (λ (l : List ℕ). item_read (l ++ tail)) is.joined
-    ∙ ap item_read (regroup (codes "xmlns(") binding.prefix is.before (codes "=") is.behind is.spelling (codes ")") tail)
+    ap (λ (l : List ℕ). parsed_item (l ++ tail)) is.joined
+    ∙ ap parsed_item (regroup (codes "xmlns(") binding.prefix is.before (codes "=") is.behind is.spelling (codes ")") tail)
     ∙ ap (λ (r : Read (List ℕ)). r >>= behind_prefix) (prefix_there binding.prefix equals is.named is.free (ends_name is.before (is.behind ++ uri) is.before_is))
-    ∙ ap (λ (r : Result (List ℕ) UriError). r >>= uri_read >>= bound_in (binding.prefix, equals)) (equals_there is.before is.behind uri is.before_is is.behind_is begins)
+    ∙ ap (λ (r : Result (List ℕ) UriError). r >>= parsed_uri >>= bound_in (binding.prefix, equals)) (equals_there is.before is.behind uri is.before_is is.behind_is begins)
     ∙ ap (λ (r : Read (List ℕ)). r >>= bound_in (binding.prefix, equals)) (uri_there is.spelling binding.uri tail is.spelled is.begins.0 is.begins.1 is.begins.2)
 
 record FoundItem (text : List ℕ) (binding : Decl) (tail : List ℕ) : Type 0 where
@@ -272,12 +272,12 @@ found_by text inner equals y tail binding word p q u = record {
   };
 }
 
-item_found : (text : List ℕ) (binding : Decl) (tail : List ℕ) → item_read text ≡ Ok (binding, tail) → FoundItem text binding tail
+item_found : (text : List ℕ) (binding : Decl) (tail : List ℕ) → parsed_item text ≡ Ok (binding, tail) → FoundItem text binding tail
 item_found text binding tail e =
     let a = steps (past (rest_after_front (codes "xmlns(") text)) behind_word (binding, tail) e in
-    let b = steps (free_prefix_read a.first) behind_prefix (binding, tail) a.then_is in
-    let c = steps (equals_past b.first.1 >>= uri_read) (bound_in b.first) (binding, tail) b.then_is in
-    let d = steps (equals_past b.first.1) uri_read c.first c.first_is in
+    let b = steps (parsed_free_prefix a.first) behind_prefix (binding, tail) a.then_is in
+    let c = steps (after_equals b.first.1 >>= parsed_uri) (bound_in b.first) (binding, tail) b.then_is in
+    let d = steps (after_equals b.first.1) parsed_uri c.first c.first_is in
     let made : Decl = record { prefix = b.first.0; uri = c.first.0 } in
     let same = same_read (made, c.first.1) (binding, tail) c.then_is in
     let word = front_there (codes "xmlns(") text a.first (past_there (rest_after_front (codes "xmlns(") text) a.first a.first_is) in
@@ -295,35 +295,35 @@ items_begin text (b ∷ bs) (item, spaces, rest, joined, is, blank, more) =
     let first = item_begins item b is in
     ap (head_is is_blank) (joined ∙ ap (λ (l : List ℕ). l ++ (spaces ++ rest)) first.1)
 
-counted : (n c : ℕ) (text tail : List ℕ) (binding : Decl) (bindings : List Decl) → length tail < n → item_read (c ∷ text) ≡ Ok (binding, tail)
-    → ((m : ℕ) → length tail ≤ m → items_read m (after_front is_blank tail) ≡ Ok bindings) → items_read n (c ∷ text) ≡ Ok (binding ∷ bindings)
+counted : (n c : ℕ) (text tail : List ℕ) (binding : Decl) (bindings : List Decl) → length tail < n → parsed_item (c ∷ text) ≡ Ok (binding, tail)
+    → ((m : ℕ) → length tail ≤ m → parsed_items m (after_front is_blank tail) ≡ Ok bindings) → parsed_items n (c ∷ text) ≡ Ok (binding ∷ bindings)
 counted zero c text tail binding bindings fits is more = absurd (omega (arith, fits))
 counted (suc n) c text tail binding bindings fits is more = rw (is, more n (omega (arith, fits))) refl
 
 one_item : (n : ℕ) (text item tail : List ℕ) (binding : Decl) (bindings : List Decl) → IsItem item binding → text ≡ item ++ tail → length text ≤ n
-    → ((m : ℕ) → length tail ≤ m → items_read m (after_front is_blank tail) ≡ Ok bindings) → items_read n text ≡ Ok (binding ∷ bindings)
+    → ((m : ℕ) → length tail ≤ m → parsed_items m (after_front is_blank tail) ≡ Ok bindings) → parsed_items n text ≡ Ok (binding ∷ bindings)
 one_item n text item tail binding bindings is joined fits more =
     let first = item_begins item binding is in
     let whole : text ≡ 120 ∷ (first.0 ++ tail) = joined ∙ ap (λ (l : List ℕ). l ++ tail) first.1 in
     let size : length text ≡ suc (length (first.0 ++ tail)) = ap length whole in
-    subst (λ (l : List ℕ). items_read n l ≡ Ok (binding ∷ bindings)) (sym whole)
-    (counted n 120 (first.0 ++ tail) tail binding bindings (omega (arith, size, length-append first.0 tail, fits)) (ap item_read (sym whole ∙ joined) ∙ item_there item binding tail is) more)
+    subst (λ (l : List ℕ). parsed_items n l ≡ Ok (binding ∷ bindings)) (sym whole)
+    (counted n 120 (first.0 ++ tail) tail binding bindings (omega (arith, size, length-append first.0 tail, fits)) (ap parsed_item (sym whole ∙ joined) ∙ item_there item binding tail is) more)
 
-items_there : (text : List ℕ) (bindings : List Decl) → AreItems text bindings → (n : ℕ) → length text ≤ n → items_read n text ≡ Ok bindings
-items_there text [] are n fits = ap (items_read n) are
+items_there : (text : List ℕ) (bindings : List Decl) → AreItems text bindings → (n : ℕ) → length text ≤ n → parsed_items n text ≡ Ok bindings
+items_there text [] are n fits = ap (parsed_items n) are
 items_there text (b ∷ bs) (item, spaces, rest, joined, is, blank, more) n fits =
     one_item n text item (spaces ++ rest) b bs is joined fits (λ m h.
-    ap (items_read m) (all_in_front is_blank spaces rest blank (items_begin rest bs more)).1 ∙ items_there rest bs more m (omega (arith, h, length-append spaces rest)))
+    ap (parsed_items m) (all_in_front is_blank spaces rest blank (items_begin rest bs more)).1 ∙ items_there rest bs more m (omega (arith, h, length-append spaces rest)))
 
 same_bindings : (x y : List Decl) → (let r : Bound = Ok x in r ≡ Ok y) → x ≡ y
 same_bindings x y e = cc
 
-items_found : (n : ℕ) (text : List ℕ) (bindings : List Decl) → items_read n text ≡ Ok bindings → AreItems text bindings
+items_found : (n : ℕ) (text : List ℕ) (bindings : List Decl) → parsed_items n text ≡ Ok bindings → AreItems text bindings
 items_found n [] bindings e = subst (AreItems []) (same_bindings [] bindings e) refl
 items_found zero (c ∷ text) bindings e = absurd (no_fault (Fault BadQuery) bindings e)
 items_found (suc n) (c ∷ text) bindings e =
-    let one = steps (item_read (c ∷ text)) (λ x. items_read n (after_front is_blank x.1) >>= λ items. let r : Bound = Ok (x.0 ∷ items) in r) bindings e in
-    let others = steps (items_read n (after_front is_blank one.first.1)) (λ items. let r : Bound = Ok (one.first.0 ∷ items) in r) bindings one.then_is in
+    let one = steps (parsed_item (c ∷ text)) (λ x. parsed_items n (after_front is_blank x.1) >>= λ items. let r : Bound = Ok (x.0 ∷ items) in r) bindings e in
+    let others = steps (parsed_items n (after_front is_blank one.first.1)) (λ items. let r : Bound = Ok (one.first.0 ∷ items) in r) bindings one.then_is in
     let found = item_found (c ∷ text) one.first.0 one.first.1 one.first_is in
     let spaces = front_of is_blank one.first.1 in
     let rest = after_front is_blank one.first.1 in
@@ -332,14 +332,14 @@ items_found (suc n) (c ∷ text) bindings e =
 
 -- ---- the query
 
-pub query_read : (query : Option (List ℕ)) (bindings : List Decl) → IsQuery query bindings → optional_bindings_read query ≡ Ok bindings
+pub query_read : (query : Option (List ℕ)) (bindings : List Decl) → IsQuery query bindings → parsed_optional_bindings query ≡ Ok bindings
 query_read None bindings is = ap (λ (l : List Decl). let r : Bound = Ok l in r) (sym is)
 query_read (Some text) bindings (spaces, rest, joined, blank, are) =
-    ap (λ (l : List ℕ). items_read (length text) (after_front is_blank l)) joined
-    ∙ ap (items_read (length text)) (all_in_front is_blank spaces rest blank (items_begin rest bindings are)).1
+    ap (λ (l : List ℕ). parsed_items (length text) (after_front is_blank l)) joined
+    ∙ ap (parsed_items (length text)) (all_in_front is_blank spaces rest blank (items_begin rest bindings are)).1
     ∙ items_there rest bindings are (length text) (omega (arith, ap length joined, length-append spaces rest))
 
-pub query_found : (query : Option (List ℕ)) (bindings : List Decl) → optional_bindings_read query ≡ Ok bindings → IsQuery query bindings
+pub query_found : (query : Option (List ℕ)) (bindings : List Decl) → parsed_optional_bindings query ≡ Ok bindings → IsQuery query bindings
 query_found None bindings e = sym (same_bindings [] bindings e)
 query_found (Some text) bindings e =
     (front_of is_blank text, after_front is_blank text, parted is_blank text, front_passes is_blank text, items_found (length text) (after_front is_blank text) bindings e)

@@ -20,7 +20,7 @@ use Rattle.xcap_uri.specs.declared.shape.Shape.TheVariants as shapes
 use Rattle.xcap_uri.specs.declared.target.Target.TheVariants.{Document}
 use Rattle.xcap_uri.specs.Delimiters.{pieces}
 use Rattle.xcap_uri.specs.Escapes.{has_whole_escapes}
-use Rattle.xcap_uri.specs.readers.Escapes.{text_read}
+use Rattle.xcap_uri.specs.readers.Escapes.{parsed_text}
 use Rattle.doc_names.specs.Escapes.{escaped, escaped_octet, is_plain, escaped_part as part_text}
 use Rattle.doc_names.specs.Ids.{IsNameable, IsAddressable, IsReadableHome, home_text, id_text}
 use Rattle.doc_names.specs.Usages.{auid_text}
@@ -28,7 +28,7 @@ use Rattle.xcap_uri.specs.Roots.{slash, path_in, path_of, is_root_text as is_roo
 use Rattle.xcap_uri.specs.readers.Shapes.{is_empty, shape_of}
 use Rattle.xcap_uri.specs.inner.OctetTexts.{IsOctet, IsSpelled, IsSpelledHome}
 use Rattle.xcap_uri.specs.Targets.{rest_under, under_root, question}
-use Rattle.xcap_uri.specs.readers.Targets.{target_read, rest_read, segments_read, path_read}
+use Rattle.xcap_uri.specs.readers.Targets.{parsed_target, parsed_rest, parsed_segments, parsed_path}
 use Rattle.doc_names.specs.Ids.{separator}
 use Rattle.xcap_uri.proofs.EscapeLemmas.{read_as_text}
 use Rattle.xcap_uri.proofs.Pieces.{before_all, behind_all, pieces_one, pieces_more, after_append}
@@ -109,8 +109,8 @@ whole (b ∷ bs) = whole_octet b (escaped is_plain bs) (is_plain b) refl (whole 
 decoded : (bs : List ℕ) → All IsOctet bs → percent_decode (escaped is_plain bs) ≡ bs
 decoded bs small = parts_decoded bs small
 
-part_read : (text : List ℕ) → IsSpelled text → text_read (part_text text) ≡ Ok text
-part_read text spells =
+parsed_part : (text : List ℕ) → IsSpelled text → parsed_text (part_text text) ≡ Ok text
+parsed_part text spells =
     let back = decoded (encode_utf8_all text) spells.octets in
     read_as_text (part_text text) (whole (encode_utf8_all text)) (subst IsUtf8 (sym back) spells.utf8)
     ∙ ap (λ (x : List ℕ). let r : Result (List ℕ) UriError = Ok (chars x) in r) back
@@ -122,7 +122,7 @@ pass_word : (p : ℕ → Bool) (cs : List ℕ) → list_all p cs ≡ true → Al
 pass_word p [] h = tt
 pass_word p (c ∷ cs) h = let both = and_parts (p c) (list_all p cs) h in (both.0, pass_word p cs both.1)
 
-word_read : (w : List ℕ) → IsAscii w → has_whole_escapes w ≡ true → percent_decode w ≡ w → text_read w ≡ Ok (chars w)
+word_read : (w : List ℕ) → IsAscii w → has_whole_escapes w ≡ true → percent_decode w ≡ w → parsed_text w ≡ Ok (chars w)
 word_read w ascii whole same = read_as_text w whole (subst IsUtf8 (sym same) (IsUtf8-from_ascii w ascii)) ∙ ap (λ (x : List ℕ). let r : Result (List ℕ) UriError = Ok (chars x) in r) same
 
 auid_passes : (stop : ℕ) (auid : Auid) → list_all (is_other stop) (auid_text ResourceLists) ≡ true → list_all (is_other stop) (auid_text RlsServices) ≡ true → list_all (is_other stop) (auid_text XcapCaps) ≡ true → AllPass (is_other stop) (auid_text auid)
@@ -130,23 +130,23 @@ auid_passes stop ResourceLists a b c = pass_word (is_other stop) (auid_text Reso
 auid_passes stop RlsServices a b c = pass_word (is_other stop) (auid_text RlsServices) b
 auid_passes stop XcapCaps a b c = pass_word (is_other stop) (auid_text XcapCaps) c
 
-auid_read : (auid : Auid) → text_read (auid_text auid) ≡ Ok (chars (auid_text auid))
+auid_read : (auid : Auid) → parsed_text (auid_text auid) ≡ Ok (chars (auid_text auid))
 unfolding percent_decode
 auid_read ResourceLists = word_read (auid_text ResourceLists) (auid_letters ResourceLists) refl refl
 auid_read RlsServices = word_read (auid_text RlsServices) (auid_letters RlsServices) refl refl
 auid_read XcapCaps = word_read (auid_text XcapCaps) (auid_letters XcapCaps) refl refl
 
-users_read : text_read (codes "users") ≡ Ok (chars (codes "users"))
+users_read : parsed_text (codes "users") ≡ Ok (chars (codes "users"))
 unfolding percent_decode
 users_read = word_read (codes "users") (word_letters (codes "users") refl) refl refl
 
-global_read : text_read (codes "global") ≡ Ok (chars (codes "global"))
+global_read : parsed_text (codes "global") ≡ Ok (chars (codes "global"))
 unfolding percent_decode
 global_read = word_read (codes "global") (word_letters (codes "global") refl) refl refl
 
 -- ---- segments
 
-one_more : (s text : List ℕ) (ss texts : List (List ℕ)) → text_read s ≡ Ok text → bytes_eq text separator ≡ false → segments_read ss ≡ Ok (texts, None) → segments_read (s ∷ ss) ≡ Ok (text ∷ texts, None)
+one_more : (s text : List ℕ) (ss texts : List (List ℕ)) → parsed_text s ≡ Ok text → bytes_eq text separator ≡ false → parsed_segments ss ≡ Ok (texts, None) → parsed_segments (s ∷ ss) ≡ Ok (text ∷ texts, None)
 one_more s text ss texts h e k = rw (h, e, k) refl
 
 differs : (text : List ℕ) (t : Bool) → bytes_eq text separator ≡ t → text ≢ separator → bytes_eq text separator ≡ false
@@ -185,20 +185,20 @@ global_pieces auid name =
     ∙ ap (λ (l : List (List ℕ)). auid_text auid ∷ l) (pieces_more slash (codes "global") (part_text name) (pass_word (is_other slash) (codes "global") refl)
     ∙ ap (λ (l : List (List ℕ)). codes "global" ∷ l) (pieces_one slash (part_text name) (octets_pass (is_other slash) slashes (encode_utf8_all name))))
 
-name_last : (name : List ℕ) → IsSpelled name → IsNameable name → segments_read (part_text name ∷ []) ≡ Ok (name ∷ [], None)
-name_last name spells good = one_more (part_text name) name [] [] (part_read name spells) (differs name (bytes_eq name separator) refl good.1) refl
+name_last : (name : List ℕ) → IsSpelled name → IsNameable name → parsed_segments (part_text name ∷ []) ≡ Ok (name ∷ [], None)
+name_last name spells good = one_more (part_text name) name [] [] (parsed_part name spells) (differs name (bytes_eq name separator) refl good.1) refl
 
-user_path : (auid : Auid) (xui name : List ℕ) → IsSpelled xui → IsSpelled name → IsNameable xui → IsNameable name → path_read (id_text (record { auid = auid; home = User xui; name = name })) ≡ Ok (chars (auid_text auid) ∷ chars (codes "users") ∷ xui ∷ name ∷ [], None)
+user_path : (auid : Auid) (xui name : List ℕ) → IsSpelled xui → IsSpelled name → IsNameable xui → IsNameable name → parsed_path (id_text (record { auid = auid; home = User xui; name = name })) ≡ Ok (chars (auid_text auid) ∷ chars (codes "users") ∷ xui ∷ name ∷ [], None)
 user_path auid xui name x n good_xui good_name =
-    ap segments_read (user_pieces auid xui name)
+    ap parsed_segments (user_pieces auid xui name)
     ∙ one_more (auid_text auid) (chars (auid_text auid)) (codes "users" ∷ part_text xui ∷ part_text name ∷ []) (chars (codes "users") ∷ xui ∷ name ∷ []) (auid_read auid) (auid_differs auid)
     (one_more (codes "users") (chars (codes "users")) (part_text xui ∷ part_text name ∷ []) (xui ∷ name ∷ []) users_read users_differ
-    (one_more (part_text xui) xui (part_text name ∷ []) (name ∷ []) (part_read xui x) (differs xui (bytes_eq xui separator) refl good_xui.1)
+    (one_more (part_text xui) xui (part_text name ∷ []) (name ∷ []) (parsed_part xui x) (differs xui (bytes_eq xui separator) refl good_xui.1)
     (name_last name n good_name)))
 
-global_path : (auid : Auid) (name : List ℕ) → IsSpelled name → IsNameable name → path_read (id_text (record { auid = auid; home = Global; name = name })) ≡ Ok (chars (auid_text auid) ∷ chars (codes "global") ∷ name ∷ [], None)
+global_path : (auid : Auid) (name : List ℕ) → IsSpelled name → IsNameable name → parsed_path (id_text (record { auid = auid; home = Global; name = name })) ≡ Ok (chars (auid_text auid) ∷ chars (codes "global") ∷ name ∷ [], None)
 global_path auid name n good_name =
-    ap segments_read (global_pieces auid name)
+    ap parsed_segments (global_pieces auid name)
     ∙ one_more (auid_text auid) (chars (auid_text auid)) (codes "global" ∷ part_text name ∷ []) (chars (codes "global") ∷ name ∷ []) (auid_read auid) (auid_differs auid)
     (one_more (codes "global") (chars (codes "global")) (part_text name ∷ []) (name ∷ []) global_read global_differs
     (name_last name n good_name))
@@ -230,7 +230,7 @@ id_passes doc =
     pass_append (is_other question) (auid_text doc.auid) (home_text doc.home ++ part_text doc.name) (auid_passes question doc.auid refl refl refl)
     (pass_append (is_other question) (home_text doc.home) (part_text doc.name) (home_passes doc.home) (octets_pass (is_other question) questions (encode_utf8_all doc.name)))
 
-rest_is : (doc : DocId) (texts : List (List ℕ)) → path_read (id_text doc) ≡ Ok (texts, None) → shape_of texts None ≡ Ok (shapes.Document doc) → rest_read (id_text doc) ≡ Ok (Document doc)
+rest_is : (doc : DocId) (texts : List (List ℕ)) → parsed_path (id_text doc) ≡ Ok (texts, None) → shape_of texts None ≡ Ok (shapes.Document doc) → parsed_rest (id_text doc) ≡ Ok (Document doc)
 rest_is doc texts path shape = rw (before_all question (id_text doc) (id_passes doc), behind_all question (id_text doc) (id_passes doc), path, shape) refl
 
 path_begins : (segments : List (List ℕ)) (ys : List ℕ) → (zs : List ℕ) × (path_in segments ++ (slash ∷ ys) ≡ slash ∷ zs)
@@ -255,17 +255,17 @@ stands_behind root rest = rw (inside root rest) refl
 -- ---- the whole
 
 -- what comes after the root reads as the document
-document_read : (doc : DocId) → IsSpelledHome doc.home → IsSpelled doc.name → IsAddressable doc → rest_read (id_text doc) ≡ Ok (Document doc)
+document_read : (doc : DocId) → IsSpelledHome doc.home → IsSpelled doc.name → IsAddressable doc → parsed_rest (id_text doc) ≡ Ok (Document doc)
 document_read doc h n readable = by_home doc.home h readable.0
   where
-    by_home : (home : Home) → IsSpelledHome home → IsReadableHome home → let doc : DocId = record { auid = doc.auid; home = home; name = doc.name } in rest_read (id_text doc) ≡ Ok (Document doc)
+    by_home : (home : Home) → IsSpelledHome home → IsReadableHome home → let doc : DocId = record { auid = doc.auid; home = home; name = doc.name } in parsed_rest (id_text doc) ≡ Ok (Document doc)
     by_home Global h good = rest_is (record { auid = doc.auid; home = Global; name = doc.name }) (chars (auid_text doc.auid) ∷ chars (codes "global") ∷ doc.name ∷ []) (global_path doc.auid doc.name n readable.1) (global_shape doc.auid doc.name (has_some doc.name readable.1.0))
     by_home (User xui) h good = rest_is (record { auid = doc.auid; home = User xui; name = doc.name }) (chars (auid_text doc.auid) ∷ chars (codes "users") ∷ xui ∷ doc.name ∷ []) (user_path doc.auid xui doc.name h n good readable.1) (user_shape doc.auid xui doc.name (has_some xui good.0) (has_some doc.name readable.1.0))
 
 -- after the root's path
-pub reads_back : (root : List ℕ) (doc : DocId) → is_root root ≡ true → IsSpelledHome doc.home → IsSpelled doc.name → IsAddressable doc → target_read root (path_of root ++ (slash ∷ id_text doc)) ≡ Ok (Document doc)
+pub reads_back : (root : List ℕ) (doc : DocId) → is_root root ≡ true → IsSpelledHome doc.home → IsSpelled doc.name → IsAddressable doc → parsed_target root (path_of root ++ (slash ∷ id_text doc)) ≡ Ok (Document doc)
 reads_back root doc is h n readable = rw (stands_under root (id_text doc) is) (document_read doc h n readable)
 
 -- after the whole root
-pub reads_back_whole : (root : List ℕ) (doc : DocId) → IsSpelledHome doc.home → IsSpelled doc.name → IsAddressable doc → target_read root (root ++ (slash ∷ id_text doc)) ≡ Ok (Document doc)
+pub reads_back_whole : (root : List ℕ) (doc : DocId) → IsSpelledHome doc.home → IsSpelled doc.name → IsAddressable doc → parsed_target root (root ++ (slash ∷ id_text doc)) ≡ Ok (Document doc)
 reads_back_whole root doc h n readable = rw (stands_behind root (id_text doc)) (document_read doc h n readable)

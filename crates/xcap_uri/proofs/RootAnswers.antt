@@ -11,7 +11,7 @@ use Rattle.xml_grammar.specs.TextReading.{after_front}
 use Rattle.xml_grammar.specs.Rules.{AllPass}
 use Rattle.xcap_uri.specs.Delimiters.{rest_after_front, front_before, rest_after, pieces}
 use Rattle.xcap_uri.specs.Roots.{slash, is_authority_char, is_segment_char, is_some_of, path_in, IsRoot, is_scheme, are_root_parts, third, authority_of, path_of, is_root_text as is_root}
-use Rattle.xcap_uri.specs.readers.Roots.{behind_scheme, are_authority_and_segments, is_root_after_scheme, reads_as_root}
+use Rattle.xcap_uri.specs.readers.Roots.{strip_scheme, are_authority_and_segments, is_root_after_scheme, reads_as_root}
 use Rattle.xcap_uri.proofs.Pieces.{on_test, pieces_behind, pieces_cut, pieces_one, pieces_more, after_append, front_there}
 use Rattle.xcap_uri.proofs.SegmentLemmas.{joined_pieces}
 
@@ -89,7 +89,7 @@ by_scheme text rest (Some x) second e f h = behind_http text rest (front_there (
 by_scheme text rest None (Some x) e f h = behind_https text rest (front_there (codes "https://") text rest (f ∙ h))
 by_scheme text rest None None e f h = absurd cc
 
-cut_behind : (text rest : List ℕ) → behind_scheme text ≡ Some rest → Behind text rest
+cut_behind : (text rest : List ℕ) → strip_scheme text ≡ Some rest → Behind text rest
 cut_behind text rest e = by_scheme text rest (rest_after_front (codes "http://") text) (rest_after_front (codes "https://") text) refl refl e
 
 -- the code finds a scheme at the front of each root
@@ -97,7 +97,7 @@ some_or : (first second : Option (List ℕ)) (x : List ℕ) → second ≡ Some 
 some_or (Some y) second x e h = cc
 some_or None second x e h = let i : Some x ≡ None = sym e ∙ h in cc
 
-not_behind : (text : List ℕ) → Parts (pieces slash text) → behind_scheme text ≡ None → ⊥
+not_behind : (text : List ℕ) → Parts (pieces slash text) → strip_scheme text ≡ None → ⊥
 not_behind text h none =
     let rest = h.authority ++ path_in h.segments in
     ⊎_elim
@@ -115,25 +115,25 @@ judged : (s : List ℕ) (ps : List (List ℕ)) → is_scheme s ≡ true → are_
 judged s [] h = refl
 judged s (a ∷ ps) h = rw h refl
 
-same_form : (text : List ℕ) (found : Option (List ℕ)) → behind_scheme text ≡ found → are_root_parts (pieces slash text) ≡ is_root_after_scheme found
+same_form : (text : List ℕ) (found : Option (List ℕ)) → strip_scheme text ≡ found → are_root_parts (pieces slash text) ≡ is_root_after_scheme found
 same_form text None e = on_test (are_root_parts (pieces slash text)) (λ t. absurd (not_behind text (parts (pieces slash text) t) e)) (λ f. f)
 same_form text (Some rest) e = let b = cut_behind text rest e in ap are_root_parts b.cut ∙ judged b.scheme (pieces slash rest) b.is
 
 -- A text is a root as the code reads it.
 pub read_as_root : (text : List ℕ) → is_root text ≡ reads_as_root text
-read_as_root text = ap (λ (b : Bool). nat_le (length text) 256 && b) (same_form text (behind_scheme text) refl)
+read_as_root text = ap (λ (b : Bool). nat_le (length text) 256 && b) (same_form text (strip_scheme text) refl)
 
-pub no_root : (text : List ℕ) → behind_scheme text ≡ None → is_root text ≡ false
+pub no_root : (text : List ℕ) → strip_scheme text ≡ None → is_root text ≡ false
 no_root text e = ap (λ (b : Bool). nat_le (length text) 256 && b) (same_form text None e) ∙ and_false (nat_le (length text) 256)
   where
     and_false : (b : Bool) → b && false ≡ false
     and_false true = refl
     and_false false = refl
 
-pub some_root : (text rest : List ℕ) → behind_scheme text ≡ Some rest → length text ≤ 256 → are_authority_and_segments (pieces slash rest) ≡ true → is_root text ≡ true
+pub some_root : (text rest : List ℕ) → strip_scheme text ≡ Some rest → length text ≤ 256 → are_authority_and_segments (pieces slash rest) ≡ true → is_root text ≡ true
 some_root text rest e short form = and_from _ _ (le-leb (length text) 256 short) (same_form text (Some rest) e ∙ form)
 
-pub authority_behind : (text rest : List ℕ) → behind_scheme text ≡ Some rest → authority_of text ≡ front_before slash rest
+pub authority_behind : (text rest : List ℕ) → strip_scheme text ≡ Some rest → authority_of text ≡ front_before slash rest
 authority_behind text rest e = let b = cut_behind text rest e in ap third (b.cut ∙ ap (λ (ps : List (List ℕ)). b.scheme ∷ [] ∷ ps) (pieces_cut slash rest))
 
 -- the path begins at the first slash
@@ -147,7 +147,7 @@ tail_behind (c ∷ cs) =
     (λ t. rw t (slashed_behind cs ∙ ap (λ (x : ℕ). x ∷ cs) (sym (eqb-true c slash t))))
     (λ f. rw f (tail_behind cs))
 
-pub path_behind : (text rest : List ℕ) → behind_scheme text ≡ Some rest → path_of text ≡ after_front (is_other slash) rest
+pub path_behind : (text rest : List ℕ) → strip_scheme text ≡ Some rest → path_of text ≡ after_front (is_other slash) rest
 path_behind text rest e =
     let b = cut_behind text rest e in
     ap (λ (ps : List (List ℕ)). path_in (drop 3 ps)) (b.cut ∙ ap (λ (ps : List (List ℕ)). b.scheme ∷ [] ∷ ps) (pieces_cut slash rest))

@@ -11,8 +11,8 @@ use Rattle.xcap_uri.specs.Escapes.{StandsFor, StandForOptional}
 use Rattle.xcap_uri.specs.readers.Steps.{UriError, ◌>>=◌}
 use Rattle.xcap_uri.specs.Roots.{slash}
 use Rattle.xcap_uri.specs.Targets.{AreSegments, IsPath}
-use Rattle.xcap_uri.specs.readers.Escapes.{text_read, optional_text_read, stands_for_text}
-use Rattle.xcap_uri.specs.readers.Targets.{segments_read, path_read}
+use Rattle.xcap_uri.specs.readers.Escapes.{parsed_text, parsed_optional_text, stands_for_text}
+use Rattle.xcap_uri.specs.readers.Targets.{parsed_segments, parsed_path}
 use Rattle.xcap_uri.specs.declared.fault.UriFault.TheVariants.{BadEscape}
 use Rattle.xcap_uri.proofs.FaultOrder.{Decides}
 
@@ -33,7 +33,7 @@ by_stands part false e = record {
   refused = λ x h. let i : Fault BadEscape ≡ x = cc in sym i;
 }
 
-pub text_decided : (part : List ℕ) → Decides (StandsFor part) BadEscape (text_read part)
+pub text_decided : (part : List ℕ) → Decides (StandsFor part) BadEscape (parsed_text part)
 text_decided part = by_stands part (stands_for_text part) refl
 
 -- a text that may be absent
@@ -64,13 +64,13 @@ some_text part (Err e) d = record {
     complete None h = absurd h
     complete (Some t) h = let i = d.complete t h in absurd cc
 
-pub optional_decided : (part : Option (List ℕ)) → Decides (StandForOptional part) BadEscape (optional_text_read part)
+pub optional_decided : (part : Option (List ℕ)) → Decides (StandForOptional part) BadEscape (parsed_optional_text part)
 optional_decided None = record {
   sound = λ o h. let i : None ≡ o = cc in sym i;
   complete = λ o h. ap (λ (z : Option (List ℕ)). let s : Optional = Ok z in s) (sym h);
   refused = λ x h. absurd cc;
 }
-optional_decided (Some part) = some_text part (text_read part) (text_decided part)
+optional_decided (Some part) = some_text part (parsed_text part) (text_decided part)
 
 -- ---- segments
 
@@ -137,23 +137,23 @@ at_none raw raws e same none = record {
     complete [] selector h = absurd (none separator h.0)
     complete (t ∷ texts) selector h = absurd (none t h.0)
 
-by_separator : (raw : List ℕ) (raws : List (List ℕ)) (text : List ℕ) (b : Bool) → bytes_eq text separator ≡ b → StandsFor raw text → Decides (Are raws) BadEscape (segments_read raws)
-    → let s : Segments = if b then Ok ([], Some (joined slash raws)) else (segments_read raws >>= λ x. Ok (text ∷ x.0, x.1)) in Decides (Are (raw ∷ raws)) BadEscape s
+by_separator : (raw : List ℕ) (raws : List (List ℕ)) (text : List ℕ) (b : Bool) → bytes_eq text separator ≡ b → StandsFor raw text → Decides (Are raws) BadEscape (parsed_segments raws)
+    → let s : Segments = if b then Ok ([], Some (joined slash raws)) else (parsed_segments raws >>= λ x. Ok (text ∷ x.0, x.1)) in Decides (Are (raw ∷ raws)) BadEscape s
 by_separator raw raws text true e stands d = at_separator raw raws (subst (StandsFor raw) ((bytes_decides text separator).0 e) stands)
-by_separator raw raws text false e stands d = at_text raw raws text stands (λ same. true≢false (sym ((bytes_decides text separator).1 same) ∙ e)) (segments_read raws) d
+by_separator raw raws text false e stands d = at_text raw raws text stands (λ same. true≢false (sym ((bytes_decides text separator).1 same) ∙ e)) (parsed_segments raws) d
 
-by_text : (raw : List ℕ) (raws : List (List ℕ)) (r : Text) → Decides (StandsFor raw) BadEscape r → Decides (Are raws) BadEscape (segments_read raws)
-    → Decides (Are (raw ∷ raws)) BadEscape (r >>= λ text. let s : Segments = if bytes_eq text separator then Ok ([], Some (joined slash raws)) else (segments_read raws >>= λ x. Ok (text ∷ x.0, x.1)) in s)
+by_text : (raw : List ℕ) (raws : List (List ℕ)) (r : Text) → Decides (StandsFor raw) BadEscape r → Decides (Are raws) BadEscape (parsed_segments raws)
+    → Decides (Are (raw ∷ raws)) BadEscape (r >>= λ text. let s : Segments = if bytes_eq text separator then Ok ([], Some (joined slash raws)) else (parsed_segments raws >>= λ x. Ok (text ∷ x.0, x.1)) in s)
 by_text raw raws (Ok text) d rest = by_separator raw raws text (bytes_eq text separator) refl (d.sound text refl) rest
 by_text raw raws (Err e) d rest = at_none raw raws e (d.refused e refl) (λ text s. let i = d.complete text s in absurd cc)
 
-segments_decided : (raws : List (List ℕ)) → Decides (Are raws) BadEscape (segments_read raws)
+segments_decided : (raws : List (List ℕ)) → Decides (Are raws) BadEscape (parsed_segments raws)
 segments_decided [] = record {
   sound = λ x h. subst (Are []) (let i : ([], None) ≡ x = cc in i) (refl, refl);
   complete = λ x h. same_pair ([], None) x.0 x.1 (sym h.0) (sym h.1);
   refused = λ e h. absurd cc;
 }
-segments_decided (raw ∷ raws) = by_text raw raws (text_read raw) (text_decided raw) (segments_decided raws)
+segments_decided (raw ∷ raws) = by_text raw raws (parsed_text raw) (text_decided raw) (segments_decided raws)
 
-pub path_decided : (path : List ℕ) → Decides (IsPath path) BadEscape (path_read path)
+pub path_decided : (path : List ℕ) → Decides (IsPath path) BadEscape (parsed_path path)
 path_decided path = segments_decided (pieces slash path)

@@ -6,10 +6,10 @@ use Rattle.std.specs.Str.{bytes_eq}
 use Rattle.std.specs.List.{onto_first as with_first, join_with_byte as joined}
 use Rattle.xml_names.specs.declared.read_error.ReadError.TheVariants.{NoMemory}
 use Rattle.xcap_uri.specs.Delimiters.{front_before, rest_after, pieces}
-use Rattle.xcap_uri.specs.readers.Escapes.{text_read}
+use Rattle.xcap_uri.specs.readers.Escapes.{parsed_text}
 use Rattle.xcap_uri.specs.readers.Steps.{UriError, ◌>>=◌}
 use Rattle.xcap_uri.specs.Roots.{slash}
-use Rattle.xcap_uri.specs.readers.Targets.{path_read, segments_read}
+use Rattle.xcap_uri.specs.readers.Targets.{parsed_path, parsed_segments}
 use Rattle.doc_names.specs.Ids.{separator}
 use Rattle.xcap_uri.proofs.Pieces.{pieces_cut, pieces_behind}
 
@@ -45,41 +45,41 @@ joined_behind stop None = refl
 joined_behind stop (Some rest) = joined_pieces stop rest
 
 -- one segment, and the others
-cut : (rest : List ℕ) → path_read rest ≡ segments_read (front_before slash rest ∷ pieces_behind slash (rest_after slash rest))
-cut rest = ap segments_read (pieces_cut slash rest)
+cut : (rest : List ℕ) → parsed_path rest ≡ parsed_segments (front_before slash rest ∷ pieces_behind slash (rest_after slash rest))
+cut rest = ap parsed_segments (pieces_cut slash rest)
 
-module _ (total : Segments) (front : List (List ℕ)) (rest : List ℕ) (so_far : total ≡ with_segments front (path_read rest)) where
-  pub segment_fails : (e : UriError) → text_read (front_before slash rest) ≡ Err e → total ≡ Err e
+module _ (total : Segments) (front : List (List ℕ)) (rest : List ℕ) (so_far : total ≡ with_segments front (parsed_path rest)) where
+  pub segment_fails : (e : UriError) → parsed_text (front_before slash rest) ≡ Err e → total ≡ Err e
   segment_fails e h = so_far ∙ rw (cut rest, h) refl
 
-  pub separated : (text : List ℕ) → text_read (front_before slash rest) ≡ Ok text → bytes_eq text separator ≡ true → total ≡ Ok (front, Some (unwrap_or (rest_after slash rest) []))
+  pub separated : (text : List ℕ) → parsed_text (front_before slash rest) ≡ Ok text → bytes_eq text separator ≡ true → total ≡ Ok (front, Some (unwrap_or (rest_after slash rest) []))
   separated text h same =
       let empty : List (List ℕ) = [] in
       so_far ∙ rw (cut rest, h, same) (ap (λ (l : List ℕ). let z : List (List ℕ) × Option (List ℕ) = (front ++ empty, Some l) in let r : Segments = Ok z in r) (joined_behind slash (rest_after slash rest)) ∙ ap (λ (l : List (List ℕ)). let z : List (List ℕ) × Option (List ℕ) = (l, Some (unwrap_or (rest_after slash rest) [])) in let r : Segments = Ok z in r) (append-nil front))
 
-  pub last_segment : (text : List ℕ) → text_read (front_before slash rest) ≡ Ok text → bytes_eq text separator ≡ false → rest_after slash rest ≡ None → total ≡ Ok (front ++ text ∷ [], None)
+  pub last_segment : (text : List ℕ) → parsed_text (front_before slash rest) ≡ Ok text → bytes_eq text separator ≡ false → rest_after slash rest ≡ None → total ≡ Ok (front ++ text ∷ [], None)
   last_segment text h other none = so_far ∙ rw (cut rest, h, other, none) refl
 
-  pub next_segment : (text tail : List ℕ) → text_read (front_before slash rest) ≡ Ok text → bytes_eq text separator ≡ false → rest_after slash rest ≡ Some tail → total ≡ with_segments (front ++ text ∷ []) (path_read tail)
-  next_segment text tail h other some = so_far ∙ rw (cut rest, h, other, some) (longer text (path_read tail))
+  pub next_segment : (text tail : List ℕ) → parsed_text (front_before slash rest) ≡ Ok text → bytes_eq text separator ≡ false → rest_after slash rest ≡ Some tail → total ≡ with_segments (front ++ text ∷ []) (parsed_path tail)
+  next_segment text tail h other some = so_far ∙ rw (cut rest, h, other, some) (longer text (parsed_path tail))
     where
       longer : (text : List ℕ) (out : Segments) → with_segments front (out >>= λ x. Ok (text ∷ x.0, x.1)) ≡ with_segments (front ++ text ∷ []) out
       longer text (Ok x) = ap (λ (l : List (List ℕ)). let z : List (List ℕ) × Option (List ℕ) = (l, x.1) in let r : Segments = Ok z in r) (sym (append_assoc front (text ∷ []) x.0))
       longer text (Err e) = refl
 
 -- what the code has read of a segment
-read_ok : (text raw : List ℕ) → (Ok text ≡ text_read raw) ⊎ (let want : Result (List ℕ) UriError = Err NoMemory in Ok text ≡ want) → text_read raw ≡ Ok text
+read_ok : (text raw : List ℕ) → (Ok text ≡ parsed_text raw) ⊎ (let want : Result (List ℕ) UriError = Err NoMemory in Ok text ≡ want) → parsed_text raw ≡ Ok text
 read_ok text raw (inl h) = sym h
 read_ok text raw (inr h) = absurd cc
 
-module _ (total : Segments) (front : List (List ℕ)) (rest raw : List ℕ) (cut_at : raw ≡ front_before slash rest) (so_far : total ≡ with_segments front (path_read rest)) where
-  pub fails : (e : UriError) → (Err e ≡ text_read raw) ⊎ (let want : Result (List ℕ) UriError = Err NoMemory in Err e ≡ want) → (total ≡ Err e) ⊎ (e ≡ NoMemory)
-  fails e (inl h) = inl (segment_fails total front rest so_far e (ap text_read (sym cut_at) ∙ sym h))
+module _ (total : Segments) (front : List (List ℕ)) (rest raw : List ℕ) (cut_at : raw ≡ front_before slash rest) (so_far : total ≡ with_segments front (parsed_path rest)) where
+  pub fails : (e : UriError) → (Err e ≡ parsed_text raw) ⊎ (let want : Result (List ℕ) UriError = Err NoMemory in Err e ≡ want) → (total ≡ Err e) ⊎ (e ≡ NoMemory)
+  fails e (inl h) = inl (segment_fails total front rest so_far e (ap parsed_text (sym cut_at) ∙ sym h))
   fails e (inr h) = inr cc
 
-  module _ (text : List ℕ) (read : (Ok text ≡ text_read raw) ⊎ (let want : Result (List ℕ) UriError = Err NoMemory in Ok text ≡ want)) where
-    is_read : text_read (front_before slash rest) ≡ Ok text
-    is_read = ap text_read (sym cut_at) ∙ read_ok text raw read
+  module _ (text : List ℕ) (read : (Ok text ≡ parsed_text raw) ⊎ (let want : Result (List ℕ) UriError = Err NoMemory in Ok text ≡ want)) where
+    is_read : parsed_text (front_before slash rest) ≡ Ok text
+    is_read = ap parsed_text (sym cut_at) ∙ read_ok text raw read
 
     pub at_separator : (back : List ℕ) → bytes_eq text separator ≡ true → back ≡ unwrap_or (rest_after slash rest) [] → total ≡ Ok (front, Some back)
     at_separator back same e = separated total front rest so_far text is_read same ∙ ap (λ (l : List ℕ). let z : List (List ℕ) × Option (List ℕ) = (front, Some l) in let r : Segments = Ok z in r) (sym e)
@@ -87,5 +87,5 @@ module _ (total : Segments) (front : List (List ℕ)) (rest raw : List ℕ) (cut
     pub at_last : bytes_eq text separator ≡ false → rest_after slash rest ≡ None → total ≡ Ok (front ++ text ∷ [], None)
     at_last other none = last_segment total front rest so_far text is_read other none
 
-    pub at_next : (tail : List ℕ) → bytes_eq text separator ≡ false → rest_after slash rest ≡ Some tail → total ≡ with_segments (front ++ text ∷ []) (path_read tail)
+    pub at_next : (tail : List ℕ) → bytes_eq text separator ≡ false → rest_after slash rest ≡ Some tail → total ≡ with_segments (front ++ text ∷ []) (parsed_path tail)
     at_next tail other some = next_segment total front rest so_far text tail is_read other some

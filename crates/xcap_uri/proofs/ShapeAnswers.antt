@@ -11,10 +11,10 @@ use Rattle.doc_names.specs.declared.doc_id.Home.TheVariants.{Global, User}
 use Rattle.doc_names.specs.declared.doc_id.DocId.{DocId}
 use Rattle.doc_names.specs.declared.usages.Usage.{Usage}
 use Rattle.doc_names.specs.declared.usages.Usage.TheVariants as usages
-use Rattle.doc_names.specs.Usages.{usage_of}
+use Rattle.doc_names.specs.Usages.{auid_text, usage_of}
 use Rattle.xml_names.specs.declared.read_error.ReadError.TheVariants.{Fault}
 use Rattle.xcap_uri.specs.readers.Steps.{UriError}
-use Rattle.xcap_uri.specs.Shapes.{auid_word, mode_word, doc_of, in_home, in_feed, Names, names_document, names_node, names_deep, names_feed, names_element_feed, names_flat, BeginRightly, AreNamed, tag_spelled as tag_of}
+use Rattle.xcap_uri.specs.Shapes.{mode_word, doc_of, in_home, in_feed, Names, names_document, names_node, names_deep, names_feed, names_element_feed, names_flat, BeginRightly, AreNamed, tag_spelled as tag_of}
 use Rattle.xcap_uri.specs.readers.Shapes as reader
 use Rattle.xcap_uri.specs.Words.{global, users, feed, flat, element_word as element}
 use Rattle.xcap_uri.specs.readers.Words.{resource_lists, rls_services, xcap_caps, no_patching, xcap_patching, aggregate}
@@ -41,7 +41,7 @@ module _ (segments : List (List ℕ)) (selector : Option (List ℕ)) where
   Good (Ok shape) = Names segments selector shape
   Good (Err e) = e ≡ Fault BadShape
 
-  document_good : (auid : Auid) (home : Home) (name : List ℕ) (s : Option (List ℕ)) → selector ≡ s → segments ≡ in_home auid home (name ∷ []) → Good (reader.document (doc_of auid home name) s)
+  document_good : (auid : Auid) (home : Home) (name : List ℕ) (s : Option (List ℕ)) → selector ≡ s → segments ≡ in_home auid home (name ∷ []) → Good (reader.document_shape (doc_of auid home name) s)
   document_good auid home name None e h = names_document auid home name h e
   document_good auid home name (Some []) e h = refl
   document_good auid home name (Some (c ∷ cs)) e h = names_node auid home name (c ∷ cs) h e (λ same. absurd cc)
@@ -51,17 +51,17 @@ module _ (segments : List (List ℕ)) (selector : Option (List ℕ)) where
   home_good auid home (name ∷ []) s e h = document_good auid home name s e h
   home_good auid home (name ∷ next ∷ more) s e h = names_deep auid home name next more h
 
-  user_good : (auid : Auid) (rest : List (List ℕ)) (s : Option (List ℕ)) → selector ≡ s → segments ≡ auid_word auid ∷ users ∷ rest → Good (reader.of_user auid rest s)
+  user_good : (auid : Auid) (rest : List (List ℕ)) (s : Option (List ℕ)) → selector ≡ s → segments ≡ chars (auid_text auid) ∷ users ∷ rest → Good (reader.of_user auid rest s)
   user_good auid [] s e h = refl
   user_good auid (xui ∷ rest) s e h = home_good auid (User xui) rest s e h
 
-  tree_good : (auid : Auid) (tree : List ℕ) (rest : List (List ℕ)) (s : Option (List ℕ)) → selector ≡ s → segments ≡ auid_word auid ∷ tree ∷ rest
+  tree_good : (auid : Auid) (tree : List ℕ) (rest : List (List ℕ)) (s : Option (List ℕ)) → selector ≡ s → segments ≡ chars (auid_text auid) ∷ tree ∷ rest
       → (x : Bool) → bytes_eq tree global ≡ x → (y : Bool) → bytes_eq tree users ≡ y → Good (cond x (reader.in_home auid Global rest s) (cond y (reader.of_user auid rest s) (Err (Fault BadShape))))
-  tree_good auid tree rest s e h true i y j = home_good auid Global rest s e (h ∙ ap (λ (z : List ℕ). auid_word auid ∷ z ∷ rest) (is_word tree global i))
-  tree_good auid tree rest s e h false i true j = user_good auid rest s e (h ∙ ap (λ (z : List ℕ). auid_word auid ∷ z ∷ rest) (is_word tree users j))
+  tree_good auid tree rest s e h true i y j = home_good auid Global rest s e (h ∙ ap (λ (z : List ℕ). chars (auid_text auid) ∷ z ∷ rest) (is_word tree global i))
+  tree_good auid tree rest s e h false i true j = user_good auid rest s e (h ∙ ap (λ (z : List ℕ). chars (auid_text auid) ∷ z ∷ rest) (is_word tree users j))
   tree_good auid tree rest s e h false i false j = refl
 
-  usage_good : (auid : Auid) (rest : List (List ℕ)) (s : Option (List ℕ)) → selector ≡ s → segments ≡ auid_word auid ∷ rest → Good (reader.in_usage auid rest s)
+  usage_good : (auid : Auid) (rest : List (List ℕ)) (s : Option (List ℕ)) → selector ≡ s → segments ≡ chars (auid_text auid) ∷ rest → Good (reader.in_usage auid rest s)
   usage_good auid [] s e h = refl
   usage_good auid (tree ∷ rest) s e h = tree_good auid tree rest s e h (bytes_eq tree global) refl (bytes_eq tree users) refl
 

@@ -19,14 +19,14 @@ use Rattle.doc_names.specs.declared.doc_id.DocId.{DocId}
 use Rattle.xcap_uri.specs.Delimiters.{front_before, rest_after}
 use Rattle.xcap_uri.specs.Escapes.{StandForOptional}
 use Rattle.xcap_uri.specs.readers.Steps.{UriError, ◌>>=◌}
-use Rattle.xcap_uri.specs.Order.{Where, Given}
+use Rattle.xcap_uri.specs.Order.{FirstOrFault, Given}
 use Rattle.xcap_uri.specs.Queries.{IsQuery}
-use Rattle.xcap_uri.specs.readers.Queries.{optional_bindings_read}
+use Rattle.xcap_uri.specs.readers.Queries.{parsed_optional_bindings}
 use Rattle.xcap_uri.specs.Shapes.{Names, BeginRightly, AreNamed}
 use Rattle.xcap_uri.specs.Targets.{question, under_root, raw_text, IsPath, IsPartAnswer, node_of, is_element, element_feed_of, Means, NamedAnswer, RestAnswer, TargetResult, IsReadableTarget}
-use Rattle.xcap_uri.specs.readers.Escapes.{optional_text_read}
+use Rattle.xcap_uri.specs.readers.Escapes.{parsed_optional_text}
 use Rattle.xcap_uri.specs.readers.Shapes as reader
-use Rattle.xcap_uri.specs.readers.Targets.{error_of, as_target_part, part_read, ends_in_element, about_element, target_of, path_read, rest_read, under_read, target_read}
+use Rattle.xcap_uri.specs.readers.Targets.{error_of, as_target_part, parsed_part, ends_in_element, about_element, target_of, parsed_path, parsed_rest, parsed_under_root, parsed_target}
 use Rattle.xcap_uri.specs.declared.fault.UriFault.{UriFault}
 use Rattle.xcap_uri.specs.declared.fault.UriFault.TheVariants.{OutsideRoot, UnknownAuid, BadShape, BadEscape, BadQuery, BadSelector}
 use Rattle.xcap_uri.specs.declared.shape.Shape.{Shape}
@@ -53,14 +53,14 @@ is_stated bindings auid text answer is =
 
 -- the code reads it, by the texts of the namespace and of the selector
 pub part_ok : (bindings : List Decl) (auid : Auid) (text uri spelled : List ℕ) (selector : Selector) → uri ≡ namespace_of auid → spelled ≡ encode_utf8_all text → IsSelectorAnswer bindings (chars uri) spelled (Ok selector)
-    → let r : Result Selector UriError = Ok selector in (r ≡ part_read bindings auid text) ⊎ (r ≡ Err NoMemory)
+    → let r : Result Selector UriError = Ok selector in (r ≡ parsed_part bindings auid text) ⊎ (r ≡ Err NoMemory)
 part_ok bindings auid text uri spelled selector e f is =
     let here = subst (λ (z : List ℕ). IsSelectorAnswer bindings (chars z) (encode_utf8_all text) (Ok selector)) e (subst (λ (z : List ℕ). IsSelectorAnswer bindings (chars uri) z (Ok selector)) f is) in
     inl (ap as_target_part (is_stated bindings auid text (Ok selector) here))
 
 pub part_err : (bindings : List Decl) (auid : Auid) (text uri spelled : List ℕ) (error : ReadError SelectorFault) (told : UriError) → uri ≡ namespace_of auid → spelled ≡ encode_utf8_all text
     → (let r : Result Selector (ReadError SelectorFault) = Err error in Answered (IsSelectorAnswer bindings (chars uri) spelled) r) → told ≡ error_of error
-    → let r : Result Selector UriError = Err told in (r ≡ part_read bindings auid text) ⊎ (r ≡ Err NoMemory)
+    → let r : Result Selector UriError = Err told in (r ≡ parsed_part bindings auid text) ⊎ (r ≡ Err NoMemory)
 part_err bindings auid text uri spelled (Fault fault) told e f is same =
     let here = subst (λ (z : List ℕ). IsSelectorAnswer bindings (chars z) (encode_utf8_all text) (Err fault)) e (subst (λ (z : List ℕ). IsSelectorAnswer bindings (chars uri) z (Err fault)) f is) in
     inl (ap (λ (z : UriError). let r : Result Selector UriError = Err z in r) same ∙ ap as_target_part (is_stated bindings auid text (Err fault) here))
@@ -120,10 +120,10 @@ module _ (segments : List (List ℕ)) (selector query : Option (List ℕ)) (raw 
   Bound shape bindings = Means bindings raw shape
 
   abbrev Shaped : Shape → Answer → Type 0
-  Shaped shape = Where (IsQuery query) BadQuery (Bound shape)
+  Shaped shape = FirstOrFault (IsQuery query) BadQuery (Bound shape)
 
   abbrev Begun : Answer → Type 0
-  Begun = Where (Names segments selector) BadShape Shaped
+  Begun = FirstOrFault (Names segments selector) BadShape Shaped
 
   abbrev Filled : Answer → Type 0
   Filled = Given (BeginRightly segments) UnknownAuid Begun
@@ -132,10 +132,10 @@ module _ (segments : List (List ℕ)) (selector query : Option (List ℕ)) (raw 
   bound shape bindings = target_of shape bindings raw
 
   abbrev shaped : Shape → Result Target UriError
-  shaped shape = optional_bindings_read query >>= bound shape
+  shaped shape = parsed_optional_bindings query >>= bound shape
 
   shaped_meets : (shape : Shape) → Meets (Shaped shape) (shaped shape)
-  shaped_meets shape = step (IsQuery query) BadQuery (Bound shape) (optional_bindings_read query) (bound shape) (query_decided query) (λ bindings is. means_meets bindings raw shape)
+  shaped_meets shape = step (IsQuery query) BadQuery (Bound shape) (parsed_optional_bindings query) (bound shape) (query_decided query) (λ bindings is. means_meets bindings raw shape)
 
   by_begin : (BeginRightly segments × Good segments selector (reader.shape_of_segments segments selector)) ⊎ ((BeginRightly segments → ⊥) × (reader.shape_of_segments segments selector ≡ Err (Fault UnknownAuid))) → Meets Filled (reader.shape_of_segments segments selector >>= shaped)
   by_begin (inl j) =
@@ -151,7 +151,7 @@ module _ (segments : List (List ℕ)) (selector query : Option (List ℕ)) (raw 
   named_meets = by_empty (list_any reader.is_empty segments) refl
 
   one_shaped : (shape : Shape) (x y : Answer) → Shaped shape x → Shaped shape y → x ≡ y
-  one_shaped shape = one_step (IsQuery query) BadQuery (Bound shape) (optional_bindings_read query) (query_decided query) (λ bindings x y p q. one_meaning bindings raw shape x y p q)
+  one_shaped shape = one_step (IsQuery query) BadQuery (Bound shape) (parsed_optional_bindings query) (query_decided query) (λ bindings x y p q. one_meaning bindings raw shape x y p q)
 
   one_begun : (x y : Answer) → BeginRightly segments → Begun x → Begun y → x ≡ y
   one_begun x y begin p q = by (judged segments selector)
@@ -182,57 +182,57 @@ module _ (rest : List ℕ) where
   Queried path selector query = NamedAnswer path.0 selector query (raw_text path.1 Query)
 
   abbrev Selected : Path → Option (List ℕ) → Answer → Type 0
-  Selected path selector = Where (StandForOptional Query) BadEscape (Queried path selector)
+  Selected path selector = FirstOrFault (StandForOptional Query) BadEscape (Queried path selector)
 
   abbrev Cut : Path → Answer → Type 0
-  Cut path = Where (StandForOptional path.1) BadEscape (Selected path)
+  Cut path = FirstOrFault (StandForOptional path.1) BadEscape (Selected path)
 
   abbrev queried : Path → Option (List ℕ) → Option (List ℕ) → Result Target UriError
   queried path selector query = reader.shape_of path.0 selector >>= shaped path.0 selector query (raw_text path.1 Query)
 
   abbrev selected : Path → Option (List ℕ) → Result Target UriError
-  selected path selector = optional_text_read Query >>= queried path selector
+  selected path selector = parsed_optional_text Query >>= queried path selector
 
   abbrev cut : Path → Result Target UriError
-  cut path = optional_text_read path.1 >>= selected path
+  cut path = parsed_optional_text path.1 >>= selected path
 
   selected_meets : (path : Path) (selector : Option (List ℕ)) → Meets (Selected path selector) (selected path selector)
   selected_meets path selector =
-      step (StandForOptional Query) BadEscape (Queried path selector) (optional_text_read Query) (queried path selector) (optional_decided Query)
+      step (StandForOptional Query) BadEscape (Queried path selector) (parsed_optional_text Query) (queried path selector) (optional_decided Query)
       (λ query is. named_meets path.0 selector query (raw_text path.1 Query))
 
   cut_meets : (path : Path) → Meets (Cut path) (cut path)
-  cut_meets path = step (StandForOptional path.1) BadEscape (Selected path) (optional_text_read path.1) (selected path) (optional_decided path.1) (λ selector is. selected_meets path selector)
+  cut_meets path = step (StandForOptional path.1) BadEscape (Selected path) (parsed_optional_text path.1) (selected path) (optional_decided path.1) (λ selector is. selected_meets path selector)
 
-  rest_meets : Meets (RestAnswer rest) (rest_read rest)
-  rest_meets = step (IsPath (front_before question rest)) BadEscape Cut (path_read (front_before question rest)) cut (path_decided (front_before question rest)) (λ path is. cut_meets path)
+  rest_meets : Meets (RestAnswer rest) (parsed_rest rest)
+  rest_meets = step (IsPath (front_before question rest)) BadEscape Cut (parsed_path (front_before question rest)) cut (path_decided (front_before question rest)) (λ path is. cut_meets path)
 
   one_selected : (path : Path) (selector : Option (List ℕ)) (x y : Answer) → Selected path selector x → Selected path selector y → x ≡ y
   one_selected path selector =
-      one_step (StandForOptional Query) BadEscape (Queried path selector) (optional_text_read Query) (optional_decided Query) (λ query x y p q. one_named path.0 selector query (raw_text path.1 Query) x y p q)
+      one_step (StandForOptional Query) BadEscape (Queried path selector) (parsed_optional_text Query) (optional_decided Query) (λ query x y p q. one_named path.0 selector query (raw_text path.1 Query) x y p q)
 
   one_cut : (path : Path) (x y : Answer) → Cut path x → Cut path y → x ≡ y
-  one_cut path = one_step (StandForOptional path.1) BadEscape (Selected path) (optional_text_read path.1) (optional_decided path.1) (λ selector x y p q. one_selected path selector x y p q)
+  one_cut path = one_step (StandForOptional path.1) BadEscape (Selected path) (parsed_optional_text path.1) (optional_decided path.1) (λ selector x y p q. one_selected path selector x y p q)
 
   one_rest : (x y : Answer) → RestAnswer rest x → RestAnswer rest y → x ≡ y
-  one_rest = one_step (IsPath (front_before question rest)) BadEscape Cut (path_read (front_before question rest)) (path_decided (front_before question rest)) (λ path x y p q. one_cut path x y p q)
+  one_rest = one_step (IsPath (front_before question rest)) BadEscape Cut (parsed_path (front_before question rest)) (path_decided (front_before question rest)) (λ path x y p q. one_cut path x y p q)
 
 -- ---- the whole target
 
-by_root : (under found : Option (List ℕ)) → under ≡ found → Meets (Where (λ rest. under ≡ Some rest) OutsideRoot RestAnswer) (under_read found)
+by_root : (under found : Option (List ℕ)) → under ≡ found → Meets (FirstOrFault (λ rest. under ≡ Some rest) OutsideRoot RestAnswer) (parsed_under_root found)
 unfolding Meets
 by_root under None e = inr (λ rest h. (let i : None ≡ Some rest = sym e ∙ h in absurd cc), refl)
-by_root under (Some rest) e = inside (λ rest. under ≡ Some rest) OutsideRoot RestAnswer rest e (rest_read rest) (rest_meets rest)
+by_root under (Some rest) e = inside (λ rest. under ≡ Some rest) OutsideRoot RestAnswer rest e (parsed_rest rest) (rest_meets rest)
 
-target_meets : (root target : List ℕ) → Meets (TargetResult root target) (target_read root target)
+target_meets : (root target : List ℕ) → Meets (TargetResult root target) (parsed_target root target)
 target_meets root target = by_root (under_root root target) (under_root root target) refl
 
 -- A target has a result, which reading finds,
-pub read_answered : (root target : List ℕ) → Answered (TargetResult root target) (target_read root target)
-read_answered root target = met (TargetResult root target) (target_read root target) (target_meets root target)
+pub read_answered : (root target : List ℕ) → Answered (TargetResult root target) (parsed_target root target)
+read_answered root target = met (TargetResult root target) (parsed_target root target) (target_meets root target)
 
 pub some_target : (root target : List ℕ) → (answer : Answer) × TargetResult root target answer
-some_target root target = some_met (TargetResult root target) (target_read root target) (target_meets root target)
+some_target root target = some_met (TargetResult root target) (parsed_target root target) (target_meets root target)
 
 -- and no other.
 pub one_target : (root target : List ℕ) (x y : Answer) → TargetResult root target x → TargetResult root target y → x ≡ y
@@ -245,7 +245,7 @@ one_target root target x y (inr p) (inl q) = absurd (p.0 q.0 q.1)
 one_target root target x y (inr p) (inr q) = p.1 ∙ sym q.1
 
 -- The code returns it, or out of memory.
-pub target_answered : (root target : List ℕ) (r : Result Target UriError) → (r ≡ target_read root target) ⊎ (r ≡ Err NoMemory) → Answered (TargetResult root target) r
+pub target_answered : (root target : List ℕ) (r : Result Target UriError) → (r ≡ parsed_target root target) ⊎ (r ≡ Err NoMemory) → Answered (TargetResult root target) r
 target_answered root target r (inl e) = subst (Answered (TargetResult root target)) (sym e) (read_answered root target)
 target_answered root target r (inr e) = subst (Answered (TargetResult root target)) (sym e) tt
 
@@ -257,8 +257,8 @@ readable_of root target t (Err (Fault fault)) good m is = let i = one_target roo
 readable_of root target t (Err NoMemory) good m is = absurd m
 
 pub readable_target : (root target : List ℕ) (t : Target) → TargetResult root target (Ok t) → IsReadableTarget t
-readable_target root target t is = readable_of root target t (target_read root target) (target_readable root target) (target_meets root target) is
+readable_target root target t is = readable_of root target t (parsed_target root target) (target_readable root target) (target_meets root target) is
 
 -- What is read is the result.
-pub read_is : (root target : List ℕ) (t : Target) → target_read root target ≡ Ok t → TargetResult root target (Ok t)
+pub read_is : (root target : List ℕ) (t : Target) → parsed_target root target ≡ Ok t → TargetResult root target (Ok t)
 read_is root target t e = subst (Answered (TargetResult root target)) e (read_answered root target)

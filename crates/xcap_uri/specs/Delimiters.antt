@@ -4,9 +4,9 @@ use Rattle.std.specs.List.{onto_first}
 use Rattle.xml_tokens.specs.Tokens.{is_other}
 use Rattle.xml_grammar.specs.TextReading.{front_of, after_front}
 
-abbrev pub behind_first : List ℕ → Option (List ℕ)
-behind_first [] = None
-behind_first (b ∷ bs) = Some bs
+abbrev pub after_first : List ℕ → Option (List ℕ)
+after_first [] = None
+after_first (b ∷ bs) = Some bs
 
 -- what comes before the first `stop`: all, where there is none
 abbrev pub front_before : ℕ → List ℕ → List ℕ
@@ -14,7 +14,7 @@ front_before stop text = front_of (is_other stop) text
 
 -- what comes after the first `stop`, where there is one
 abbrev pub rest_after : ℕ → List ℕ → Option (List ℕ)
-rest_after stop text = behind_first (after_front (is_other stop) text)
+rest_after stop text = after_first (after_front (is_other stop) text)
 
 -- the pieces between the `stop`s: one more than the number of `stop`s
 abbrev pub pieces : ℕ → List ℕ → List (List ℕ)

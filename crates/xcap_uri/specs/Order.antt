@@ -4,9 +4,10 @@ use Rattle.xcap_uri.specs.declared.fault.UriFault.{UriFault}
 
 -- where there is such a value, the result is the one of what follows with it; where there is none,
 -- it is this fault
-abbrev pub Where : {A B : Type 0} → (A → Type 0) → UriFault → (A → Result B UriFault → Type 0)
+abbrev pub FirstOrFault : {A B : Type 0} → (A → Type 0) → UriFault
+    → (A → Result B UriFault → Type 0)
     → Result B UriFault → Type 0
-Where {A} {B} Is fault Next answer =
+FirstOrFault {A} {B} Is fault Next answer =
     ((a : A) × Is a × Next a answer) ⊎ (((a : A) → Is a → ⊥) × (answer ≡ Err fault))
 
 -- where this holds, the result is the one of what follows; where it doesn't, it is this fault

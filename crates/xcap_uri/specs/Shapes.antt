@@ -20,10 +20,6 @@ use Rattle.xcap_uri.specs.declared.shape.Shape.TheVariants.{Flat}
 
 -- ---- the words
 
--- the AUID as a word
-abbrev pub auid_word : Auid → List ℕ
-auid_word auid = chars (auid_text auid)
-
 -- the segments of a home: `global`, or `users` and a user
 abbrev pub home_words : Home → List (List ℕ)
 home_words Global = global ∷ []
@@ -46,12 +42,13 @@ doc_of auid home name = record { auid = auid; home = home; name = name }
 
 -- the segments of what is in a home: the AUID, the home and these
 abbrev pub in_home : Auid → Home → List (List ℕ) → List (List ℕ)
-in_home auid home rest = auid_word auid ∷ (home_words home ++ rest)
+in_home auid home rest = chars (auid_text auid) ∷ (home_words home ++ rest)
 
 -- the segments of the feed of a user's document: `~feed`, the mode, the etag, the AUID, `users`,
 -- the user and the name
 abbrev pub in_feed : List ℕ → List ℕ → Auid → List ℕ → List ℕ → List (List ℕ)
-in_feed mode digits auid xui name = feed ∷ mode ∷ digits ∷ auid_word auid ∷ users ∷ xui ∷ name ∷ []
+in_feed mode digits auid xui name =
+    feed ∷ mode ∷ digits ∷ chars (auid_text auid) ∷ users ∷ xui ∷ name ∷ []
 
 -- segments, and the text of a selector, name a shape, which is called as the target that it means
 pub data Names (segments : List (List ℕ)) (selector : Option (List ℕ)) : Shape → Type 0 where
@@ -90,7 +87,7 @@ pub data Names (segments : List (List ℕ)) (selector : Option (List ℕ)) : Sha
 abbrev pub BeginRightly : List (List ℕ) → Type 0
 BeginRightly [] = ⊥
 BeginRightly (first ∷ rest) =
-    (first ≡ feed) ⊎ ((first ≡ flat) ⊎ ((auid : Auid) × (first ≡ auid_word auid)))
+    (first ≡ feed) ⊎ ((first ≡ flat) ⊎ ((auid : Auid) × (first ≡ chars (auid_text auid))))
 
 -- no segment is empty
 abbrev pub AreNamed : List (List ℕ) → Type 0

@@ -18,7 +18,7 @@ use Rattle.doc_names.specs.Ids.{IsAddressable, IsReadableHome, separator}
 use Rattle.doc_names.specs.Usages.{namespace_of}
 use Rattle.doc_names.specs.declared.doc_id.Auid.{Auid}
 use Rattle.doc_names.specs.declared.doc_id.DocId.{DocId}
-use Rattle.xcap_uri.specs.Order.{Where, Given}
+use Rattle.xcap_uri.specs.Order.{FirstOrFault, Given}
 use Rattle.xcap_uri.specs.Queries.{IsQuery}
 use Rattle.xcap_uri.specs.Roots.{slash, path_of}
 use Rattle.xcap_uri.specs.Shapes.{Names, BeginRightly, AreNamed}
@@ -116,27 +116,31 @@ Means bindings raw (shapes.Flat doc service) answer = answer ≡ Ok (Flat doc se
 
 -- ---- all in order
 
--- segments, with the selector and the query: what they name, then the bindings, then the meaning
+-- a shape, with the query and the text after the separator: the bindings, then the meaning
+abbrev pub QueriedAnswer : Option (List ℕ) → List ℕ → Shape → Result Target UriFault → Type 0
+QueriedAnswer query raw shape =
+    FirstOrFault (IsQuery query) BadQuery (λ bindings. Means bindings raw shape)
+
+-- segments, with the selector and the query: what they name, then the result for this shape
 abbrev pub NamedAnswer : List (List ℕ) → Option (List ℕ) → Option (List ℕ) → List ℕ
     → Result Target UriFault → Type 0
 NamedAnswer segments selector query raw =
     Given (AreNamed segments) BadShape
     (Given (BeginRightly segments) UnknownAuid
-    (Where (Names segments selector) BadShape (λ shape.
-    Where (IsQuery query) BadQuery (λ bindings.
-    Means bindings raw shape))))
+    (FirstOrFault (Names segments selector) BadShape (QueriedAnswer query raw)))
 
 -- what comes after the root: a path, and a query after the first `?`
 abbrev pub RestAnswer : List ℕ → Result Target UriFault → Type 0
 RestAnswer rest =
-    Where (IsPath (front_before question rest)) BadEscape (λ path.
-    Where (StandForOptional path.1) BadEscape (λ selector.
-    Where (StandForOptional (rest_after question rest)) BadEscape (λ query.
+    FirstOrFault (IsPath (front_before question rest)) BadEscape (λ path.
+    FirstOrFault (StandForOptional path.1) BadEscape (λ selector.
+    FirstOrFault (StandForOptional (rest_after question rest)) BadEscape (λ query.
     NamedAnswer path.0 selector query (raw_text path.1 (rest_after question rest)))))
 
 -- the result for a target under a root: its meaning, or the first of its faults
 abbrev pub TargetResult : List ℕ → List ℕ → Result Target UriFault → Type 0
-TargetResult root target = Where (λ rest. under_root root target ≡ Some rest) OutsideRoot RestAnswer
+TargetResult root target = FirstOrFault (λ rest. under_root root target ≡ Some rest) OutsideRoot
+    RestAnswer
 
 -- an address can name the ids in a target
 abbrev pub IsReadableTarget : Target → Type 0

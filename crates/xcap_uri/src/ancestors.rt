@@ -1,7 +1,7 @@
 //! The URIs in an error document for a missing parent (RFC 4825, section 11).
 ghost use Rattle.std.specs.Prelude.{◌≡◌, ◌≤◌, ℕ, List, [], ◌∷◌, ◌++◌, IfOk, OnOk, chars, codes};
 ghost use Rattle.std.specs.Prelude.{flat_map, take};
-ghost use Rattle.xml_names.specs.Limits.{max_levels};
+ghost use Rattle.xml_names.specs.declared.limits.TheConstants.{MAX_LEVELS};
 ghost use Rattle.xml_tree.specs.Tree.{height};
 ghost use Rattle.xml_tree.specs.PathTexts.{path_text};
 ghost use Rattle.node_select.specs.Selection.{longest_in, selected_in};
@@ -105,7 +105,7 @@ fn push_path(alloc: Global, uri: &mut Text, path: &Path) -> Result<(), NoMemory>
 
 // The path of the element that the longest prefix of the steps selects.
 fn closest(alloc: Global, tree: &Element, selector: &Selector) -> Option<Path>
-    requires { height tree.now ≤ max_levels }
+    requires { height tree.now ≤ MAX_LEVELS }
     ensures exact { result
         ≡ selected_in (take (longest_in selector.now.steps tree.now) selector.now.steps) tree.now }
 {
@@ -126,7 +126,7 @@ pub fn ancestor_uri(
     tree: &Element,
     selector: &Selector,
 ) -> Result<Text, NoMemory>
-    requires { height tree.now ≤ max_levels }
+    requires { height tree.now ≤ MAX_LEVELS }
     ensures ok { IfOk result
         (λ uri. uri ≡ ancestor_uri root.now doc.now tree.now selector.now.steps) }
 {

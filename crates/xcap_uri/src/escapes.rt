@@ -2,7 +2,7 @@
 ghost use Rattle.std.specs.Prelude.{◌≡◌, option_map};
 ghost use Rattle.xcap_uri.specs.Escapes.{has_whole_escapes};
 ghost use Rattle.xcap_uri.specs.inner.Results.{StatedOr};
-ghost use Rattle.xcap_uri.specs.readers.Escapes.{optional_text_read, text_read};
+ghost use Rattle.xcap_uri.specs.readers.Escapes.{parsed_optional_text, parsed_text};
 
 use crate::fault::UriFault;
 use percent_encoding::{DecodeError, percent_decode};
@@ -36,7 +36,7 @@ pub fn has_whole_escapes(part: &[u8]) -> bool
 /// UTF-8; `NoMemory` when out of memory.
 #[tactic(auto, using(crate::proofs::EscapeLemmas::read_as_text, crate::proofs::EscapeLemmas::read_as_no_text, crate::proofs::EscapeLemmas::read_as_no_escapes))]
 pub fn read_part(alloc: Global, part: &[u8]) -> Result<Text, ReadError<UriFault>>
-    ensures exact { StatedOr ReadError.NoMemory (text_read part.now) result }
+    ensures exact { StatedOr ReadError.NoMemory (parsed_text part.now) result }
 {
     if !has_whole_escapes(part) {
         return Err(ReadError::Fault(UriFault::BadEscape));
@@ -60,7 +60,7 @@ pub fn read_optional_part(
     part: Option<&[u8]>,
 ) -> Result<Option<Text>, ReadError<UriFault>>
     ensures reads_optional_part { StatedOr ReadError.NoMemory
-        (optional_text_read (option_map (λ x. x.now) part.entry)) result }
+        (parsed_optional_text (option_map (λ x. x.now) part.entry)) result }
 {
     match part {
         None => Ok(None),

@@ -10,8 +10,8 @@ ghost use Rattle.xcap_uri.specs.Targets.{IsReadableTarget, TargetResult};
 ghost use Rattle.xcap_uri.specs.declared.fault.UriFault.{UriFault};
 ghost use Rattle.xcap_uri.specs.declared.target.Target.{Target};
 ghost use Rattle.xcap_uri.specs.declared.target.Target.TheVariants as targets;
-ghost use Rattle.xcap_uri.specs.readers.Queries.{optional_bindings_read};
-ghost use Rattle.xcap_uri.specs.readers.Targets.{target_read};
+ghost use Rattle.xcap_uri.specs.readers.Queries.{parsed_optional_bindings};
+ghost use Rattle.xcap_uri.specs.readers.Targets.{parsed_target};
 
 use crate::root::Root;
 use doc_names::{DocId, Home};
@@ -63,7 +63,7 @@ pub fn targets_have_one_answer()
     ensures at_most_one { (root target : List ℕ) (a b : Result Target UriFault)
         → TargetResult root target a → TargetResult root target b → a ≡ b }
     ensures answer_is_exact { (root target : List ℕ)
-        → Answered (TargetResult root target) (target_read root target) }
+        → Answered (TargetResult root target) (parsed_target root target) }
     ensures ids_are_readable { (root target : List ℕ) (t : Target) → TargetResult root target (Ok t)
         → IsReadableTarget t }
 {}
@@ -72,7 +72,7 @@ pub fn targets_have_one_answer()
 /// to right gives; where that gives none, there is none (RFC 4825, section 6.4).
 pub fn queries_have_one_reading()
     ensures read_iff { (query : Option (List ℕ)) (bindings : List Decl)
-        → IsQuery query bindings ↔ (optional_bindings_read query ≡ Ok bindings) }
+        → IsQuery query bindings ↔ (parsed_optional_bindings query ≡ Ok bindings) }
     ensures at_most_one { (query : Option (List ℕ)) (a b : List Decl) → IsQuery query a
         → IsQuery query b → a ≡ b }
 {}

@@ -1,7 +1,7 @@
 //! Numerals, as etags and counts are written: only digits, of which the first is not 0.
 ghost use Rattle.std.specs.Prelude.{◌≡◌};
 ghost use Rattle.xcap_uri.specs.Numerals.{begins_with_digit, numeral_of};
-ghost use Rattle.xcap_uri.specs.inner.Numerals.{number_behind};
+ghost use Rattle.xcap_uri.specs.inner.Numerals.{number_after};
 
 // Whether the first octet is a digit other than 0.
 fn begins_with_digit(octets: &[u8]) -> bool
@@ -12,7 +12,7 @@ fn begins_with_digit(octets: &[u8]) -> bool
 
 // The number that digits write, if it has at most 64 bits.
 fn number_of(octets: &[u8]) -> Option<u64>
-    ensures exact { result ≡ number_behind 0 octets.now }
+    ensures exact { result ≡ number_after 0 octets.now }
 {
     let mut number: u64 = 0;
     for &b in octets {

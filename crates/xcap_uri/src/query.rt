@@ -8,9 +8,10 @@ ghost use Rattle.xml_tokens.specs.readers.Runs.{run_len};
 ghost use Rattle.xcap_uri.specs.Delimiters.{rest_after_front};
 ghost use Rattle.xcap_uri.specs.inner.Results.{Gives, StatedOr};
 ghost use Rattle.xcap_uri.specs.Queries.{is_blank, is_bracket_or_caret};
-ghost use Rattle.xcap_uri.specs.readers.Queries.{bindings_read, equals_past, is_reserved};
-ghost use Rattle.xcap_uri.specs.readers.Queries.{item_read, optional_bindings_read, prefix_read};
-ghost use Rattle.xcap_uri.specs.readers.Queries.{free_prefix_read, uri_chars, uri_read};
+ghost use Rattle.xcap_uri.specs.readers.Queries.{parsed_bindings, after_equals, is_reserved};
+ghost use Rattle.xcap_uri.specs.readers.Queries.{parsed_item, parsed_optional_bindings};
+ghost use Rattle.xcap_uri.specs.readers.Queries.{parsed_prefix};
+ghost use Rattle.xcap_uri.specs.readers.Queries.{parsed_free_prefix, uri_chars, parsed_uri};
 ghost use Rattle.xcap_uri.specs.readers.UriSteps.{IsShorter, StepsTo, item_in};
 
 use crate::fault::UriFault;
@@ -112,7 +113,7 @@ fn after<'a>(text: &'a [char], word: &[char]) -> Option<&'a [char]>
 
 // The text after `=` and the white space around it.
 fn past_equals(text: &[char]) -> Result<&[char], ReadError<UriFault>>
-    ensures reads_rule { Gives (λ x. x.now) result (equals_past text.now) }
+    ensures reads_rule { Gives (λ x. x.now) result (after_equals text.now) }
 {
     match after(past_space(text), &['=']) {
         None => Err(ReadError::Fault(UriFault::BadQuery)),
@@ -132,7 +133,7 @@ fn begins_name(text: &[char]) -> bool
 
 // A name, and what comes after it.
 fn name(text: &[char]) -> Result<(&[char], &[char]), ReadError<UriFault>>
-    ensures reads_rule { Gives (λ x. (x.0.now, x.1.now)) result (prefix_read text.now) }
+    ensures reads_rule { Gives (λ x. (x.0.now, x.1.now)) result (parsed_prefix text.now) }
 {
     if !begins_name(text) {
         return Err(ReadError::Fault(UriFault::BadQuery));
@@ -234,7 +235,7 @@ fn uri_chars(alloc: Global, text: &[char]) -> Result<(Text, &[char]), ReadError<
 
 // A URI that isn't empty, and what comes after its `)`.
 fn uri(alloc: Global, text: &[char]) -> Result<(Text, &[char]), ReadError<UriFault>>
-    ensures reads_rule { Gives (λ x. (x.0, x.1.now)) result (uri_read text.now) }
+    ensures reads_rule { Gives (λ x. (x.0, x.1.now)) result (parsed_uri text.now) }
 {
     let (uri, rest) = uri_chars(alloc, text)?;
     if uri.is_empty() {
@@ -245,7 +246,7 @@ fn uri(alloc: Global, text: &[char]) -> Result<(Text, &[char]), ReadError<UriFau
 
 // A prefix that an item may bind, and what comes after it.
 fn prefix(text: &[char]) -> Result<(&[char], &[char]), ReadError<UriFault>>
-    ensures reads_rule { Gives (λ x. (x.0.now, x.1.now)) result (free_prefix_read text.now) }
+    ensures reads_rule { Gives (λ x. (x.0.now, x.1.now)) result (parsed_free_prefix text.now) }
 {
     let (prefix, rest) = name(text)?;
     if is_reserved(prefix) {
@@ -256,7 +257,7 @@ fn prefix(text: &[char]) -> Result<(&[char], &[char]), ReadError<UriFault>>
 
 // An item, and what comes after it.
 fn read_item(alloc: Global, text: &[char]) -> Result<Item<'_>, ReadError<UriFault>>
-    ensures reads_rule { Gives item_in result (item_read text.now) }
+    ensures reads_rule { Gives item_in result (parsed_item text.now) }
 {
     let Some(inner) = after(text, &['x', 'm', 'l', 'n', 's', '(']) else {
         return Err(ReadError::Fault(UriFault::BadQuery));
@@ -270,7 +271,7 @@ fn read_item(alloc: Global, text: &[char]) -> Result<Item<'_>, ReadError<UriFaul
 
 // The bindings of a query.
 fn read_items(alloc: Global, text: &[char]) -> Result<Bindings, ReadError<UriFault>>
-    ensures exact { StatedOr ReadError.NoMemory (bindings_read text.now) result }
+    ensures exact { StatedOr ReadError.NoMemory (parsed_bindings text.now) result }
 {
     let mut bindings = Bindings::none(alloc);
     let mut rest = past_blanks(text);
@@ -293,7 +294,7 @@ fn read_items(alloc: Global, text: &[char]) -> Result<Bindings, ReadError<UriFau
 /// # Errors
 /// `BadQuery` exactly where the query isn't a sequence of items; `NoMemory` when out of memory.
 pub fn read_query(alloc: Global, query: &Option<Text>) -> Result<Bindings, ReadError<UriFault>>
-    ensures exact { StatedOr ReadError.NoMemory (optional_bindings_read query.now) result }
+    ensures exact { StatedOr ReadError.NoMemory (parsed_optional_bindings query.now) result }
 {
     match query {
         None => Ok(Bindings::none(alloc)),

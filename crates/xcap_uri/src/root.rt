@@ -4,7 +4,7 @@ ghost use Rattle.std.specs.List.{list_all};
 ghost use Rattle.xcap_uri.specs.Delimiters.{pieces};
 ghost use Rattle.xcap_uri.specs.Roots.{authority_of, is_authority_char, is_segment_char};
 ghost use Rattle.xcap_uri.specs.Roots.{is_some_of, path_of, root_of, slash, is_root_text};
-ghost use Rattle.xcap_uri.specs.readers.Roots.{are_authority_and_segments, behind_scheme};
+ghost use Rattle.xcap_uri.specs.readers.Roots.{are_authority_and_segments, strip_scheme};
 
 use crate::delimiters::{after, cut, cut_before};
 use std::alloc::{AllocError, Global};
@@ -147,8 +147,8 @@ fn are_segments(text: &[u8]) -> bool
 }
 
 // The text after the scheme.
-fn behind_scheme(text: &[u8]) -> Option<&[u8]>
-    ensures exact { option_map (λ x. x.now) result ≡ behind_scheme text.now }
+fn strip_scheme(text: &[u8]) -> Option<&[u8]>
+    ensures exact { option_map (λ x. x.now) result ≡ strip_scheme text.now }
 {
     match after(text, b"http://") {
         Some(rest) => Some(rest),
@@ -186,7 +186,7 @@ fn letters(alloc: Global, octets: &[u8]) -> Result<Text, AllocError>
 #[tactic(auto, using(crate::proofs::RootAnswers::authority_behind, crate::proofs::RootAnswers::path_behind))]
 fn make_root(alloc: Global, text: &[u8], rest: &[u8]) -> Result<Root, AllocError>
     requires valid_root_text { is_root_text text.now ≡ true }
-    requires after_scheme { behind_scheme text.now ≡ Some rest.now }
+    requires after_scheme { strip_scheme text.now ≡ Some rest.now }
     ensures ok { IfOk result (λ made. made ≡ text.now) }
 {
     let (authority, path) = cut_before(rest, b'/');
@@ -209,7 +209,7 @@ pub fn read_root(alloc: Global, text: &str) -> Result<Option<Root>, AllocError>
     ensures ok { IfOk result (λ root. root ≡ root_of text.now) }
 {
     let text = text.as_bytes();
-    let Some(rest) = behind_scheme(text) else {
+    let Some(rest) = strip_scheme(text) else {
         return Ok(None);
     };
     if text.len() > MAX_ROOT_LEN {

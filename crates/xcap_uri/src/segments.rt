@@ -3,7 +3,7 @@
 ghost use Rattle.std.specs.Prelude.{◌≡◌, [], option_map, unwrap_or};
 ghost use Rattle.std.specs.Str.{bytes_eq};
 ghost use Rattle.xcap_uri.specs.inner.Results.{Gives};
-ghost use Rattle.xcap_uri.specs.readers.Targets.{path_read};
+ghost use Rattle.xcap_uri.specs.readers.Targets.{parsed_path};
 ghost use Rattle.doc_names.specs.Ids.{separator};
 
 use crate::delimiters::cut;
@@ -20,7 +20,7 @@ fn is_separator(segment: &Text) -> bool
 }
 
 // The text after a segment, empty where the path ends.
-fn or_nothing(behind: Option<&[u8]>) -> &[u8]
+fn or_empty(behind: Option<&[u8]>) -> &[u8]
     ensures exact { result.now ≡ unwrap_or (option_map (λ x. x.now) behind.entry) [] }
 {
     match behind {
@@ -40,7 +40,7 @@ pub fn read_path(
     path: &[u8],
 ) -> Result<(Vec<Text>, Option<&[u8]>), ReadError<UriFault>>
     ensures reads_rule { Gives (λ x. (x.0.items, option_map (λ y. y.now) x.1)) result
-        (path_read path.now) }
+        (parsed_path path.now) }
 {
     let mut segments = Vec::new(alloc);
     let mut rest = path;
@@ -48,7 +48,7 @@ pub fn read_path(
         let (raw, behind) = cut(rest, b'/');
         let segment = read_part(alloc, raw)?;
         if is_separator(&segment) {
-            return Ok((segments, Some(or_nothing(behind))));
+            return Ok((segments, Some(or_empty(behind))));
         }
         segments.push(segment)?;
         match behind {

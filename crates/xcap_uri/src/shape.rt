@@ -3,7 +3,8 @@
 ghost use Rattle.std.specs.Prelude.{◌≡◌};
 ghost use Rattle.std.specs.List.{list_any};
 ghost use Rattle.xcap_uri.specs.Shapes.{doc_of, tag_spelled};
-ghost use Rattle.xcap_uri.specs.readers.Shapes.{auid_of, document, document_feed, either_feed};
+ghost use Rattle.xcap_uri.specs.readers.Shapes.{auid_of, document_shape, document_feed};
+ghost use Rattle.xcap_uri.specs.readers.Shapes.{either_feed};
 ghost use Rattle.xcap_uri.specs.readers.Shapes.{element_feed, feed_shape, flat_shape, in_home};
 ghost use Rattle.xcap_uri.specs.readers.Shapes.{in_usage, is_empty, mode_of, shape_of_segments};
 ghost use Rattle.xcap_uri.specs.readers.Shapes.{of_usage};
@@ -96,8 +97,8 @@ fn take_text(alloc: Global, segment: &mut Text) -> Text
 }
 
 // A document, or with a selector a node of it.
-fn document(doc: DocId, selector: Option<Text>) -> Result<Shape, ReadError<UriFault>>
-    ensures exact { result ≡ document doc selector }
+fn document_shape(doc: DocId, selector: Option<Text>) -> Result<Shape, ReadError<UriFault>>
+    ensures exact { result ≡ document_shape doc selector }
 {
     match selector {
         None => Ok(Shape::Document(doc)),
@@ -124,7 +125,7 @@ fn in_home(
         [] => Err(ReadError::Fault(UriFault::BadShape)),
         [name] => {
             let name = take_text(alloc, name);
-            document(DocId { auid, home, name }, selector)
+            document_shape(DocId { auid, home, name }, selector)
         }
         _ => Ok(Shape::Deep(auid, home)),
     }

@@ -6,8 +6,9 @@ ghost use Rattle.xcap_uri.specs.inner.Results.{StatedOr};
 ghost use Rattle.xml_names.specs.Memory.{Answered};
 ghost use Rattle.xcap_uri.specs.Targets.{IsReadableTarget, TargetResult, raw_text, rest_under};
 ghost use Rattle.xcap_uri.specs.Targets.{under_root, with_query};
-ghost use Rattle.xcap_uri.specs.readers.Targets.{about_element, part_read, rest_read, target_of};
-ghost use Rattle.xcap_uri.specs.readers.Targets.{target_read};
+ghost use Rattle.xcap_uri.specs.readers.Targets.{about_element, parsed_part, parsed_rest};
+ghost use Rattle.xcap_uri.specs.readers.Targets.{target_of};
+ghost use Rattle.xcap_uri.specs.readers.Targets.{parsed_target};
 
 use crate::delimiters::{after, cut};
 use crate::escapes::read_optional_part;
@@ -98,7 +99,7 @@ fn part(
     auid: Auid,
     text: &Text,
 ) -> Result<Selector, ReadError<UriFault>>
-    ensures exact { StatedOr ReadError.NoMemory (part_read bindings.now auid text.now) result }
+    ensures exact { StatedOr ReadError.NoMemory (parsed_part bindings.now auid text.now) result }
 {
     match read_selector(alloc, text.as_str(), bindings, auid.namespace()) {
         Ok(selector) => Ok(selector),
@@ -192,7 +193,7 @@ fn target_of(
 
 // Reads the target after the root.
 fn read_rest(alloc: Global, rest: &[u8]) -> Result<Target, ReadError<UriFault>>
-    ensures reads_below_root { StatedOr ReadError.NoMemory (rest_read rest.now) result }
+    ensures reads_below_root { StatedOr ReadError.NoMemory (parsed_rest rest.now) result }
 {
     let (path, raw_query) = cut(rest, b'?');
     let (mut segments, raw_selector) = read_path(alloc, path)?;
@@ -205,7 +206,7 @@ fn read_rest(alloc: Global, rest: &[u8]) -> Result<Target, ReadError<UriFault>>
 
 // Reads the target, which may be outside the root.
 fn read(alloc: Global, root: &Root, target: &[u8]) -> Result<Target, ReadError<UriFault>>
-    ensures stated_answer { StatedOr ReadError.NoMemory (target_read root.now target.now) result }
+    ensures stated_answer { StatedOr ReadError.NoMemory (parsed_target root.now target.now) result }
     ensures outside_is_refused { under_root root.now target.now ≡ None
         → result ≡ Err (ReadError.Fault UriFault.OutsideRoot) }
 {

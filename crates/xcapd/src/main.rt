@@ -3,7 +3,7 @@
 //! errors.
 //! It promises what `start` promises, and adds nothing of its own.
 //! The standard that its commands follow is RFC 4825.
-//! Without memory for the words `start` gets None in their place, and ends with 7.
+//! If memory runs out for the words, `start` gets None in their place, and ends with 7.
 #![tactic(auto)]
 
 use std::process::ExitCode;
@@ -13,7 +13,7 @@ use watchers::Audit;
 use xcap_app::start;
 use xcap_io::{StdSink, StdSource, TcpPeer, TcpPort};
 
-// The words of the command line, without the program's name. A word that is no UTF-8 spells no
+// The words of the command line, without the program's name. A word that isn't UTF-8 spells no
 // command, so there are no words then. None when out of memory for them, which is the only other
 // reason for `args` to fail.
 fn words_of<R: Env + Alloc>(rt: &R) -> Option<Vec<String<R::A>, R::A>> {

@@ -4,7 +4,7 @@ use Rattle.std.proofs.Common.{◌≡◌, ℕ, Bool, List, [], ◌∷◌, ◌++�
 use Rattle.std.specs.Prelude.{Some}
 use Rattle.std.proofs.lemmas.List.{append_cancel_left}
 use Rattle.xml_grammar.specs.Digits.{Digits}
-use Rattle.xml_grammar.specs.Rules.{Begin, Rule, Split, empty, one, word, run, up_to, number, sequence, either, Each, many, valued, only, judged, optional, between, some_of, keeping_first, keeping_second, quoted, name_rule as name_of}
+use Rattle.xml_grammar.specs.Rules.{Begin, Rule, Split, empty, one, word, run, up_to, number, sequence, either, Each, many, map_rule, only, with_value_marks, optional, between, some_of, keeping_first, keeping_second, quoted, name_rule as name_of}
 use Rattle.xml_grammar.proofs.Exact.{Rest}
 use Rattle.xml_grammar.proofs.Fronts.{compare, pass_front, last_front}
 use Rattle.xml_grammar.proofs.Greedy.{digits_front}
@@ -56,13 +56,13 @@ module _ {Kind : Type 0} where
   pub fronted_either : {A : Type 0} {r s : Rule Kind A} → Fronted r → Fronted s → Fronted (either r s)
   fronted_either h i = record { front = λ u w m. ⊎_elim (λ l. inl (h.front u w l)) (λ l. inr (i.front u w l)) m }
 
-  pub fronted_valued : {A B : Type 0} {r : Rule Kind A} (f : A → B) → Fronted r → Fronted (valued f r)
+  pub fronted_valued : {A B : Type 0} {r : Rule Kind A} (f : A → B) → Fronted r → Fronted (map_rule f r)
   fronted_valued f h = record { front = h.front }
 
   pub fronted_only : {A : Type 0} {r : Rule Kind A} (t : A → Bool) → Fronted r → Fronted (only t r)
   fronted_only t h = record { front = h.front }
 
-  pub fronted_judged : {A : Type 0} {r : Rule Kind A} (Says : A → Kind → ℕ → Type 0) → Fronted r → Fronted (judged Says r)
+  pub fronted_judged : {A : Type 0} {r : Rule Kind A} (Says : A → Kind → ℕ → Type 0) → Fronted r → Fronted (with_value_marks Says r)
   fronted_judged Says h = record { front = h.front }
 
   module _ {A : Type 0} {r : Rule Kind A} (l : Lawful r) (h : Fronted r) where

@@ -2,9 +2,9 @@
 -- one carries over to the other: other values, choices.
 use Rattle.std.proofs.Common.{◌≡◌, ℕ, ◌-◌, Bool, true, false, cond, List, [], ◌++◌, length, Result, Ok, Err, ◌⊎◌, inl, inr, ⊎_elim, refl, ap, subst, ◌∙◌, arith}
 use Rattle.std.proofs.lemmas.List.{length-append}
-use Rattle.xml_grammar.specs.Rules.{Event, Begin, Mark, Rule, sequence, either, valued, sized}
+use Rattle.xml_grammar.specs.Rules.{Event, Begin, Mark, Rule, sequence, either, map_rule, with_length}
 use Rattle.xml_grammar.specs.TextReading.{Stop, Syntax, Faulty, Reader, ◌>>=◌, read_valued}
-use Rattle.xml_grammar.specs.readers.Functions.{read_either, read_sized}
+use Rattle.xml_grammar.specs.readers.Functions.{read_either, read_with_length}
 use Rattle.xml_grammar.specs.Answers.{Faults}
 use Rattle.xml_grammar.proofs.Exact.{Rest, ahead, sequence_meets, sequence_whole, Passed, IsRead, IsStopped, IsAtFault, Outcome, Exact, behind_passed}
 
@@ -83,24 +83,24 @@ module _ {Kind : Type 0} (faults : Faults Kind) where
 
 module _ {Kind : Type 0} where
   module _ {A B : Type 0} (f : A → B) (r : Rule Kind A) (K : B → Rest Kind) where
-    pub valued_meets : (e : Event Kind) (v : List ℕ) → (ahead (valued f r) K).Meets e v → (ahead r (λ a. K (f a))).Meets e v
+    pub valued_meets : (e : Event Kind) (v : List ℕ) → (ahead (map_rule f r) K).Meets e v → (ahead r (λ a. K (f a))).Meets e v
     valued_meets e v (inl h) = inl h
     valued_meets e v (inr h) =
         let sp = h.1.front_is in
         inr (sp.0, record { front = h.1.front; back = h.1.back; joined = h.1.joined; front_is = sp.1; back_is = subst (λ (z : B). (K z).Meets e h.1.back) sp.2 h.1.back_is })
 
-    pub valued_whole : (v : List ℕ) → (ahead (valued f r) K).Whole v → (ahead r (λ a. K (f a))).Whole v
+    pub valued_whole : (v : List ℕ) → (ahead (map_rule f r) K).Whole v → (ahead r (λ a. K (f a))).Whole v
     valued_whole v h =
         let sp = h.1.front_is in
         (sp.0, record { front = h.1.front; back = h.1.back; joined = h.1.joined; front_is = sp.1; back_is = subst (λ (z : B). (K z).Whole h.1.back) sp.2 h.1.back_is })
 
   module _ {A : Type 0} (r : Rule Kind A) (K : A → Rest Kind) where
-    pub sized_meets : (e : Event Kind) (v : List ℕ) → (ahead (sized r) (λ x. K x.0)).Meets e v → (ahead r K).Meets e v
+    pub sized_meets : (e : Event Kind) (v : List ℕ) → (ahead (with_length r) (λ x. K x.0)).Meets e v → (ahead r K).Meets e v
     sized_meets e v (inl h) = inl h
     sized_meets e v (inr h) = inr (h.0.0, record { front = h.1.front; back = h.1.back; joined = h.1.joined; front_is = h.1.front_is.0; back_is = h.1.back_is })
 
 module _ {Kind : Type 0} (faults : Faults Kind) where
-  carries_valued : {A B : Type 0} (f : A → B) (r : Rule Kind A) (K : B → Rest Kind) (text : List ℕ) → Carries faults text r (λ a. K (f a)) (valued f r) K (λ _ a. f a)
+  carries_valued : {A B : Type 0} (f : A → B) (r : Rule Kind A) (K : B → Rest Kind) (text : List ℕ) → Carries faults text r (λ a. K (f a)) (map_rule f r) K (λ _ a. f a)
   carries_valued {A} {B} f r K text = record {
     spells = λ u a h. (a, h, refl);
     meets = λ e u h. h;
@@ -109,12 +109,12 @@ module _ {Kind : Type 0} (faults : Faults Kind) where
     whole = λ v w b j sp k. (sp.0, sp.1, subst (λ (z : B). (K z).Whole w) sp.2 k, sp.2);
   }
 
-  pub valued_outcome : {A B : Type 0} (f : A → B) (r : Rule Kind A) (K : B → Rest Kind) (text : List ℕ) (out : Result (A × List ℕ) (Stop Kind)) → Outcome faults r (λ a. K (f a)) text out → Outcome faults (valued f r) K text (out >>= λ x. Ok (f x.0, x.1))
+  pub valued_outcome : {A B : Type 0} (f : A → B) (r : Rule Kind A) (K : B → Rest Kind) (text : List ℕ) (out : Result (A × List ℕ) (Stop Kind)) → Outcome faults r (λ a. K (f a)) text out → Outcome faults (map_rule f r) K text (out >>= λ x. Ok (f x.0, x.1))
   valued_outcome f r K text (Ok x) h = carried_read faults (carries_valued f r K text) x.0 x.1 h
   valued_outcome f r K text (Err (Syntax left)) h = carried_stopped faults (carries_valued f r K text) left h
   valued_outcome f r K text (Err (Faulty kind left)) h = carried_at_fault faults (carries_valued f r K text) kind left h
 
-  carries_sized : {A : Type 0} (r : Rule Kind A) (K : A → Rest Kind) (text : List ℕ) → Carries faults text r K (sized r) (λ x. K x.0) (λ u a. (a, length u))
+  carries_sized : {A : Type 0} (r : Rule Kind A) (K : A → Rest Kind) (text : List ℕ) → Carries faults text r K (with_length r) (λ x. K x.0) (λ u a. (a, length u))
   carries_sized {A} r K text = record {
     spells = λ u a h. (h, refl);
     meets = λ e u h. h;
@@ -126,16 +126,16 @@ module _ {Kind : Type 0} (faults : Faults Kind) where
   length_used : (text used left : List ℕ) → text ≡ used ++ left → length used ≡ length text - length left
   length_used text used left j = omega (arith, ap length j, length-append used left)
 
-  sized_outcome : {A : Type 0} (r : Rule Kind A) (K : A → Rest Kind) (text : List ℕ) (out : Result (A × List ℕ) (Stop Kind)) → Outcome faults r K text out → Outcome faults (sized r) (λ x. K x.0) text (out >>= λ x. Ok ((x.0, length text - length x.1), x.1))
-  sized_outcome {A} r K text (Ok x) h = subst (λ (z : ℕ). IsRead faults (sized r) (λ y. K y.0) text (x.0, z) x.1) (length_used text h.used x.1 h.joined) (carried_read faults (carries_sized r K text) x.0 x.1 h)
+  sized_outcome : {A : Type 0} (r : Rule Kind A) (K : A → Rest Kind) (text : List ℕ) (out : Result (A × List ℕ) (Stop Kind)) → Outcome faults r K text out → Outcome faults (with_length r) (λ x. K x.0) text (out >>= λ x. Ok ((x.0, length text - length x.1), x.1))
+  sized_outcome {A} r K text (Ok x) h = subst (λ (z : ℕ). IsRead faults (with_length r) (λ y. K y.0) text (x.0, z) x.1) (length_used text h.used x.1 h.joined) (carried_read faults (carries_sized r K text) x.0 x.1 h)
   sized_outcome r K text (Err (Syntax left)) h = carried_stopped faults (carries_sized r K text) left h
   sized_outcome r K text (Err (Faulty kind left)) h = carried_at_fault faults (carries_sized r K text) kind left h
 
 module _ {Kind : Type 0} {faults : Faults Kind} where
-  pub exact_valued : {A B : Type 0} {r : Rule Kind A} {K : B → Rest Kind} {p : Reader Kind A} (f : A → B) → Exact faults r (λ a. K (f a)) p → Exact faults (valued f r) K (read_valued f p)
+  pub exact_valued : {A B : Type 0} {r : Rule Kind A} {K : B → Rest Kind} {p : Reader Kind A} (f : A → B) → Exact faults r (λ a. K (f a)) p → Exact faults (map_rule f r) K (read_valued f p)
   exact_valued {A} {B} {r} {K} {p} f h = record { by = λ text. valued_outcome faults f r K text (p text) (h.by text) }
 
-  pub exact_sized : {A : Type 0} {r : Rule Kind A} {K : A → Rest Kind} {p : Reader Kind A} → Exact faults r K p → Exact faults (sized r) (λ x. K x.0) (read_sized p)
+  pub exact_sized : {A : Type 0} {r : Rule Kind A} {K : A → Rest Kind} {p : Reader Kind A} → Exact faults r K p → Exact faults (with_length r) (λ x. K x.0) (read_with_length p)
   exact_sized {A} {r} {K} {p} h = record { by = λ text. sized_outcome faults r K text (p text) (h.by text) }
 
 -- # Choices
@@ -207,5 +207,5 @@ module _ {Kind : Type 0} {faults : Faults Kind} where
     whole = λ m. ⊎_elim (λ l. h.whole l) (λ l. i.whole l) (either_whole r s K text m);
   }
 
-  pub covers_valued : {A B : Type 0} {text : List ℕ} {r : Rule Kind A} {K : B → Rest Kind} {X : Rest Kind} (f : A → B) → Covers faults text (ahead r (λ a. K (f a))) X → Covers faults text (ahead (valued f r) K) X
+  pub covers_valued : {A B : Type 0} {text : List ℕ} {r : Rule Kind A} {K : B → Rest Kind} {X : Rest Kind} (f : A → B) → Covers faults text (ahead r (λ a. K (f a))) X → Covers faults text (ahead (map_rule f r) K) X
   covers_valued {A} {B} {text} {r} {K} {X} f h = record { events = λ e v w j m. h.events e v w j (valued_meets f r K e v m); whole = λ m. h.whole (valued_whole f r K text m) }

@@ -2,7 +2,7 @@
 use Rattle.std.proofs.Common.{◌≡◌, ℕ, ◌<◌, Bool, true, false, List, [], ◌∷◌, ◌++◌, length, ◌⊎◌, inl, inr, ⊎_elim, refl, sym, ap, subst, ◌∙◌, arith}
 use Rattle.std.specs.Prelude.{Some}
 use Rattle.xml_grammar.specs.Digits.{Digits}
-use Rattle.xml_grammar.specs.Rules.{Event, Begin, Mark, Rule, Split, empty, one, word, AllPass, run, number, sequence, either, valued, sized, atomic, judged, optional}
+use Rattle.xml_grammar.specs.Rules.{Event, Begin, Mark, Rule, Split, empty, one, word, AllPass, run, number, sequence, either, map_rule, with_length, atomic, with_value_marks, optional}
 use Rattle.xml_grammar.specs.Answers.{Faults}
 use Rattle.xml_grammar.proofs.Exact.{Rest, ahead, sequence_meets, sequence_whole}
 use Rattle.xml_grammar.proofs.Carry.{Idle, Covers, valued_meets, valued_whole, either_meets, either_whole}
@@ -133,10 +133,10 @@ module _ {Kind : Type 0} where
     some = λ a m. ⊎_elim (λ l. h.some a l) (λ l. i.some a l) m;
   }
 
-  pub starts_valued : {A B : Type 0} {P : ℕ → Type 0} {r : Rule Kind A} (f : A → B) → Starts P r → Starts P (valued f r)
+  pub starts_valued : {A B : Type 0} {P : ℕ → Type 0} {r : Rule Kind A} (f : A → B) → Starts P r → Starts P (map_rule f r)
   starts_valued f h = record { meets = h.meets; spells = λ c x a m. h.spells c x m.0 m.1; none = h.none; some = λ a m. h.some m.0 m.1 }
 
-  pub starts_sized : {A : Type 0} {P : ℕ → Type 0} {r : Rule Kind A} → Starts P r → Starts P (sized r)
+  pub starts_sized : {A : Type 0} {P : ℕ → Type 0} {r : Rule Kind A} → Starts P r → Starts P (with_length r)
   starts_sized h = record { meets = h.meets; spells = λ c x a m. h.spells c x a.0 m.0; none = h.none; some = λ a m. h.some a.0 m.0 }
 
   pub starts_atomic : {A : Type 0} {P : ℕ → Type 0} {r : Rule Kind A} → Starts P r → Starts P (atomic r)
@@ -147,10 +147,10 @@ module _ {Kind : Type 0} where
       atomic_meets Begin c x (inr m) = h.spells c x m.0 m.1
       atomic_meets (Mark k b) c x m = elim m [ ]
 
-  pub starts_judged : {A : Type 0} {P : ℕ → Type 0} {r : Rule Kind A} (Says : A → Kind → ℕ → Type 0) → Starts P r → Starts P (judged Says r)
+  pub starts_judged : {A : Type 0} {P : ℕ → Type 0} {r : Rule Kind A} (Says : A → Kind → ℕ → Type 0) → Starts P r → Starts P (with_value_marks Says r)
   starts_judged {A} {P} {r} Says h = record { meets = judged_meets; spells = h.spells; none = λ k b m. ⊎_elim (λ l. h.some l.0 l.1) (λ l. h.none k b l) m; some = h.some }
     where
-      judged_meets : (e : Event Kind) (c : ℕ) (x : List ℕ) → (judged Says r).Meets e (c ∷ x) → P c
+      judged_meets : (e : Event Kind) (c : ℕ) (x : List ℕ) → (with_value_marks Says r).Meets e (c ∷ x) → P c
       judged_meets Begin c x m = h.meets Begin c x m
       judged_meets (Mark k b) c x (inl m) = h.spells c x m.0 m.1
       judged_meets (Mark k b) c x (inr m) = h.meets (Mark k b) c x m
@@ -197,7 +197,7 @@ module _ {Kind : Type 0} where
     none = λ k b m. h.none k b (sequence_meets r s K (Mark k b) [] m);
   }
 
-  pub heads_valued : {A B : Type 0} {P : ℕ → Type 0} {r : Rule Kind A} {K : B → Rest Kind} (f : A → B) → Heads P (ahead r (λ a. K (f a))) → Heads P (ahead (valued f r) K)
+  pub heads_valued : {A B : Type 0} {P : ℕ → Type 0} {r : Rule Kind A} {K : B → Rest Kind} (f : A → B) → Heads P (ahead r (λ a. K (f a))) → Heads P (ahead (map_rule f r) K)
   heads_valued {A} {B} {P} {r} {K} f h = record {
     meets = λ e c x m. h.meets e c x (valued_meets f r K e (c ∷ x) m);
     whole = λ c x m. h.whole c x (valued_whole f r K (c ∷ x) m);

@@ -4,7 +4,7 @@ use Rattle.std.proofs.Common.{◌≡◌, ℕ, ◌+◌, ◌<◌, ◌≤◌, Bool,
 use Rattle.std.specs.Prelude.{Some}
 use Rattle.std.proofs.lemmas.List.{length-append, append-nil}
 use Rattle.xml_grammar.specs.Digits.{Digits}
-use Rattle.xml_grammar.specs.Rules.{Begin, Mark, Rule, never, empty, one, word, run, run_without, up_to, number, sequence, either, Each, many, valued, sized, only, atomic, marked, judged, trap, optional, between, some_of, keeping_first, keeping_second, quoted, name_rule as name_of}
+use Rattle.xml_grammar.specs.Rules.{Begin, Mark, Rule, never, empty, one, word, run, run_without, up_to, number, sequence, either, Each, many, map_rule, with_length, only, atomic, with_prefix_mark, with_value_marks, trap, optional, between, some_of, keeping_first, keeping_second, quoted, name_rule as name_of}
 use Rattle.xml_grammar.proofs.Exact.{Rest, ahead, under}
 
 -- A beginning extends beyond the place of a mark.
@@ -83,10 +83,10 @@ module _ {Kind : Type 0} where
         m;
   }
 
-  pub lawful_valued : {A B : Type 0} {r : Rule Kind A} (f : A → B) → Lawful r → Lawful (valued f r)
+  pub lawful_valued : {A B : Type 0} {r : Rule Kind A} (f : A → B) → Lawful r → Lawful (map_rule f r)
   lawful_valued f h = record { whole = λ u a m. h.whole u m.0 m.1; within = h.within; beyond = h.beyond }
 
-  pub lawful_sized : {A : Type 0} {r : Rule Kind A} → Lawful r → Lawful (sized r)
+  pub lawful_sized : {A : Type 0} {r : Rule Kind A} → Lawful r → Lawful (with_length r)
   lawful_sized h = record { whole = λ u a m. h.whole u a.0 m.0; within = h.within; beyond = h.beyond }
 
   pub lawful_only : {A : Type 0} {r : Rule Kind A} (t : A → Bool) → Lawful r → Lawful (only t r)
@@ -95,7 +95,7 @@ module _ {Kind : Type 0} where
   pub lawful_atomic : {A : Type 0} (r : Rule Kind A) → Lawful (atomic r)
   lawful_atomic r = record { whole = λ u a m. inr (a, m); within = λ k b v m. absurd m; beyond = λ k b v m. absurd m }
 
-  pub lawful_judged : {A : Type 0} {r : Rule Kind A} (Says : A → Kind → ℕ → Type 0) → ((u : List ℕ) (a : A) (k : Kind) (b : ℕ) → r.Spells u a → Says a k b → (0 < b) × (b ≤ length u)) → Lawful r → Lawful (judged Says r)
+  pub lawful_judged : {A : Type 0} {r : Rule Kind A} (Says : A → Kind → ℕ → Type 0) → ((u : List ℕ) (a : A) (k : Kind) (b : ℕ) → r.Spells u a → Says a k b → (0 < b) × (b ≤ length u)) → Lawful r → Lawful (with_value_marks Says r)
   lawful_judged {A} {r} Says f h = record {
     whole = h.whole;
     within = λ k b v m. ⊎_elim (λ l. (f v l.0 k b l.1 l.2).1) (λ l. h.within k b v l) m;
@@ -105,7 +105,7 @@ module _ {Kind : Type 0} where
         m;
   }
 
-  pub lawful_marked : {A : Type 0} {r : Rule Kind A} (kind : Kind) (Front : List ℕ → Type 0) → ((v : List ℕ) → Front v → (0 < length v) × r.Meets Begin v) → Lawful r → Lawful (marked kind Front r)
+  pub lawful_marked : {A : Type 0} {r : Rule Kind A} (kind : Kind) (Front : List ℕ → Type 0) → ((v : List ℕ) → Front v → (0 < length v) × r.Meets Begin v) → Lawful r → Lawful (with_prefix_mark kind Front r)
   lawful_marked {A} {r} kind Front f h = record {
     whole = h.whole;
     within = λ k b v m. ⊎_elim (λ l. omega (arith, l.1)) (λ l. h.within k b v l) m;
@@ -168,10 +168,10 @@ module _ {Kind : Type 0} where
   pub quiet_many : {A : Type 0} {r : Rule Kind A} → Quiet r → Quiet (many r)
   quiet_many h = record { no_mark = λ k b v m. h.no_mark k b m.1.back m.1.back_is }
 
-  pub quiet_valued : {A B : Type 0} {r : Rule Kind A} (f : A → B) → Quiet r → Quiet (valued f r)
+  pub quiet_valued : {A B : Type 0} {r : Rule Kind A} (f : A → B) → Quiet r → Quiet (map_rule f r)
   quiet_valued f h = record { no_mark = h.no_mark }
 
-  pub quiet_sized : {A : Type 0} {r : Rule Kind A} → Quiet r → Quiet (sized r)
+  pub quiet_sized : {A : Type 0} {r : Rule Kind A} → Quiet r → Quiet (with_length r)
   quiet_sized h = record { no_mark = h.no_mark }
 
   pub quiet_only : {A : Type 0} {r : Rule Kind A} (t : A → Bool) → Quiet r → Quiet (only t r)

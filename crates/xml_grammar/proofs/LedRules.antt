@@ -2,7 +2,7 @@
 -- the word shows which rule is there.
 use Rattle.std.proofs.Common.{◌≡◌, ℕ, ◌≤◌, true, false, List, [], ◌∷◌, ◌++◌, length, Result, Ok, Err, ◌⊎◌, inl, inr, ⊎_elim, refl, sym, ap, subst, ◌∙◌, append_assoc, arith}
 use Rattle.std.proofs.lemmas.List.{length-append, append-nil, append_cancel_left}
-use Rattle.xml_grammar.specs.Rules.{Event, Begin, Mark, Rule, word, sequence, either, valued, sized, judged, marked, trap, keeping_first, keeping_second}
+use Rattle.xml_grammar.specs.Rules.{Event, Begin, Mark, Rule, word, sequence, either, map_rule, with_length, with_value_marks, with_prefix_mark, trap, keeping_first, keeping_second}
 use Rattle.xml_grammar.specs.TextReading.{Stop, Syntax, Faulty, ◌>>=◌, starts}
 use Rattle.xml_grammar.specs.Answers.{Faults}
 use Rattle.xml_grammar.proofs.Exact.{Rest, ahead, regroup, Passed, IsStopped, Outcome}
@@ -113,24 +113,24 @@ module _ {Kind : Type 0} where
     spells = λ v a m. ⊎_elim (λ l. h.spells v a l) (λ l. i.spells v a l) m;
   }
 
-  pub led_valued : {A B : Type 0} {w : List ℕ} {Q : ℕ → Type 0} {r : Rule Kind A} (f : A → B) → Led w Q r → Led w Q (valued f r)
+  pub led_valued : {A B : Type 0} {w : List ℕ} {Q : ℕ → Type 0} {r : Rule Kind A} (f : A → B) → Led w Q r → Led w Q (map_rule f r)
   led_valued f h = record { fronts = h.fronts; meets = h.meets; spells = λ v a m. h.spells v m.0 m.1 }
 
-  pub led_sized : {A : Type 0} {w : List ℕ} {Q : ℕ → Type 0} {r : Rule Kind A} → Led w Q r → Led w Q (sized r)
+  pub led_sized : {A : Type 0} {w : List ℕ} {Q : ℕ → Type 0} {r : Rule Kind A} → Led w Q r → Led w Q (with_length r)
   led_sized h = record { fronts = h.fronts; meets = h.meets; spells = λ v a m. h.spells v a.0 m.0 }
 
-  pub led_judged : {A : Type 0} {w : List ℕ} {Q : ℕ → Type 0} {r : Rule Kind A} (Says : A → Kind → ℕ → Type 0) → Led w Q r → Led w Q (judged Says r)
+  pub led_judged : {A : Type 0} {w : List ℕ} {Q : ℕ → Type 0} {r : Rule Kind A} (Says : A → Kind → ℕ → Type 0) → Led w Q r → Led w Q (with_value_marks Says r)
   led_judged {A} {w} {Q} {r} Says h = record { fronts = h.fronts; meets = judged_meets; spells = h.spells }
     where
-      judged_meets : (e : Event Kind) (v : List ℕ) → (judged Says r).Meets e v → LedBy w Q e v
+      judged_meets : (e : Event Kind) (v : List ℕ) → (with_value_marks Says r).Meets e v → LedBy w Q e v
       judged_meets Begin v m = h.meets Begin v m
       judged_meets (Mark k b) v (inl m) = inr (h.spells v m.0 m.1)
       judged_meets (Mark k b) v (inr m) = h.meets (Mark k b) v m
 
-  pub led_marked : {A : Type 0} {w : List ℕ} {Q : ℕ → Type 0} {r : Rule Kind A} (kind : Kind) (Front : List ℕ → Type 0) → ((v : List ℕ) → Front v → Past w Q v) → Led w Q r → Led w Q (marked kind Front r)
+  pub led_marked : {A : Type 0} {w : List ℕ} {Q : ℕ → Type 0} {r : Rule Kind A} (kind : Kind) (Front : List ℕ → Type 0) → ((v : List ℕ) → Front v → Past w Q v) → Led w Q r → Led w Q (with_prefix_mark kind Front r)
   led_marked {A} {w} {Q} {r} kind Front f h = record { fronts = h.fronts; meets = marked_meets; spells = h.spells }
     where
-      marked_meets : (e : Event Kind) (v : List ℕ) → (marked kind Front r).Meets e v → LedBy w Q e v
+      marked_meets : (e : Event Kind) (v : List ℕ) → (with_prefix_mark kind Front r).Meets e v → LedBy w Q e v
       marked_meets Begin v m = h.meets Begin v m
       marked_meets (Mark k b) v (inl m) = inr (f v m.2)
       marked_meets (Mark k b) v (inr m) = h.meets (Mark k b) v m

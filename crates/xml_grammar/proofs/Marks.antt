@@ -3,7 +3,7 @@
 use Rattle.std.proofs.Common.{◌≡◌, ℕ, ◌+◌, ◌-◌, ◌<◌, ◌≤◌, Bool, true, false, cond, List, [], ◌∷◌, ◌++◌, length, take, drop, Result, Ok, Err, ◌⊎◌, inl, inr, ⊎_elim, refl, sym, ap, subst, ◌∙◌, append_assoc, arith}
 use Rattle.std.specs.Prelude.{Option, Some, None}
 use Rattle.std.proofs.lemmas.List.{length-append, append-nil, take-append-drop, length-drop}
-use Rattle.xml_grammar.specs.Rules.{Event, Begin, Mark, Rule, word, marked, judged, trap}
+use Rattle.xml_grammar.specs.Rules.{Event, Begin, Mark, Rule, word, with_prefix_mark, with_value_marks, trap}
 use Rattle.xml_grammar.specs.TextReading.{Stop, Syntax, Faulty, Reader, ◌>>=◌, starts, read_word}
 use Rattle.xml_grammar.specs.readers.Functions.{read_marked, judgement, read_judged, read_trap}
 use Rattle.xml_grammar.specs.Answers.{Faults}
@@ -26,7 +26,7 @@ pub record Judges {Kind A : Type 0} (faults : Faults Kind) (Says : A → Kind �
 
 module _ {Kind A : Type 0} (faults : Faults Kind) (Says : A → Kind → ℕ → Type 0) (r : Rule Kind A) (judge : A → Option (Kind × ℕ)) (judges : Judges faults Says r judge) (quiet : Quiet r) where
   module _ (text left : List ℕ) (a : A) (h : IsRead faults r (λ _. anything) text a left) where
-    silent_settled : judge a ≡ None → (e : Event Kind) (v w : List ℕ) → text ≡ v ++ w → (ahead (judged Says r) (λ _. anything)).Meets e v → Passed faults e v h.used ⊎ Later faults anything e v h.used
+    silent_settled : judge a ≡ None → (e : Event Kind) (v w : List ℕ) → text ≡ v ++ w → (ahead (with_value_marks Says r) (λ _. anything)).Meets e v → Passed faults e v h.used ⊎ Later faults anything e v h.used
     silent_settled none Begin v w j (inl m) = h.settled Begin v w j (inl m)
     silent_settled none (Mark k b) v w j (inl (inl m)) =
         let o = h.unique v w m.0 j m.1 tt in
@@ -34,7 +34,7 @@ module _ {Kind A : Type 0} (faults : Faults Kind) (Says : A → Kind → ℕ →
     silent_settled none (Mark k b) v w j (inl (inr m)) = absurd (quiet.no_mark k b v m)
     silent_settled none e v w j (inr m) = absurd m.1.back_is
 
-    judged_read : judge a ≡ None → IsRead faults (judged Says r) (λ _. anything) text a left
+    judged_read : judge a ≡ None → IsRead faults (with_value_marks Says r) (λ _. anything) text a left
     judged_read none = record { used = h.used; joined = h.joined; spelled = h.spelled; settled = silent_settled none; unique = h.unique }
 
     module _ (x : Kind × ℕ) (said : judge a ≡ Some x) where
@@ -65,7 +65,7 @@ module _ {Kind A : Type 0} (faults : Faults Kind) (Says : A → Kind → ℕ →
           dropped [] v = refl
           dropped (c ∷ u) v = dropped u v
 
-      fault_settled : (e : Event Kind) (v w : List ℕ) → text ≡ v ++ w → (ahead (judged Says r) (λ _. anything)).Meets e v → Behind faults x.0 e v (take place h.used)
+      fault_settled : (e : Event Kind) (v w : List ℕ) → text ≡ v ++ w → (ahead (with_value_marks Says r) (λ _. anything)).Meets e v → Behind faults x.0 e v (take place h.used)
       fault_settled Begin v w j m = tt
       fault_settled (Mark k b) v w j (inl (inl m)) = λ t.
           let o = h.unique v w m.0 j m.1 tt in
@@ -76,7 +76,7 @@ module _ {Kind A : Type 0} (faults : Faults Kind) (Says : A → Kind → ℕ →
       fault_settled (Mark k b) v w j (inl (inr m)) = absurd (quiet.no_mark k b v m)
       fault_settled (Mark k b) v w j (inr m) = absurd m.1.back_is
 
-      judged_fault : IsAtFault faults (judged Says r) (λ _. anything) text x.0 (drop place h.used ++ left)
+      judged_fault : IsAtFault faults (with_value_marks Says r) (λ _. anything) text x.0 (drop place h.used ++ left)
       judged_fault = record {
         used = take place h.used;
         joined = h.joined ∙ ap (λ (z : List ℕ). z ++ left) parts ∙ append_assoc (take place h.used) (drop place h.used) left;
@@ -89,15 +89,15 @@ module _ {Kind A : Type 0} (faults : Faults Kind) (Says : A → Kind → ℕ →
         beyond = λ v w b j s _. let o = h.unique v w b j s tt in omega (arith, ap length o.0, front_is, is_within);
       }
 
-    judged_by : (o : Option (Kind × ℕ)) → judge a ≡ o → Outcome faults (judged Says r) (λ _. anything) text (judgement text (a, left) o)
+    judged_by : (o : Option (Kind × ℕ)) → judge a ≡ o → Outcome faults (with_value_marks Says r) (λ _. anything) text (judgement text (a, left) o)
     judged_by None e = judged_read e
-    judged_by (Some x) e = subst (λ (z : List ℕ). IsAtFault faults (judged Says r) (λ _. anything) text x.0 z) (sym (left_is x e)) (judged_fault x e)
+    judged_by (Some x) e = subst (λ (z : List ℕ). IsAtFault faults (with_value_marks Says r) (λ _. anything) text x.0 z) (sym (left_is x e)) (judged_fault x e)
 
-  judged_outcome : (text : List ℕ) (out : Result (A × List ℕ) (Stop Kind)) → Outcome faults r (λ _. anything) text out → Outcome faults (judged Says r) (λ _. anything) text (out >>= λ x. judgement text x (judge x.0))
+  judged_outcome : (text : List ℕ) (out : Result (A × List ℕ) (Stop Kind)) → Outcome faults r (λ _. anything) text out → Outcome faults (with_value_marks Says r) (λ _. anything) text (out >>= λ x. judgement text x (judge x.0))
   judged_outcome text (Ok x) h = judged_by text x.1 x.0 h (judge x.0) refl
   judged_outcome text (Err (Syntax left)) h = record { used = h.used; joined = h.joined; begun = h.begun; settled = broken_settled; none = h.none }
     where
-      broken_settled : (e : Event Kind) (v w : List ℕ) → text ≡ v ++ w → (ahead (judged Says r) (λ _. anything)).Meets e v → Passed faults e v h.used
+      broken_settled : (e : Event Kind) (v w : List ℕ) → text ≡ v ++ w → (ahead (with_value_marks Says r) (λ _. anything)).Meets e v → Passed faults e v h.used
       broken_settled Begin v w j (inl m) = h.settled Begin v w j (inl m)
       broken_settled (Mark k b) v w j (inl (inl m)) = absurd (h.none v w m.0 j m.1 tt)
       broken_settled (Mark k b) v w j (inl (inr m)) = absurd (quiet.no_mark k b v m)
@@ -116,7 +116,7 @@ pub record Marks {Kind A : Type 0} (faults : Faults Kind) (kind : Kind) (Front :
   pub some : (u : List ℕ) (a : A) → r.Spells u a → 0 < length u
 
 module _ {Kind A : Type 0} (faults : Faults Kind) (kind : Kind) (Front : List ℕ → Type 0) (r : Rule Kind A) (test : List ℕ → Bool) (marks : Marks faults kind Front r test) (within : (k : Kind) (b : ℕ) (v : List ℕ) → r.Meets (Mark k b) v → b ≤ length v) where
-  marked_settled : faults.is_fault kind ≡ true → (e : Event Kind) (v : List ℕ) → (ahead (marked kind Front r) (λ _. anything)).Meets e v → Behind faults kind e v []
+  marked_settled : faults.is_fault kind ≡ true → (e : Event Kind) (v : List ℕ) → (ahead (with_prefix_mark kind Front r) (λ _. anything)).Meets e v → Behind faults kind e v []
   marked_settled t Begin v m = tt
   marked_settled t (Mark k b) v (inl (inl m)) = λ f. inr (omega (arith, m.1), marks.least k f)
   marked_settled t (Mark k b) v (inl (inr m)) = λ f. by_place (within k b v m) (marks.least k f)
@@ -125,7 +125,7 @@ module _ {Kind A : Type 0} (faults : Faults Kind) (kind : Kind) (Front : List �
       by_place le n = grind (arith)
   marked_settled t (Mark k b) v (inr m) = absurd m.1.back_is
 
-  marked_fault : (text : List ℕ) → test text ≡ true → IsAtFault faults (marked kind Front r) (λ _. anything) text kind text
+  marked_fault : (text : List ℕ) → test text ≡ true → IsAtFault faults (with_prefix_mark kind Front r) (λ _. anything) text kind text
   marked_fault text t =
       let s = marks.stands text t in
       record {
@@ -140,7 +140,7 @@ module _ {Kind A : Type 0} (faults : Faults Kind) (kind : Kind) (Front : List �
         beyond = λ v w b j m _. marks.some v b m;
       }
 
-  carries_marked : (text : List ℕ) → test text ≡ false → Carries faults text r (λ _. anything) (marked kind Front r) (λ _. anything) (same faults)
+  carries_marked : (text : List ℕ) → test text ≡ false → Carries faults text r (λ _. anything) (with_prefix_mark kind Front r) (λ _. anything) (same faults)
   carries_marked text f = record {
     spells = λ u a h. h;
     meets = to_marked;
@@ -149,17 +149,17 @@ module _ {Kind A : Type 0} (faults : Faults Kind) (kind : Kind) (Front : List �
     whole = λ v w b j sp k. (b, sp, k, refl);
   }
     where
-      to_marked : (e : Event Kind) (u : List ℕ) → r.Meets e u → (marked kind Front r).Meets e u
+      to_marked : (e : Event Kind) (u : List ℕ) → r.Meets e u → (with_prefix_mark kind Front r).Meets e u
       to_marked Begin u h = h
       to_marked (Mark k b) u h = inr h
 
-      from_marked : (e : Event Kind) (v w : List ℕ) → text ≡ v ++ w → (ahead (marked kind Front r) (λ _. anything)).Meets e v → (ahead r (λ _. anything)).Meets e v ⊎ Idle faults e v
+      from_marked : (e : Event Kind) (v w : List ℕ) → text ≡ v ++ w → (ahead (with_prefix_mark kind Front r) (λ _. anything)).Meets e v → (ahead r (λ _. anything)).Meets e v ⊎ Idle faults e v
       from_marked Begin v w j (inl m) = inl (inl m)
       from_marked (Mark k b) v w j (inl (inl m)) = inr (ap faults.is_fault m.0 ∙ marks.harmless text f v w j m.2)
       from_marked (Mark k b) v w j (inl (inr m)) = inl (inl m)
       from_marked e v w j (inr m) = inl (inr m)
 
-  marked_by : (text : List ℕ) (b : Bool) (out : Result (A × List ℕ) (Stop Kind)) → test text ≡ b → (test text ≡ false → Outcome faults r (λ _. anything) text out) → Outcome faults (marked kind Front r) (λ _. anything) text (cond b (Err (Faulty kind text)) out)
+  marked_by : (text : List ℕ) (b : Bool) (out : Result (A × List ℕ) (Stop Kind)) → test text ≡ b → (test text ≡ false → Outcome faults r (λ _. anything) text out) → Outcome faults (with_prefix_mark kind Front r) (λ _. anything) text (cond b (Err (Faulty kind text)) out)
   marked_by text true out t h = marked_fault text t
   marked_by text false out t h = carried_same faults (carries_marked text t) out (h t)
 
@@ -221,11 +221,11 @@ module _ {Kind A : Type 0} (faults : Faults Kind) (kind : Kind) (seen rest : Lis
 
 module _ {Kind : Type 0} {faults : Faults Kind} where
   -- A judged rule is closed, and has no other marks.
-  pub exact_judged : {A : Type 0} {Says : A → Kind → ℕ → Type 0} {r : Rule Kind A} {judge : A → Option (Kind × ℕ)} {p : Reader Kind A} → Judges faults Says r judge → Quiet r → Exact faults r (λ _. anything) p → Exact faults (judged Says r) (λ _. anything) (read_judged judge p)
+  pub exact_judged : {A : Type 0} {Says : A → Kind → ℕ → Type 0} {r : Rule Kind A} {judge : A → Option (Kind × ℕ)} {p : Reader Kind A} → Judges faults Says r judge → Quiet r → Exact faults r (λ _. anything) p → Exact faults (with_value_marks Says r) (λ _. anything) (read_judged judge p)
   exact_judged {A} {Says} {r} {judge} {p} judges quiet h = record { by = λ text. judged_outcome faults Says r judge judges quiet text (p text) (h.by text) }
 
   -- A marked rule is closed. It has to be read exactly only where the test fails.
-  pub exact_marked : {A : Type 0} {kind : Kind} {Front : List ℕ → Type 0} {r : Rule Kind A} {test : List ℕ → Bool} (p : Reader Kind A) → Marks faults kind Front r test → Lawful r → ((text : List ℕ) → test text ≡ false → Outcome faults r (λ _. anything) text (p text)) → Exact faults (marked kind Front r) (λ _. anything) (read_marked kind test p)
+  pub exact_marked : {A : Type 0} {kind : Kind} {Front : List ℕ → Type 0} {r : Rule Kind A} {test : List ℕ → Bool} (p : Reader Kind A) → Marks faults kind Front r test → Lawful r → ((text : List ℕ) → test text ≡ false → Outcome faults r (λ _. anything) text (p text)) → Exact faults (with_prefix_mark kind Front r) (λ _. anything) (read_marked kind test p)
   exact_marked {A} {kind} {Front} {r} {test} p marks lawful h = record { by = λ text. marked_by faults kind Front r test marks lawful.within text (test text) (p text) refl (h text) }
 
   pub exact_trap : {A : Type 0} {kind : Kind} (seen rest : List ℕ) {K : A → Rest Kind} → faults.is_fault kind ≡ true → Exact faults (trap kind seen rest) K (read_trap kind seen rest)
@@ -234,20 +234,20 @@ module _ {Kind : Type 0} {faults : Faults Kind} where
       record { by = λ text. trap_by faults kind seen rest K is_fault text (starts (seen ++ rest) text) (read_word seen text) refl (w.by text) }
 
   -- A mark that isn't a fault changes nothing.
-  pub exact_unmarked : {A : Type 0} {kind : Kind} {Front : List ℕ → Type 0} {r : Rule Kind A} {p : Reader Kind A} → faults.is_fault kind ≡ false → Exact faults r (λ _. anything) p → Exact faults (marked kind Front r) (λ _. anything) p
+  pub exact_unmarked : {A : Type 0} {kind : Kind} {Front : List ℕ → Type 0} {r : Rule Kind A} {p : Reader Kind A} → faults.is_fault kind ≡ false → Exact faults r (λ _. anything) p → Exact faults (with_prefix_mark kind Front r) (λ _. anything) p
   exact_unmarked {A} {kind} {Front} {r} {p} harmless h = record { by = λ text. carried_same faults (unmarked text) (p text) (h.by text) }
     where
-      to_marked : (e : Event Kind) (u : List ℕ) → r.Meets e u → (marked kind Front r).Meets e u
+      to_marked : (e : Event Kind) (u : List ℕ) → r.Meets e u → (with_prefix_mark kind Front r).Meets e u
       to_marked Begin u m = m
       to_marked (Mark k b) u m = inr m
 
-      from_marked : (e : Event Kind) (v : List ℕ) → (ahead (marked kind Front r) (λ _. anything)).Meets e v → (ahead r (λ _. anything)).Meets e v ⊎ Idle faults e v
+      from_marked : (e : Event Kind) (v : List ℕ) → (ahead (with_prefix_mark kind Front r) (λ _. anything)).Meets e v → (ahead r (λ _. anything)).Meets e v ⊎ Idle faults e v
       from_marked Begin v (inl m) = inl (inl m)
       from_marked (Mark k b) v (inl (inl m)) = inr (ap faults.is_fault m.0 ∙ harmless)
       from_marked (Mark k b) v (inl (inr m)) = inl (inl m)
       from_marked e v (inr m) = inl (inr m)
 
-      unmarked : (text : List ℕ) → Carries faults text r (λ _. anything) (marked kind Front r) (λ _. anything) (same faults)
+      unmarked : (text : List ℕ) → Carries faults text r (λ _. anything) (with_prefix_mark kind Front r) (λ _. anything) (same faults)
       unmarked text = record { spells = λ u a m. m; meets = to_marked; later = λ u a e x m. m; events = λ e v w j m. from_marked e v m; whole = λ v w b j sp k. (b, sp, k, refl) }
 
   -- Where there is no refused word, only prefixes of its first part are there.

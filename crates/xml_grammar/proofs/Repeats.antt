@@ -2,7 +2,7 @@
 use Rattle.std.proofs.Common.{◌≡◌, ℕ, zero, suc, ◌<◌, ◌≤◌, Bool, true, false, cond, List, [], ◌∷◌, ◌++◌, length, Result, Ok, Err, ◌⊎◌, inl, inr, ⊎_elim, encode_utf8_all, refl, sym, ap, subst, ◌∙◌, append_assoc, arith}
 use Rattle.std.proofs.lemmas.Str.{length-le-encodes}
 use Rattle.std.proofs.lemmas.List.{length-append, nil_from_length}
-use Rattle.xml_grammar.specs.Rules.{Event, Mark, Rule, sequence, valued, Each, many}
+use Rattle.xml_grammar.specs.Rules.{Event, Mark, Rule, sequence, map_rule, Each, many}
 use Rattle.xml_grammar.specs.TextReading.{Stop, Reader, ◌>>=◌}
 use Rattle.xml_grammar.specs.readers.Functions.{read_at_most, read_many}
 use Rattle.xml_grammar.specs.Answers.{Faults}
@@ -20,7 +20,7 @@ module _ {Kind A : Type 0} (r : Rule Kind A) (K : Rest Kind) where
 
   -- a member and more of them
   abbrev pub one_more : Rule Kind (List A)
-  one_more = valued put (sequence r (λ _. many r))
+  one_more = map_rule put (sequence r (λ _. many r))
 
   at_back : (P : List ℕ → Type 0) (v front back : List ℕ) → v ≡ front ++ back → front ≡ [] → P back → P v
   at_back P v front back j e h = subst P (sym (j ∙ ap (λ (z : List ℕ). z ++ back) e)) h

@@ -1,9 +1,9 @@
 -- The shapes that grammars often have are read exactly.
 use Rattle.std.proofs.Common.{◌≡◌, ℕ, Bool, true, false, List, [], ◌∷◌, ◌++◌, ◌⊎◌, inl, inr, ⊎_elim, refl, sym, ap, subst, ◌∙◌, append_assoc}
 use Rattle.std.specs.Prelude.{Some, None}
-use Rattle.xml_grammar.specs.Rules.{Event, Begin, Mark, Rule, empty, word, run, sequence, either, many, valued, optional, between, some_of, keeping_first, keeping_second, quoted, name_rule as name_of}
+use Rattle.xml_grammar.specs.Rules.{Event, Begin, Mark, Rule, empty, word, run, sequence, either, many, map_rule, optional, between, some_of, keeping_first, keeping_second, quoted, name_rule as name_of}
 use Rattle.xml_grammar.specs.TextReading.{Reader, read_run, read_some_of}
-use Rattle.xml_grammar.specs.readers.Functions.{read_optional, read_between, read_name_of, read_before, read_behind, read_quoted}
+use Rattle.xml_grammar.specs.readers.Functions.{read_optional, read_between, read_name_of, read_before, read_after, read_quoted}
 use Rattle.xml_grammar.specs.Answers.{Faults}
 use Rattle.xml_grammar.proofs.Exact.{Rest, ahead, Exact, exact_sequence, exact_sequence_if}
 use Rattle.xml_grammar.proofs.Carry.{Idle, Covers, exact_valued, exact_either, covers_sequence}
@@ -32,7 +32,7 @@ module _ {Kind : Type 0} where
       ))
       m.1.back_is
 
-  pub into_valued : {A B : Type 0} (f : A → B) (r : Rule Kind A) (K : B → Rest Kind) (e : Event Kind) (v : List ℕ) → (ahead r (λ a. K (f a))).Meets e v → (ahead (valued f r) K).Meets e v
+  pub into_valued : {A B : Type 0} (f : A → B) (r : Rule Kind A) (K : B → Rest Kind) (e : Event Kind) (v : List ℕ) → (ahead r (λ a. K (f a))).Meets e v → (ahead (map_rule f r) K).Meets e v
   into_valued f r K e v (inl m) = inl m
   into_valued f r K e v (inr m) = inr (f m.0, record { front = m.1.front; back = m.1.back; joined = m.1.joined; front_is = (m.0, m.1.front_is, refl); back_is = m.1.back_is })
 
@@ -54,7 +54,7 @@ module _ {Kind : Type 0} {faults : Faults Kind} where
   pub covered_sequence : {A B : Type 0} {text : List ℕ} {X : Rest Kind} {r : Rule Kind A} (s : A → Rule Kind B) (K : A × B → Rest Kind) → Covers faults text X (ahead r (λ a. ahead (s a) (λ b. K (a, b)))) → Covers faults text X (ahead (sequence r s) K)
   covered_sequence {A} {B} {text} {X} {r} s K c = covers_by (into_sequence r s K) c
 
-  pub covered_valued : {A B : Type 0} {text : List ℕ} {X : Rest Kind} {r : Rule Kind A} (f : A → B) (K : B → Rest Kind) → Covers faults text X (ahead r (λ a. K (f a))) → Covers faults text X (ahead (valued f r) K)
+  pub covered_valued : {A B : Type 0} {text : List ℕ} {X : Rest Kind} {r : Rule Kind A} (f : A → B) (K : B → Rest Kind) → Covers faults text X (ahead r (λ a. K (f a))) → Covers faults text X (ahead (map_rule f r) K)
   covered_valued {A} {B} {text} {X} {r} f K c = covers_by (into_valued f r K) c
 
   -- what one member of a choice covers, the choice covers
@@ -74,7 +74,7 @@ module _ {Kind : Type 0} {faults : Faults Kind} where
   pub exact_before : {A B : Type 0} {r : Rule Kind A} {s : Rule Kind B} {K : A → Rest Kind} {p : Reader Kind A} {q : Reader Kind B} → Exact faults r (λ a. ahead s (λ _. K a)) p → ((a : A) → Exact faults s (λ _. K a) q) → Exact faults (keeping_first r s) K (read_before p q)
   exact_before {A} {B} {r} {s} {K} h i = exact_valued (λ x. x.0) (exact_sequence {s = λ _. s} {K = λ x. K x.0} h i)
 
-  pub exact_behind : {A B : Type 0} {r : Rule Kind A} {s : Rule Kind B} {K : B → Rest Kind} {p : Reader Kind A} {q : Reader Kind B} → Exact faults r (λ _. ahead s K) p → Exact faults s K q → Exact faults (keeping_second r s) K (read_behind p q)
+  pub exact_behind : {A B : Type 0} {r : Rule Kind A} {s : Rule Kind B} {K : B → Rest Kind} {p : Reader Kind A} {q : Reader Kind B} → Exact faults r (λ _. ahead s K) p → Exact faults s K q → Exact faults (keeping_second r s) K (read_after p q)
   exact_behind {A} {B} {r} {s} {K} h i = exact_valued (λ x. x.1) (exact_sequence {s = λ _. s} {K = λ x. K x.1} h (λ _. i))
 
   pub exact_some_of : {p : ℕ → Bool} {K : List ℕ → Rest Kind} → ((cs : List ℕ) → Heads (Not p) (K cs)) → Exact faults (some_of p) K (read_some_of p)
@@ -92,7 +92,7 @@ module _ {Kind : Type 0} {faults : Faults Kind} where
       (λ text t. covers_empty {value = None} {K = λ _. K} (covered_valued Some (λ _. K) (c text t)))
       (λ text t. covers_by (into_empty None (λ _. K)) (valued_covers text (d text t)))
     where
-      valued_covers : (text : List ℕ) → Covers faults text (ahead r (λ _. K)) K → Covers faults text (ahead (valued Some r) (λ _. K)) K
+      valued_covers : (text : List ℕ) → Covers faults text (ahead r (λ _. K)) K → Covers faults text (ahead (map_rule Some r) (λ _. K)) K
       valued_covers text x = record {
         events = λ e v w j m. ⊎_elim
             (λ l. x.events e v w j (inl l))

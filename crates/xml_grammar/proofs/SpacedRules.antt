@@ -3,9 +3,9 @@
 use Rattle.std.proofs.Common.{◌≡◌, ℕ, ◌<◌, Bool, true, false, List, [], ◌∷◌, ◌++◌, length, ◌⊎◌, inl, inr, ⊎_elim, refl, sym, ap, subst, ◌∙◌, arith}
 use Rattle.std.specs.Prelude.{◌&&◌, Option, Some, None}
 use Rattle.std.proofs.lemmas.List.{length-append, append-nil}
-use Rattle.xml_grammar.specs.Rules.{Event, Begin, Mark, Rule, AllPass, empty, run, sequence, many, valued, optional, some_of, keeping_second}
+use Rattle.xml_grammar.specs.Rules.{Event, Begin, Mark, Rule, AllPass, empty, run, sequence, many, map_rule, optional, some_of, keeping_second}
 use Rattle.xml_grammar.specs.TextReading.{Reader, head_is, after_front}
-use Rattle.xml_grammar.specs.readers.Functions.{spaced, read_many, read_optional}
+use Rattle.xml_grammar.specs.readers.Functions.{space_then, read_many, read_optional}
 use Rattle.xml_grammar.specs.Answers.{Faults}
 use Rattle.xml_grammar.proofs.Exact.{Rest, ahead, regroup, sequence_meets, sequence_whole, Exact}
 use Rattle.xml_grammar.proofs.Carry.{Idle, Covers, valued_meets, valued_whole, either_meets, either_whole}
@@ -94,7 +94,7 @@ module _ {Kind : Type 0} (space : ℕ → Bool) where
       some_meets Begin v (inr m) = (refl, subst (AllPass space) (sym m.1.joined) (pass_append space m.1.front m.1.back (subst (AllPass space) (sym m.1.front_is.1) (m.1.front_is.0, tt)) m.1.back_is))
       some_meets (Mark k b) v (inr m) = absurd m.1.back_is
 
-  pub leads_valued : {A B : Type 0} {P : ℕ → Type 0} {r : Rule Kind A} (f : A → B) → Leads space P r → Leads space P (valued f r)
+  pub leads_valued : {A B : Type 0} {P : ℕ → Type 0} {r : Rule Kind A} (f : A → B) → Leads space P r → Leads space P (map_rule f r)
   leads_valued f h = record { begins = h.begins; meets = h.meets; spells = λ v a m. h.spells v m.0 m.1; first = h.first; first_spelled = λ c x a m. h.first_spelled c x m.0 m.1 }
 
   -- white space, and a rule that begins with such a character
@@ -171,7 +171,7 @@ module _ {Kind : Type 0} (space : ℕ → Bool) where
     whole = λ v m. h.whole v (sequence_whole r s K v m);
   }
 
-  pub spaced_valued : {A B : Type 0} {P : ℕ → Type 0} {r : Rule Kind A} {K : B → Rest Kind} (f : A → B) → Spaced space P (ahead r (λ a. K (f a))) → Spaced space P (ahead (valued f r) K)
+  pub spaced_valued : {A B : Type 0} {P : ℕ → Type 0} {r : Rule Kind A} {K : B → Rest Kind} (f : A → B) → Spaced space P (ahead r (λ a. K (f a))) → Spaced space P (ahead (map_rule f r) K)
   spaced_valued {A} {B} {P} {r} {K} f h = record {
     begins = λ v m. into_valued f r K Begin v (h.begins v m);
     meets = λ e v m. h.meets e v (valued_meets f r K e v m);
@@ -184,11 +184,11 @@ module _ {Kind : Type 0} (space : ℕ → Bool) where
   -- a rule after optional white space
   pub spaced_optional : {A : Type 0} {P : ℕ → Type 0} {r : Rule Kind A} {K : Rest Kind} → Leads space P r → Spaced space P K → Spaced space P (ahead (optional r) (λ _. K))
   spaced_optional {A} {P} {r} {K} h i =
-      let g : Spaced space P (ahead (valued Some r) (λ _. K)) = spaced_leads (leads_valued Some h) in
+      let g : Spaced space P (ahead (map_rule Some r) (λ _. K)) = spaced_leads (leads_valued Some h) in
       record {
         begins = λ v m. inl (inl (h.begins v m));
-        meets = λ e v m. ⊎_elim (λ l. g.meets e v l) (λ l. by_empty e v l) (either_meets (valued Some r) (empty None) (λ _. K) e v m);
-        whole = λ v m. ⊎_elim (λ l. g.whole v l) (λ l. i.whole v (empty_whole None (λ _. K) v l)) (either_whole (valued Some r) (empty None) (λ _. K) v m);
+        meets = λ e v m. ⊎_elim (λ l. g.meets e v l) (λ l. by_empty e v l) (either_meets (map_rule Some r) (empty None) (λ _. K) e v m);
+        whole = λ v m. ⊎_elim (λ l. g.whole v l) (λ l. i.whole v (empty_whole None (λ _. K) v l)) (either_whole (map_rule Some r) (empty None) (λ _. K) v m);
       }
     where
       by_empty : (e : Event Kind) (v : List ℕ) → (ahead (empty None) (λ (_ : Option A). K)).Meets e v → SpacedBy space P e v
@@ -203,7 +203,7 @@ module _ {Kind : Type 0} {faults : Faults Kind} (space p : ℕ → Bool) where
   -- # Rules that cover others, by the character after the white space
 
   -- Where one more comes, nothing of what follows is there.
-  pub space_goes_on : {A : Type 0} {P Q : ℕ → Type 0} {r : Rule Kind A} {J : A → Rest Kind} {K : Rest Kind} {text : List ℕ} → Leads space P r → Spaced space Q K → ((c : ℕ) → p c ≡ true → Q c → ⊥) → spaced space p text ≡ true → Covers faults text K (ahead r J)
+  pub space_goes_on : {A : Type 0} {P Q : ℕ → Type 0} {r : Rule Kind A} {J : A → Rest Kind} {K : Rest Kind} {text : List ℕ} → Leads space P r → Spaced space Q K → ((c : ℕ) → p c ≡ true → Q c → ⊥) → space_then space p text ≡ true → Covers faults text K (ahead r J)
   space_goes_on {A} {P} {Q} {r} {J} {K} {text} h i apart t = record {
     events = λ e v w j m. ⊎_elim (λ l. by_front e v l.0 l.1) (λ l. absurd (not_behind v w j l)) (i.meets e v m);
     whole = λ m. not_behind text [] (sym (append-nil text)) (i.whole text m);
@@ -217,7 +217,7 @@ module _ {Kind : Type 0} {faults : Faults Kind} (space p : ℕ → Bool) where
       by_front (Mark k b) v e a = absurd cc
 
   -- Where none comes, there is none.
-  pub space_stops : {A : Type 0} {P Q : ℕ → Type 0} {r : Rule Kind A} {J : A → Rest Kind} {K : Rest Kind} {text : List ℕ} → Leads space P r → Spaced space Q K → ((c : ℕ) → P c → p c ≡ true) → spaced space p text ≡ false → Covers faults text (ahead r J) K
+  pub space_stops : {A : Type 0} {P Q : ℕ → Type 0} {r : Rule Kind A} {J : A → Rest Kind} {K : Rest Kind} {text : List ℕ} → Leads space P r → Spaced space Q K → ((c : ℕ) → P c → p c ≡ true) → space_then space p text ≡ false → Covers faults text (ahead r J) K
   space_stops {A} {P} {Q} {r} {J} {K} {text} h i is t = record {
     events = λ e v w j m. ⊎_elim
         (λ l. ⊎_elim (λ k. by_front e v k.0 k.1) (λ k. absurd (by_head v w j k (λ c x s. h.first c x e (subst (λ (z : List ℕ). r.Meets e z) s l)))) (h.meets e v l))
@@ -245,7 +245,7 @@ module _ {Kind : Type 0} {faults : Faults Kind} (space p : ℕ → Bool) where
 
 module _ {Kind : Type 0} {faults : Faults Kind} where
   -- Members, each after white space: the test looks at the character after it.
-  pub exact_spaced_many : {A : Type 0} {P Q : ℕ → Type 0} {r : Rule Kind A} {K : Rest Kind} {q : Reader Kind A} (space p : ℕ → Bool) → Leads space P r → Spaced space Q K → ((c : ℕ) → P c → p c ≡ true) → ((c : ℕ) → p c ≡ true → Q c → ⊥) → Exact faults r (more r K) q → Exact faults (many r) (λ _. K) (read_many (spaced space p) q)
+  pub exact_spaced_many : {A : Type 0} {P Q : ℕ → Type 0} {r : Rule Kind A} {K : Rest Kind} {q : Reader Kind A} (space p : ℕ → Bool) → Leads space P r → Spaced space Q K → ((c : ℕ) → P c → p c ≡ true) → ((c : ℕ) → p c ≡ true → Q c → ⊥) → Exact faults r (more r K) q → Exact faults (many r) (λ _. K) (read_many (space_then space p) q)
   exact_spaced_many {A} {P} {Q} {r} {K} {q} space p h i is apart exact = exact_many (record {
     at_end = refl;
     uses = some_used;
@@ -256,7 +256,7 @@ module _ {Kind : Type 0} {faults : Faults Kind} where
       some_used : (u : List ℕ) (a : A) → r.Spells u a → 0 < length u
       some_used u a m = let b = h.spells u a m in omega (arith, ap length b.joined, length-append b.spaces (b.next ∷ b.rest))
 
-  pub exact_spaced_optional : {A : Type 0} {P Q : ℕ → Type 0} {r : Rule Kind A} {K : Rest Kind} {q : Reader Kind A} (space p : ℕ → Bool) → Leads space P r → Spaced space Q K → ((c : ℕ) → P c → p c ≡ true) → ((c : ℕ) → p c ≡ true → Q c → ⊥) → Exact faults r (λ _. K) q → Exact faults (optional r) (λ _. K) (read_optional (spaced space p) q)
-  exact_spaced_optional {A} {P} {Q} {r} {K} {q} space p h i is apart exact = exact_optional (spaced space p) exact
+  pub exact_spaced_optional : {A : Type 0} {P Q : ℕ → Type 0} {r : Rule Kind A} {K : Rest Kind} {q : Reader Kind A} (space p : ℕ → Bool) → Leads space P r → Spaced space Q K → ((c : ℕ) → P c → p c ≡ true) → ((c : ℕ) → p c ≡ true → Q c → ⊥) → Exact faults r (λ _. K) q → Exact faults (optional r) (λ _. K) (read_optional (space_then space p) q)
+  exact_spaced_optional {A} {P} {Q} {r} {K} {q} space p h i is apart exact = exact_optional (space_then space p) exact
       (λ text t. space_goes_on space p h i apart t)
       (λ text t. space_stops space p h i is t)

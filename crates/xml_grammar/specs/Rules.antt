@@ -158,15 +158,15 @@ many {Kind} {A} r = record {
 }
 
 -- The texts of the rule, with their values mapped.
-abbrev pub valued : {Kind A B : Type 0} → (A → B) → Rule Kind A → Rule Kind B
-valued {Kind} {A} {B} f r = record {
+abbrev pub map_rule : {Kind A B : Type 0} → (A → B) → Rule Kind A → Rule Kind B
+map_rule {Kind} {A} {B} f r = record {
   Spells = λ text b. (a : A) × r.Spells text a × (b ≡ f a);
   Meets = r.Meets;
 }
 
 -- The texts of the rule; the value also has the number of their characters.
-abbrev pub sized : {Kind A : Type 0} → Rule Kind A → Rule Kind (A × ℕ)
-sized r = record {
+abbrev pub with_length : {Kind A : Type 0} → Rule Kind A → Rule Kind (A × ℕ)
+with_length r = record {
   Spells = λ text x. r.Spells text x.0 × (x.1 ≡ length text);
   Meets = r.Meets;
 }
@@ -196,8 +196,9 @@ MarkedMeets kind P r (Mark k back) text =
 
 -- The texts of the rule; a prefix that satisfies the predicate marks its own first place with
 -- this kind.
-abbrev pub marked : {Kind A : Type 0} → Kind → (List ℕ → Type 0) → Rule Kind A → Rule Kind A
-marked kind P r = record {
+abbrev pub with_prefix_mark : {Kind A : Type 0} → Kind → (List ℕ → Type 0) → Rule Kind A
+    → Rule Kind A
+with_prefix_mark kind P r = record {
   Spells = r.Spells;
   Meets = MarkedMeets kind P r;
 }
@@ -211,8 +212,9 @@ JudgedMeets {Kind} {A} Says r (Mark k back) text =
 
 -- The texts of the rule; a whole text marks places in it with kinds, by its value, each a number
 -- of characters before its end.
-abbrev pub judged : {Kind A : Type 0} → (A → Kind → ℕ → Type 0) → Rule Kind A → Rule Kind A
-judged Says r = record {
+abbrev pub with_value_marks : {Kind A : Type 0} → (A → Kind → ℕ → Type 0) → Rule Kind A
+    → Rule Kind A
+with_value_marks Says r = record {
   Spells = r.Spells;
   Meets = JudgedMeets Says r;
 }
@@ -232,7 +234,7 @@ trap kind seen rest = record { Spells = λ text a. ⊥; Meets = TrapMeets kind s
 
 -- A rule, or nothing.
 abbrev pub optional : {Kind A : Type 0} → Rule Kind A → Rule Kind (Option A)
-optional r = either (valued Some r) (empty None)
+optional r = either (map_rule Some r) (empty None)
 
 -- Members between gaps: a gap, and any number of members, each followed by a gap. So no two gaps
 -- meet.
@@ -241,20 +243,20 @@ between gap member = sequence gap (λ _. many (sequence member (λ _. gap)))
 
 -- One or more characters of a class.
 abbrev pub some_of : {Kind : Type 0} → (ℕ → Bool) → Rule Kind (List ℕ)
-some_of p = valued (λ x. x.0 ∷ x.1) (sequence (one p) (λ _. run p))
+some_of p = map_rule (λ x. x.0 ∷ x.1) (sequence (one p) (λ _. run p))
 
 -- A first character of one class, and any number of another.
 abbrev pub name_rule : {Kind : Type 0} → (ℕ → Bool) → (ℕ → Bool) → Rule Kind (List ℕ)
-name_rule first others = valued (λ x. x.0 ∷ x.1) (sequence (one first) (λ _. run others))
+name_rule first others = map_rule (λ x. x.0 ∷ x.1) (sequence (one first) (λ _. run others))
 
 -- One rule and then another: the value is the value of the first, or of the second.
 abbrev pub keeping_first : {Kind A B : Type 0} → Rule Kind A → Rule Kind B → Rule Kind A
-keeping_first r s = valued (λ x. x.0) (sequence r (λ _. s))
+keeping_first r s = map_rule (λ x. x.0) (sequence r (λ _. s))
 
 abbrev pub keeping_second : {Kind A B : Type 0} → Rule Kind A → Rule Kind B → Rule Kind B
-keeping_second r s = valued (λ x. x.1) (sequence r (λ _. s))
+keeping_second r s = map_rule (λ x. x.1) (sequence r (λ _. s))
 
 -- A pair of equal quotes and the text between them, whose rule may depend on the quote.
 abbrev pub quoted : {Kind A : Type 0} → (ℕ → Bool) → (ℕ → Rule Kind A) → Rule Kind A
 quoted is_quote inside =
-    valued (λ x. x.1) (sequence (one is_quote) (λ q. keeping_first (inside q) (word (q ∷ []))))
+    map_rule (λ x. x.1) (sequence (one is_quote) (λ q. keeping_first (inside q) (word (q ∷ []))))

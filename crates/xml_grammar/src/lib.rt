@@ -12,4 +12,4 @@ mod cursor;
 mod lookahead;
 
 pub use cursor::{count, count_before, is_first, is_over, nothing, skip, split_first, text_before};
-pub use lookahead::{are_next, behind_next, is_either_next, is_next, is_small_next};
+pub use lookahead::{are_next, is_either_next, is_next, is_small_next, strip_char};

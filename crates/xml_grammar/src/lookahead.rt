@@ -66,7 +66,7 @@ pub fn is_small_next(text: &str) -> bool
 
 /// What follows an ASCII character, if it comes next.
 #[inline(always)]
-pub fn behind_next(text: &str, letter: char) -> Option<&str>
+pub fn strip_char(text: &str, letter: char) -> Option<&str>
     requires { letter < 128 }
     ensures letter_and_rest { IfSome result (λ rest. chars text.now ≡ letter ∷ chars rest.now) }
     ensures none_not_next { IfNone result (head_is (λ c. c == letter) (chars text.now) ≡ false) }
@@ -84,7 +84,7 @@ pub fn are_next(text: &str, first: char, second: char) -> bool
     requires second_is_ascii { second < 128 }
     ensures exact { result ≡ starts (first ∷ second ∷ []) (chars text.now) }
 {
-    match behind_next(text, first) {
+    match strip_char(text, first) {
         Some(rest) => is_next(rest, second),
         None => false,
     }

@@ -5,7 +5,7 @@
 use Rattle.std.specs.Prelude.{ℕ, Bool, ◌≡◌, false, not, ◌||◌, List, codes, Option, Some}
 use Rattle.std.specs.Char.{is_ascii_digit, is_ascii_alphabetic}
 use Rattle.xml_names.specs.Characters.{is_char, is_space}
-use Rattle.xml_grammar.specs.Rules.{Rule, one, word, up_to, either, valued, only, trap, optional}
+use Rattle.xml_grammar.specs.Rules.{Rule, one, word, up_to, either, map_rule, only, trap, optional}
 use Rattle.xml_grammar.specs.Rules.{between, some_of, keeping_first, keeping_second, quoted}
 use Rattle.xml_grammar.specs.Rules.{name_rule}
 use Rattle.xml_tokens.specs.declared.fault_kind.FaultKind.{FaultKind}
@@ -15,7 +15,7 @@ use Rattle.xml_tokens.specs.Values.{line_ends, same_letters}
 
 -- the texts of the rule, which spell nothing
 abbrev pub dropped : {A : Type 0} → Rule FaultKind A → Rule FaultKind (Unit {0})
-dropped r = valued (λ _. tt) r
+dropped r = map_rule (λ _. tt) r
 
 -- ---- comments, CDATA sections and processing instructions
 
@@ -23,27 +23,28 @@ dropped r = valued (λ _. tt) r
 -- right before the final `>`
 abbrev pub comment : Rule FaultKind (List ℕ)
 comment =
-    valued line_ends
+    map_rule line_ends
     (keeping_second (word (codes "<!--"))
     (keeping_first (up_to is_char (codes "--")) (word (codes ">"))))
 
 -- [18] CDSect: `<![CDATA[`, Chars up to the first `]]>`
 abbrev pub section : Rule FaultKind (List ℕ)
-section = valued line_ends (keeping_second (word (codes "<![CDATA[")) (up_to is_char (codes "]]>")))
+section = map_rule line_ends (keeping_second (word (codes "<![CDATA["))
+    (up_to is_char (codes "]]>")))
 
 -- [17] PITarget: an NCName that isn't `xml`, ignoring ASCII case
 abbrev pub is_target : List ℕ → Bool
 is_target n = not (same_letters n (codes "xml"))
 
 -- what follows a target: nothing, or white space and Chars, up to the first `?>`
-abbrev pub instructed : Rule FaultKind (Unit {0})
-instructed =
+abbrev pub pi_rest : Rule FaultKind (Unit {0})
+pi_rest =
     either (dropped (keeping_second (one is_space) (up_to is_char (codes "?>"))))
     (word (codes "?>"))
 
 -- [16] PI: `<?`, a target and what follows it
 abbrev pub instruction : Rule FaultKind (Unit {0})
-instruction = keeping_second (word (codes "<?")) (keeping_second (only is_target name) instructed)
+instruction = keeping_second (word (codes "<?")) (keeping_second (only is_target name) pi_rest)
 
 -- ---- the XML declaration
 

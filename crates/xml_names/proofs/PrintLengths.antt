@@ -6,7 +6,7 @@ use Rattle.std.specs.Cmp.Lexicographic.{bytes_decides}
 use Rattle.xml_names.specs.declared.names.Name.{Name}
 use Rattle.xml_names.specs.declared.names.Decl.{Decl}
 use Rattle.xml_names.specs.declared.names.Attr.{Attr}
-use Rattle.xml_names.specs.Markup.{byte_len, closing, declaring, opening, print_attr, print_comment, print_decl, print_name, print_text, text_escape, value_escape, quoted_text as quoted}
+use Rattle.xml_names.specs.Markup.{byte_len, end_tag_text, xmlns_name, tag_front, print_attr, print_comment, print_decl, print_name, print_text, text_escape, value_escape, quoted_text as quoted}
 use Rattle.xml_names.proofs.ScopeLemmas.{drop_item}
 use Rattle.xml_names.proofs.Escapes.{encode-text, encode-value}
 
@@ -28,10 +28,10 @@ byte_len-quoted v =
     let inside = ap length (encode-value v) in
     omega (arith, marks, ends, mark, inside)
 
-pub byte_len-decl : (d : Decl) → byte_len (print_decl d) ≡ byte_len (declaring d.prefix) + byte_len (quoted d.uri) + 2
+pub byte_len-decl : (d : Decl) → byte_len (print_decl d) ≡ byte_len (xmlns_name d.prefix) + byte_len (quoted d.uri) + 2
 byte_len-decl d =
-    let space = ascii 32 (declaring d.prefix ++ 61 ∷ quoted d.uri) (omega arith) in
-    let parts = byte_len-append (declaring d.prefix) (61 ∷ quoted d.uri) in
+    let space = ascii 32 (xmlns_name d.prefix ++ 61 ∷ quoted d.uri) (omega arith) in
+    let parts = byte_len-append (xmlns_name d.prefix) (61 ∷ quoted d.uri) in
     let equals = ascii 61 (quoted d.uri) (omega arith) in
     omega (arith, space, parts, equals)
 
@@ -42,16 +42,16 @@ byte_len-attr a =
     let equals = ascii 61 (quoted a.value) (omega arith) in
     omega (arith, space, parts, equals)
 
-pub byte_len-opening : (n : Name) (ds : List Decl) (ats : List Attr)
-    → byte_len (opening n ds ats) ≡ byte_len (print_name n) + (byte_len (flat_map print_decl ds) + byte_len (flat_map print_attr ats)) + 1
-byte_len-opening n ds ats =
+pub byte_len-tag_front : (n : Name) (ds : List Decl) (ats : List Attr)
+    → byte_len (tag_front n ds ats) ≡ byte_len (print_name n) + (byte_len (flat_map print_decl ds) + byte_len (flat_map print_attr ats)) + 1
+byte_len-tag_front n ds ats =
     let mark = ascii 60 (print_name n ++ (flat_map print_decl ds ++ flat_map print_attr ats)) (omega arith) in
     let parts = byte_len-append (print_name n) (flat_map print_decl ds ++ flat_map print_attr ats) in
     let lists = byte_len-append (flat_map print_decl ds) (flat_map print_attr ats) in
     omega (arith, mark, parts, lists)
 
-pub byte_len-closing : (n : Name) → byte_len (closing n) ≡ byte_len (print_name n) + 3
-byte_len-closing n =
+pub byte_len-end_tag_text : (n : Name) → byte_len (end_tag_text n) ≡ byte_len (print_name n) + 3
+byte_len-end_tag_text n =
     let mark = ascii 60 (47 ∷ (print_name n ++ 62 ∷ [])) (omega arith) in
     let slash = ascii 47 (print_name n ++ 62 ∷ []) (omega arith) in
     let parts = byte_len-append (print_name n) (62 ∷ []) in
@@ -83,4 +83,4 @@ pub byte_len-next : {A : Type 0} (f : A → List ℕ) (xs : List A) (i : ℕ) (x
     → byte_len (flat_map f (drop i xs)) ≡ byte_len (f x) + byte_len (flat_map f (drop (i + 1) xs))
 byte_len-next f xs i x within is = ap (λ l. byte_len (flat_map f l)) (drop_item xs i x within is) ∙ byte_len-append (f x) (flat_map f (drop (i + 1) xs))
 
-pub ruleset lengths = (byte_len-append, byte_len-text, byte_len-quoted, byte_len-decl, byte_len-attr, byte_len-opening, byte_len-closing, byte_len-comment)
+pub ruleset lengths = (byte_len-append, byte_len-text, byte_len-quoted, byte_len-decl, byte_len-attr, byte_len-tag_front, byte_len-end_tag_text, byte_len-comment)

@@ -41,23 +41,23 @@ abbrev pub print_name : Name → List ℕ
 print_name n = if bytes_eq n.prefix [] then n.local else (n.prefix ++ 58 ∷ n.local)
 
 -- the name that declares a prefix: `xmlns` for the default, else `xmlns:` and the prefix
-abbrev pub declaring : List ℕ → List ℕ
-declaring p = if bytes_eq p [] then codes "xmlns" else (codes "xmlns:" ++ p)
+abbrev pub xmlns_name : List ℕ → List ℕ
+xmlns_name p = if bytes_eq p [] then codes "xmlns" else (codes "xmlns:" ++ p)
 
 -- a declaration and an attribute: a space (32), the name, `=` (61) and the value
 abbrev pub print_decl : Decl → List ℕ
-print_decl d = 32 ∷ (declaring d.prefix ++ 61 ∷ quoted_text d.uri)
+print_decl d = 32 ∷ (xmlns_name d.prefix ++ 61 ∷ quoted_text d.uri)
 
 abbrev pub print_attr : Attr → List ℕ
 print_attr a = 32 ∷ (print_name a.name ++ 61 ∷ quoted_text a.value)
 
 -- `<` (60), the name, the declarations and the attributes
-abbrev pub opening : Name → List Decl → List Attr → List ℕ
-opening n ds ats = 60 ∷ (print_name n ++ (flat_map print_decl ds ++ flat_map print_attr ats))
+abbrev pub tag_front : Name → List Decl → List Attr → List ℕ
+tag_front n ds ats = 60 ∷ (print_name n ++ (flat_map print_decl ds ++ flat_map print_attr ats))
 
 -- `</` (60, 47), the name, `>` (62)
-abbrev pub closing : Name → List ℕ
-closing n = 60 ∷ 47 ∷ (print_name n ++ 62 ∷ [])
+abbrev pub end_tag_text : Name → List ℕ
+end_tag_text n = 60 ∷ 47 ∷ (print_name n ++ 62 ∷ [])
 
 -- a comment: `<!--`, its characters as they are, `-->`
 abbrev pub print_comment : List ℕ → List ℕ

@@ -14,7 +14,7 @@ pub(crate) enum SmallTextStorage<const N: usize> {
 }
 
 impl<const N: usize> SmallTextStorage<N> {
-    /// A copy of a text in a block of its own. Few small texts are so long.
+    /// A copy of a text in a block of its own. Few texts need it.
     #[inline(never)]
     pub(crate) fn long(alloc: Global, text: &str) -> Result<SmallTextStorage<N>, AllocError>
         ensures same_chars { IfOk result (λ made. characters_of made ≡ chars text.now) }

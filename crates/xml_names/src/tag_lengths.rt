@@ -1,6 +1,6 @@
 //! The lengths of the prints of names, declarations and attributes.
 ghost use Rattle.std.specs.Prelude.{◌≡◌, flat_map, min};
-ghost use Rattle.xml_names.specs.Markup.{byte_len, declaring, print_attr, print_decl, print_name};
+ghost use Rattle.xml_names.specs.Markup.{byte_len, xmlns_name, print_attr, print_decl, print_name};
 ghost use Rattle.xml_names.specs.Markup.{quoted_text};
 
 use crate::escaped_lengths::value_len;
@@ -35,7 +35,7 @@ pub fn name_len(name: &Name) -> usize
 // The length of the name that declares a prefix.
 #[tactic(auto, using(crate::proofs::PrintLengths::lengths))]
 fn declaring_len(prefix: &Prefix) -> usize
-    ensures exact { result ≡ min (byte_len (declaring prefix.now)) usize.MAX }
+    ensures exact { result ≡ min (byte_len (xmlns_name prefix.now)) usize.MAX }
 {
     if prefix.is_empty() {
         return 5;

@@ -4,7 +4,7 @@ use Rattle.std.proofs.lemmas.Str.{length-le-encodes}
 use Rattle.std.specs.Prelude.{nat_eq, Option, None}
 use Rattle.xml_grammar.specs.Rules.{AllPass}
 use Rattle.xml_grammar.specs.TextReading.{Stop, Reader, ◌>>=◌, head_is, read_one, read_word, read_run, read_sequence, read_valued}
-use Rattle.xml_grammar.specs.readers.Functions.{read_either, read_at_most, read_many, read_sized, read_atomic, read_judged, read_between, read_name_of, read_before, read_behind, read_quoted}
+use Rattle.xml_grammar.specs.readers.Functions.{read_either, read_at_most, read_many, read_with_length, read_atomic, read_judged, read_between, read_name_of, read_before, read_after, read_quoted}
 use Rattle.xml_tokens.specs.declared.fault_kind.FaultKind.{FaultKind}
 
 -- the text is read as this value, up to this rest
@@ -22,7 +22,7 @@ reads_valued f h = record { read = rw h.read refl }
 pub reads_before : {A B : Type 0} {p : Reader FaultKind A} {q : Reader FaultKind B} {text mid rest : List ℕ} {a : A} {b : B} → Reads p text a mid → Reads q mid b rest → Reads (read_before p q) text a rest
 reads_before h k = record { read = rw h.read (rw k.read refl) }
 
-pub reads_behind : {A B : Type 0} {p : Reader FaultKind A} {q : Reader FaultKind B} {text mid rest : List ℕ} {a : A} {b : B} → Reads p text a mid → Reads q mid b rest → Reads (read_behind p q) text b rest
+pub reads_behind : {A B : Type 0} {p : Reader FaultKind A} {q : Reader FaultKind B} {text mid rest : List ℕ} {a : A} {b : B} → Reads p text a mid → Reads q mid b rest → Reads (read_after p q) text b rest
 reads_behind h k = record { read = rw h.read (rw k.read refl) }
 
 pub reads_left : {A : Type 0} (test : List ℕ → Bool) {p : Reader FaultKind A} (q : Reader FaultKind A) {text rest : List ℕ} {a : A} → test text ≡ true → Reads p text a rest → Reads (read_either test p q) text a rest
@@ -37,10 +37,10 @@ reads_atomic h = record { read = rw h.read refl }
 pub reads_judged : {A : Type 0} {p : Reader FaultKind A} {text rest : List ℕ} {a : A} (judge : A → Option (FaultKind × ℕ)) → judge a ≡ None → Reads p text a rest → Reads (read_judged judge p) text a rest
 reads_judged judge j h = record { read = rw h.read (rw j refl) }
 
-pub sized_by : {A : Type 0} {p : Reader FaultKind A} {text rest : List ℕ} {a : A} (n : ℕ) → length text - length rest ≡ n → Reads p text a rest → Reads (read_sized p) text (a, n) rest
+pub sized_by : {A : Type 0} {p : Reader FaultKind A} {text rest : List ℕ} {a : A} (n : ℕ) → length text - length rest ≡ n → Reads p text a rest → Reads (read_with_length p) text (a, n) rest
 sized_by n e h = record { read = rw h.read (rw e refl) }
 
-pub reads_sized : {A : Type 0} {p : Reader FaultKind A} {rest : List ℕ} {a : A} (used : List ℕ) → Reads p (used ++ rest) a rest → Reads (read_sized p) (used ++ rest) (a, length used) rest
+pub reads_sized : {A : Type 0} {p : Reader FaultKind A} {rest : List ℕ} {a : A} (used : List ℕ) → Reads p (used ++ rest) a rest → Reads (read_with_length p) (used ++ rest) (a, length used) rest
 reads_sized {rest = rest} used h = sized_by (length used) (omega (arith, length-append used rest)) h
 
 -- ---- words, characters and runs of them

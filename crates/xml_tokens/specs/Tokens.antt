@@ -7,7 +7,8 @@ use Rattle.std.specs.Char.{is_ascii_digit, is_ascii_alphabetic}
 use Rattle.xml_names.specs.Characters.{is_char, is_space, is_name_start, is_name_char}
 use Rattle.xml_names.specs.declared.names.Name.{Name}
 use Rattle.xml_grammar.specs.Digits.{decimal_digits, hexadecimal}
-use Rattle.xml_grammar.specs.Rules.{Rule, word, run, run_without, number, sequence, either, valued}
+use Rattle.xml_grammar.specs.Rules.{Rule, word, run, run_without, number, sequence, either}
+use Rattle.xml_grammar.specs.Rules.{map_rule}
 use Rattle.xml_grammar.specs.Rules.{optional, between, some_of, keeping_first, keeping_second}
 use Rattle.xml_grammar.specs.Rules.{name_rule}
 use Rattle.xml_tokens.specs.declared.fault_kind.FaultKind.{FaultKind}
@@ -21,7 +22,7 @@ name = name_rule is_name_start is_name_char
 
 -- [N7] QName: an NCName, or two with `:` between
 abbrev pub qname : Rule FaultKind Name
-qname = valued qname_of (sequence name (λ _. optional (keeping_second (word (codes ":")) name)))
+qname = map_rule qname_of (sequence name (λ _. optional (keeping_second (word (codes ":")) name)))
 
 -- [3] S, optional and required
 abbrev pub spaces : Rule FaultKind (List ℕ)
@@ -38,7 +39,7 @@ equals = keeping_second spaces (keeping_second (word (codes "=")) spaces)
 
 -- an entity, and the character that it stands for
 abbrev pub stands_for : ℕ → List ℕ → Rule FaultKind ℕ
-stands_for c w = valued (λ _. c) (word w)
+stands_for c w = map_rule (λ _. c) (word w)
 
 -- [68] one of the five entities that there are, for `<` (60), `>` (62), `"` (34), `'` (39) and
 -- `&` (38)
@@ -84,11 +85,11 @@ is_other one c = not (c == one)
 
 -- [10] AttValue, between its quotes: raw characters and references
 abbrev pub value : ℕ → Rule FaultKind (List ℕ)
-value quote = valued value_spelled (between (run (is_raw_in quote)) reference)
+value quote = map_rule value_spelled (between (run (is_raw_in quote)) reference)
 
 -- [14] CharData: raw characters without `]]>`
 abbrev pub chars : Rule FaultKind (List ℕ)
-chars = valued line_ends (run_without is_raw (codes "]]>"))
+chars = map_rule line_ends (run_without is_raw (codes "]]>"))
 
 -- ---- names of encodings
 

@@ -31,7 +31,7 @@ pub enum Class {
     Other(char),
     /// ASCII characters that are read in content as themselves, whatever surrounds them.
     PlainContent,
-    /// ASCII characters that are so in a value, whatever its quotes are.
+    /// ASCII characters that are read in a value as themselves, whatever its quotes are.
     PlainValue,
 }
 
@@ -170,20 +170,20 @@ fn is_wide_first(bytes: &[u8]) -> bool
 /// What follows the characters of a class at the front. Most are ASCII, and are passed byte by
 /// byte.
 #[inline(always)]
-fn behind(text: &str, class: Class) -> &str
+fn skip_class(text: &str, class: Class) -> &str
     ensures exact { chars result.now ≡ after_front (passes class) (chars text.now) }
 {
     let len = ascii_len(text.as_bytes(), class);
     let rest = &text[len..];
     if is_wide_first(rest.as_bytes()) {
-        return behind_wide(rest, class);
+        return skip_class_by_character(rest, class);
     }
     rest
 }
 
-/// `behind`, character by character.
+/// `skip_class`, character by character.
 #[inline(never)]
-fn behind_wide(text: &str, class: Class) -> &str
+fn skip_class_by_character(text: &str, class: Class) -> &str
     ensures exact { chars result.now ≡ after_front (passes class) (chars text.now) }
 {
     let mut rest = text;
@@ -203,6 +203,6 @@ pub fn run(text: &str, class: Class) -> (&str, &str)
     ensures rest_after_run { chars result.1.now ≡ after_front (passes class) (chars text.now) }
     ensures front_of_text { result.0.now ≡ take (length result.0.now) text.now }
 {
-    let rest = behind(text, class);
+    let rest = skip_class(text, class);
     (text_before(text, rest), rest)
 }

@@ -132,7 +132,7 @@ fn raw_end<'a>(text: &'a str, first: char, after: &str) -> Option<&'a str>
 /// What follows the raw characters of content at the front: a `>` that would end `]]>`, or a
 /// character that isn't raw.
 #[inline(never)]
-fn behind_raw(text: &str) -> &str
+fn after_raw(text: &str) -> &str
     ensures exact { chars result.now ≡ after_without is_raw section_end (chars text.now) }
 {
     let mut rest = text;
@@ -150,7 +150,7 @@ pub fn content_run(text: &str) -> (&str, &str)
     ensures reads_rule { read_raw_run (chars text.now)
         ≡ Ok (chars result.0.now, chars result.1.now) }
 {
-    let rest = behind_raw(text);
+    let rest = after_raw(text);
     (text_before(text, rest), rest)
 }
 

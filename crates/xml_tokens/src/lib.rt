@@ -28,7 +28,7 @@ pub use encoding_characters::is_letter;
 pub use fault_kind::FaultKind;
 pub use fault_places::{before, place};
 pub use parse_error::ParseError;
-pub use raw_name::{RawName, end_tag, front_qname, opening, own_qname, owned_name, qname};
+pub use raw_name::{RawName, end_tag, front_qname, own_qname, owned_name, qname, tag_front_len};
 pub use text_buffers::{chars_of_text, name_part, no_text, text_of};
 pub use tokens::{
     equals, is_space_next, letter, name, sign, some_spaces, spaces, starts_with_name, word,

@@ -2,7 +2,7 @@
 ghost use Rattle.std.specs.Prelude.{◌≡◌, ◌+◌, ◌<◌, ◌≤◌, ◌^◌, suc, [], ◌∷◌, ◌++◌, chars, length};
 ghost use Rattle.std.specs.Prelude.{take, IfOk, IfSome};
 ghost use Rattle.xml_grammar.specs.TextReading.{read_word};
-ghost use Rattle.xml_grammar.specs.readers.Functions.{read_behind};
+ghost use Rattle.xml_grammar.specs.readers.Functions.{read_after};
 ghost use Rattle.xml_tokens.specs.readers.Results.{Gives};
 ghost use Rattle.xml_tokens.specs.Values.{written};
 ghost use Rattle.xml_tokens.specs.readers.Tokens.{colon_follows, read_name, read_qname};
@@ -13,7 +13,7 @@ ghost use Rattle.xml_tokens.specs.readers.Words.{colon, end_start};
 use crate::parse_error::ParseError;
 use crate::tokens::{after_bytes, letter, name, same, sign, spaces};
 use std::alloc::{AllocError, Global};
-use xml_grammar::{behind_next, count, is_next, is_over, nothing, split_first};
+use xml_grammar::{count, is_next, is_over, nothing, split_first, strip_char};
 use xml_names::{LocalName, Name, Prefix};
 
 /// A name in a text: its prefix, empty if it has none, and its local part.
@@ -43,9 +43,9 @@ pub fn qname(text: &str) -> Result<(RawName<'_>, &str), ParseError<'_>>
 
 /// The local part of a name after its prefix, and what follows it.
 #[inline(never)]
-fn behind_prefix(text: &str) -> Result<(&str, &str), ParseError<'_>>
+fn after_prefix(text: &str) -> Result<(&str, &str), ParseError<'_>>
     ensures reads_rule { Gives (λ x. (chars x.0.now, chars x.1.now)) result
-        (read_behind (read_word colon) read_name (chars text.now)) }
+        (read_after (read_word colon) read_name (chars text.now)) }
 {
     let rest = letter(text, ':')?;
     name(rest)
@@ -73,7 +73,7 @@ pub fn front_qname(text: &str) -> Result<(RawName<'_>, &str), ParseError<'_>>
             rest,
         ));
     }
-    let (local, rest) = behind_prefix(rest)?;
+    let (local, rest) = after_prefix(rest)?;
     Ok((
         RawName {
             prefix: first,
@@ -114,7 +114,7 @@ fn end_start(text: &str) -> Result<&str, ParseError<'_>>
     ensures reads_rule { Gives (λ rest. (tt, chars rest.now)) result
         (read_word end_start (chars text.now)) }
 {
-    match behind_next(text, '<') {
+    match strip_char(text, '<') {
         Some(rest) => sign(rest, '/'),
         None => Err(ParseError::Syntax(text)),
     }
@@ -123,14 +123,14 @@ fn end_start(text: &str) -> Result<&str, ParseError<'_>>
 /// What follows the end tag of an element of this name without a prefix, if it contains no white
 /// space.
 #[inline(always)]
-fn behind_plain_end<'a>(text: &'a str, local: &str) -> Option<&'a str>
+fn after_plain_end<'a>(text: &'a str, local: &str) -> Option<&'a str>
     ensures end_tag_rest { IfSome result
         (λ rest. chars text.now ≡ 60 ∷ 47 ∷ (chars local.now ++ 62 ∷ chars rest.now)) }
 {
-    let rest = behind_next(text, '<')?;
-    let rest = behind_next(rest, '/')?;
+    let rest = strip_char(text, '<')?;
+    let rest = strip_char(rest, '/')?;
     let rest = after_bytes(rest, local)?;
-    behind_next(rest, '>')
+    strip_char(rest, '>')
 }
 
 /// What follows the end tag of an element of a name of these parts.
@@ -154,7 +154,7 @@ fn local_end_tag<'a>(text: &'a str, local: &str) -> Result<&'a str, ParseError<'
     ensures reads_rule { Gives (λ rest. (tt, chars rest.now)) result
         (read_end_tag (record { prefix = []; local = chars local.now }) (chars text.now)) }
 {
-    if let Some(rest) = behind_plain_end(text, local) {
+    if let Some(rest) = after_plain_end(text, local) {
         return Ok(rest);
     }
     let rest = any_end_tag(text, nothing(), local)?;
@@ -251,7 +251,7 @@ fn own_prefixed_name(alloc: Global, text: &str) -> Result<(Name, RawName<'_>, &s
 
 /// How many characters of a tag of this name come before its attributes: `<` and the name.
 #[inline(always)]
-pub fn opening(name: &RawName<'_>) -> usize
+pub fn tag_front_len(name: &RawName<'_>) -> usize
     requires { 2 + length (chars name.now.prefix.now) + length (chars name.now.local.now) < 2 ^ 64 }
     ensures exact { result ≡ suc (length (written (name_in name.now))) }
     ensures is_no_more { result ≤ 2 + length (chars name.now.prefix.now) + length

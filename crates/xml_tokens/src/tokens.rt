@@ -11,7 +11,7 @@ ghost use Rattle.xml_tokens.specs.readers.Tokens.{read_equals};
 use crate::character_classes::{Class, run};
 use crate::parse_error::ParseError;
 use crate::plain_characters::is_plain_in_name;
-use xml_grammar::{behind_next, is_small_next, nothing, split_first};
+use xml_grammar::{is_small_next, nothing, split_first, strip_char};
 use xml_names::{is_name_char, is_name_start, is_space};
 
 /// What follows a fixed letter.
@@ -44,7 +44,7 @@ pub fn sign(text: &str, expected: char) -> Result<&str, ParseError<'_>>
     ensures reads_rule { Gives (λ rest. (tt, chars rest.now)) result
         (read_word (expected ∷ []) (chars text.now)) }
 {
-    match behind_next(text, expected) {
+    match strip_char(text, expected) {
         Some(rest) => Ok(rest),
         None => Err(ParseError::Syntax(text)),
     }

@@ -5,12 +5,12 @@ use Rattle.std.specs.Cmp.Lexicographic.{bytes_decides}
 use Rattle.xml_tree.specs.Tree.{Content, last, more, comment_node, more_of, Tree, tree_of, child_elements, child_elements_of, at}
 use Rattle.xml_names.specs.Attributes.{with_new_value, with_attr, without_attr, is_written_so as is_named}
 use Rattle.xml_tree.specs.Edits.{with_text_before, change, change_at, change_child, cut, put}
-use Rattle.xml_names.specs.Markup.{byte_len, opening, print_attr, print_comment, print_name, print_text}
+use Rattle.xml_names.specs.Markup.{byte_len, tag_front, print_attr, print_comment, print_name, print_text}
 use Rattle.xml_tree.specs.Print.{is_empty, print, print_content}
 use Rattle.xml_names.specs.declared.names.Name.{Name}
 use Rattle.xml_names.specs.declared.names.Attr.{Attr}
 use Rattle.xml_tree.proofs.AttrLemmas.{tested}
-use Rattle.xml_names.proofs.PrintLengths.{byte_len-append, byte_len-attr, byte_len-closing, byte_len-opening}
+use Rattle.xml_names.proofs.PrintLengths.{byte_len-append, byte_len-attr, byte_len-end_tag_text, byte_len-tag_front}
 use Rattle.xml_tree.proofs.PrintedNodes.{byte_len-bare, byte_len-whole, print-before}
 
 -- ---- the print of a content, part by part
@@ -44,12 +44,12 @@ nothing_inside (last (x ∷ t)) h = cc
 nothing_inside (more t n ds ats c rest) h = cc
 nothing_inside (comment_node t x rest) h = cc
 
-pub print-parts : (e : Tree) → byte_len (print e) ≡ byte_len (opening e.name e.decls e.attrs) + byte_len (print_content e.content) + ending_len e.name (is_empty e.content)
+pub print-parts : (e : Tree) → byte_len (print e) ≡ byte_len (tag_front e.name e.decls e.attrs) + byte_len (print_content e.content) + ending_len e.name (is_empty e.content)
 print-parts e = by (is_empty e.content) refl
   where
-    by : (b : Bool) → is_empty e.content ≡ b → byte_len (print e) ≡ byte_len (opening e.name e.decls e.attrs) + byte_len (print_content e.content) + ending_len e.name (is_empty e.content)
+    by : (b : Bool) → is_empty e.content ≡ b → byte_len (print e) ≡ byte_len (tag_front e.name e.decls e.attrs) + byte_len (print_content e.content) + ending_len e.name (is_empty e.content)
     by true h = omega (arith, byte_len-bare e h, nothing_inside e.content h, ap (ending_len e.name) h)
-    by false h = omega (arith, byte_len-whole e h, byte_len-closing e.name, ap (ending_len e.name) h)
+    by false h = omega (arith, byte_len-whole e h, byte_len-end_tag_text e.name, ap (ending_len e.name) h)
 
 -- ---- one child element
 
@@ -178,4 +178,4 @@ attrs-dropped n (a ∷ ats) =
 -- another list of attributes in a tag
 pub print-attrs : (e : Tree) (ats : List Attr) → byte_len (print (record e { attrs = ats })) + attrs_len e.attrs ≡ byte_len (print e) + attrs_len ats
 print-attrs e ats =
-    omega (arith, print-parts (record e { attrs = ats }), print-parts e, byte_len-opening e.name e.decls ats, byte_len-opening e.name e.decls e.attrs)
+    omega (arith, print-parts (record e { attrs = ats }), print-parts e, byte_len-tag_front e.name e.decls ats, byte_len-tag_front e.name e.decls e.attrs)

@@ -6,8 +6,8 @@ use Rattle.xml_tree.specs.Edits.{with_text_before}
 use Rattle.xml_tree.specs.Nodes.{content_of, AreNormal}
 use Rattle.xml_tree.specs.declared.tree.Node.{Node}
 use Rattle.xml_tree.specs.declared.tree.Node.TheVariants.{Elem, Chars, Comment}
-use Rattle.xml_names.specs.Markup.{byte_len, closing, opening, print_comment, print_text, text_escape}
-use Rattle.xml_tree.specs.Print.{ending, is_empty, print, print_content}
+use Rattle.xml_names.specs.Markup.{byte_len, end_tag_text, tag_front, print_comment, print_text, text_escape}
+use Rattle.xml_tree.specs.Print.{rest_of_element, is_empty, print, print_content}
 use Rattle.xml_tree.specs.inner.Print.{print_node}
 use Rattle.xml_names.proofs.ScopeLemmas.{drop_item}
 use Rattle.xml_names.proofs.PrintLengths.{byte_len-append, ascii}
@@ -15,7 +15,7 @@ use Rattle.xml_names.proofs.PrintLengths.{byte_len-append, ascii}
 pub print-before : (t : List ℕ) (c : Content) → print_content (with_text_before t c) ≡ print_text t ++ print_content c
 print-before t (last u) = flat_map-append text_escape t u
 print-before t (more u n ds ats c rest) =
-    let after = (opening n ds ats ++ ending n (is_empty c) (print_content c)) ++ print_content rest in
+    let after = (tag_front n ds ats ++ rest_of_element n (is_empty c) (print_content c)) ++ print_content rest in
     ap (λ l. l ++ after) (flat_map-append text_escape t u) ∙ append_assoc (print_text t) (print_text u) after
 print-before t (comment_node u x rest) =
     let after = print_comment x ++ print_content rest in
@@ -54,21 +54,21 @@ some_nodes [] k normal is h = absurd (h refl)
 some_nodes (n ∷ ns) k normal is h = ap is_empty (sym is) ∙ first n ns normal
 
 -- ---- an element without nodes, and one with nodes
-pub byte_len-bare : (e : Tree) → is_empty e.content ≡ true → byte_len (print e) ≡ byte_len (opening e.name e.decls e.attrs) + 2
+pub byte_len-bare : (e : Tree) → is_empty e.content ≡ true → byte_len (print e) ≡ byte_len (tag_front e.name e.decls e.attrs) + 2
 byte_len-bare e h =
-    byte_len-append (opening e.name e.decls e.attrs) (ending e.name (is_empty e.content) (print_content e.content))
-    ∙ ap (λ b. byte_len (opening e.name e.decls e.attrs) + byte_len (ending e.name b (print_content e.content))) h ∙ ap (λ n. byte_len (opening e.name e.decls e.attrs) + n) slash
+    byte_len-append (tag_front e.name e.decls e.attrs) (rest_of_element e.name (is_empty e.content) (print_content e.content))
+    ∙ ap (λ b. byte_len (tag_front e.name e.decls e.attrs) + byte_len (rest_of_element e.name b (print_content e.content))) h ∙ ap (λ n. byte_len (tag_front e.name e.decls e.attrs) + n) slash
   where
-    slash : byte_len (ending e.name true (print_content e.content)) ≡ 2
+    slash : byte_len (rest_of_element e.name true (print_content e.content)) ≡ 2
     slash = ascii 47 (62 ∷ []) (omega arith) ∙ ap (λ n. n + 1) (ascii 62 [] (omega arith))
 
 pub byte_len-whole : (e : Tree) → is_empty e.content ≡ false
-    → byte_len (print e) ≡ byte_len (opening e.name e.decls e.attrs) + byte_len (print_content e.content) + byte_len (closing e.name) + 1
+    → byte_len (print e) ≡ byte_len (tag_front e.name e.decls e.attrs) + byte_len (print_content e.content) + byte_len (end_tag_text e.name) + 1
 byte_len-whole e h =
-    let parts = byte_len-append (opening e.name e.decls e.attrs) (ending e.name (is_empty e.content) (print_content e.content)) in
-    let rest = ap (λ b. byte_len (ending e.name b (print_content e.content))) h in
-    let mark = ascii 62 (print_content e.content ++ closing e.name) (omega arith) in
-    let inside = byte_len-append (print_content e.content) (closing e.name) in
+    let parts = byte_len-append (tag_front e.name e.decls e.attrs) (rest_of_element e.name (is_empty e.content) (print_content e.content)) in
+    let rest = ap (λ b. byte_len (rest_of_element e.name b (print_content e.content))) h in
+    let mark = ascii 62 (print_content e.content ++ end_tag_text e.name) (omega arith) in
+    let inside = byte_len-append (print_content e.content) (end_tag_text e.name) in
     omega (arith, parts, rest, mark, inside)
 
 -- ---- sums capped at the greatest number

@@ -1,6 +1,6 @@
 //! The length of the print of an element, counted from the tree without printing.
 ghost use Rattle.std.specs.Prelude.{◌≡◌, min};
-ghost use Rattle.xml_names.specs.Markup.{byte_len, opening, print_comment};
+ghost use Rattle.xml_names.specs.Markup.{byte_len, tag_front, print_comment};
 ghost use Rattle.xml_tree.specs.Print.{print};
 ghost use Rattle.xml_tree.specs.inner.Print.{print_node};
 
@@ -11,7 +11,7 @@ use xml_names::{Text, attrs_len, decls_len, name_len, text_len};
 #[tactic(auto, using(xml_names::proofs::PrintLengths::lengths))]
 fn opening_len(element: &Element) -> usize
     ensures exact { result
-        ≡ min (byte_len (opening element.now.name element.now.decls element.now.attrs)) usize.MAX }
+        ≡ min (byte_len (tag_front element.now.name element.now.decls element.now.attrs)) usize.MAX }
 {
     let names = name_len(element.name());
     let lists = decls_len(element.decls()).saturating_add(attrs_len(element.attrs()));
@@ -33,16 +33,16 @@ fn comment_len(text: &Text) -> usize
 pub fn printed_len(element: &Element) -> usize
     ensures exact { result ≡ min (byte_len (print element.now)) usize.MAX }
 {
-    let opening = opening_len(element);
+    let tag_front = opening_len(element);
     let nodes = element.nodes();
     if nodes.is_empty() {
-        return opening.saturating_add(2);
+        return tag_front.saturating_add(2);
     }
     let mut inside = 0usize;
     for node in nodes {
         inside = inside.saturating_add(node_len(node));
     }
-    opening
+    tag_front
         .saturating_add(inside)
         .saturating_add(name_len(element.name()))
         .saturating_add(4)

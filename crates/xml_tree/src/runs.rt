@@ -57,7 +57,7 @@ fn with_text_before(nodes: &[Node], place: usize, more: &mut Vec<Node>) -> Resul
 
 // Appends a copy of the text at a place to other nodes, and returns where the text ends; or,
 // where there isn't a text, the place itself.
-fn with_text_behind(nodes: &[Node], place: usize, more: &mut Vec<Node>) -> Result<usize, AllocError>
+fn with_text_after(nodes: &[Node], place: usize, more: &mut Vec<Node>) -> Result<usize, AllocError>
     requires { place ≤ length nodes.now }
     ensures nodes_in_order { IfOk result
         (λ end. more.new.items ++ drop end nodes.now ≡ more.old.items ++ drop place nodes.now) }
@@ -89,7 +89,7 @@ pub(crate) fn exchange(
     ensures err_unchanged { OnErr result (content_of nodes.new.items ≡ content_of nodes.old.items) }
 {
     let start = with_text_before(nodes, from, &mut new)?;
-    let end = with_text_behind(nodes, to, &mut new)?;
+    let end = with_text_after(nodes, to, &mut new)?;
     let joined = joined_nodes(*nodes.allocator(), new)?;
     let _gone = nodes.splice(start..end, joined)?;
     Ok(())

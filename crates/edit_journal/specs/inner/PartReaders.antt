@@ -6,7 +6,7 @@ use Rattle.std.specs.Int.{w16, w32, to_be_bytes}
 use Rattle.httparse.specs.Grammar.{IsToken}
 use Rattle.http_wire.specs.declared.request.Field.{Field}
 use Rattle.http_wire.specs.declared.request.Request.{Request}
-use Rattle.http_wire.specs.Limits.{max_body_bytes, max_field_lines}
+use Rattle.http_wire.specs.declared.limits.TheConstants.{MAX_BODY_BYTES, MAX_FIELD_LINES}
 use Rattle.edit_journal.specs.Records.{method_number, block, field_text, record_content, record_of}
 use Rattle.edit_journal.specs.Texts.{IsRecordedRequest}
 use Rattle.edit_journal.specs.declared.field_parsers.FieldError.{FieldError}
@@ -46,7 +46,7 @@ Name least most bytes value = Block least most bytes value × IsToken value
 -- `left` bytes can have `count` fields and a body, and where there are no fields they are no
 -- longer than a body
 abbrev pub HasRoom : ℕ → ℕ → Type 0
-HasRoom count left = (9 * count + 4 ≤ left) × (count ≡ 0 → left ≤ max_body_bytes + 4)
+HasRoom count left = (9 * count + 4 ≤ left) × (count ≡ 0 → left ≤ MAX_BODY_BYTES + 4)
 
 -- the value of a field, where `left` bytes have it, `others` more fields and a body
 abbrev pub Value : ℕ → ℕ → List ℕ → List ℕ → Type 0
@@ -65,16 +65,16 @@ pub record FieldsAndBody (count left : ℕ) (bytes : List ℕ)
   pub is : bytes ≡ flat_map field_text value.0 ++ block value.1
   pub fields : length value.0 ≡ count
   pub names : All (λ (field : Field). IsToken field.name) value.0
-  pub body : length value.1 ≤ max_body_bytes
+  pub body : length value.1 ≤ MAX_BODY_BYTES
   pub size : length bytes ≡ left
 
 -- the number of fields, the fields and the body, which fill `left` bytes
 pub record Rest (left : ℕ) (bytes : List ℕ) (value : List Field × List ℕ) : Type 0 where
   pub is : bytes
       ≡ to_be_bytes w16 (length value.0) ++ (flat_map field_text value.0 ++ block value.1)
-  pub few : length value.0 ≤ max_field_lines
+  pub few : length value.0 ≤ MAX_FIELD_LINES
   pub names : All (λ (field : Field). IsToken field.name) value.0
-  pub body : length value.1 ≤ max_body_bytes
+  pub body : length value.1 ≤ MAX_BODY_BYTES
   pub size : length bytes ≡ left
 
 -- a recorded method, in one byte

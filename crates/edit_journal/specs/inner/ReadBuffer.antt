@@ -9,7 +9,7 @@ use Rattle.edit_journal.specs.declared.read_buffer.FillResult.TheVariants.{Some 
 use Rattle.edit_journal.specs.declared.read_buffer.FillResult.TheVariants.{Beyond}
 use Rattle.edit_journal.specs.declared.journal_restart.RestartFault.{RestartFault}
 use Rattle.edit_journal.specs.declared.journal_restart.RestartFault.TheVariants.{Damaged, NoMemory}
-use Rattle.edit_journal.specs.Limits.{max_journal_bytes}
+use Rattle.edit_journal.specs.declared.limits.TheConstants.{MAX_JOURNAL_BYTES}
 use Rattle.edit_journal.specs.Texts.{BeginsWith, HasNoRecord, IsTorn, IsDamaged}
 
 -- the bytes, and how many were read so far, with those that were used
@@ -30,7 +30,7 @@ Fills old new source source' (Ok Came) =
     (bytes : List ℕ) × (0 < length bytes) × Gave source source' bytes × (new ≡ with_bytes old bytes)
 Fills old new source source' (Ok End) = Gave source source' [] × IsEnded source' × (new ≡ old)
 Fills old new source source' (Ok Beyond) =
-    ((byte : ℕ) × Gave source source' (byte ∷ [])) × (old.taken ≡ max_journal_bytes) × (new ≡ old)
+    ((byte : ℕ) × Gave source source' (byte ∷ [])) × (old.taken ≡ MAX_JOURNAL_BYTES) × (new ≡ old)
 Fills old new source source' (Err e) = (source' ≡ source) × (new ≡ old)
 
 -- the record at the front was taken out, or none is complete, or the bytes from this offset on

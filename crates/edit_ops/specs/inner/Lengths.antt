@@ -18,18 +18,18 @@ end_tag_len n = byte_len (print_name n) + 2
 
 -- the child or the attribute that is removed, where it is there; with the last node the end tag
 -- is removed, too
-abbrev pub lost : Change → Tree → ℕ
-lost (CreateDocument root) e = 0
-lost (Insert parent gap element) e = 0
-lost (Replace p element) e = byte_len (print e)
-lost (Remove p) e =
+abbrev pub removed_len : Change → Tree → ℕ
+removed_len (CreateDocument root) e = 0
+removed_len (Insert parent gap element) e = 0
+removed_len (Replace p element) e = byte_len (print e)
+removed_len (Remove p) e =
     byte_len (flat_map print (option_to_list (slice_get (child_elements_of e) (own_number p))))
     + (if is_empty (cut (own_number p) e.content) then end_tag_len e.name else 0)
-lost (SetAttr p name value) e =
+removed_len (SetAttr p name value) e =
     byte_len (flat_map print_attr (option_to_list (find (is_written_so name) e.attrs)))
-lost (DropAttr p name) e =
+removed_len (DropAttr p name) e =
     byte_len (flat_map print_attr (option_to_list (find (is_written_so name) e.attrs)))
-lost RemoveDocument e = 0
+removed_len RemoveDocument e = 0
 
 -- the new child, the replacement or the new attribute; with the first node an end tag is added
 abbrev pub inserted_part : Change → Tree → ℕ

@@ -17,15 +17,15 @@ use Rattle.edit_rules.specs.declared.refusal.EditRefusal.TheVariants.{Faulty}
 use Rattle.edit_plans.specs.declared.child_attributes.AttributeEdit.{AttributeEdit}
 use Rattle.edit_plans.specs.inner.ChildChanges.{not_found_refusal}
 
--- by its first fault: a refusal, or some number where it has none
-abbrev pub IsTold : Option Fault → Result ℕ EditRefusal → Type 0
-IsTold None result = (n : ℕ) × (result ≡ Ok n)
-IsTold (Some fault) result = result ≡ Err (Faulty fault)
+-- by its first fault: a refusal with it, or Ok where there is no fault
+abbrev pub RefusesWithFault : Option Fault → Result ℕ EditRefusal → Type 0
+RefusesWithFault None result = (n : ℕ) × (result ≡ Ok n)
+RefusesWithFault (Some fault) result = result ≡ Err (Faulty fault)
 
 -- by its first fault in the application usage
 abbrev pub IsJudgedAs : Usage → Tree → Result ℕ EditRefusal → Type 0
 IsJudgedAs u after result =
-    (fault : Option Fault) × (HasFirstFault u after fault × IsTold fault result)
+    (fault : Option Fault) × (HasFirstFault u after fault × RefusesWithFault fault result)
 
 -- of a lawful change, or this refusal of one that isn't
 abbrev pub IsTestedAs : EditRefusal → Type 0 → Usage → Tree → Result ℕ EditRefusal → Type 0

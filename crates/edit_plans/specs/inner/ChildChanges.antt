@@ -2,11 +2,11 @@
 use Rattle.std.specs.Prelude.{◌≡◌, ◌⊎◌, ◌≤◌, ◌+◌, ◌-◌, ℕ, suc, cond, nat_lt, List, [], ◌∷◌, length}
 use Rattle.std.specs.Prelude.{remove, Option, None, Some, Result, Ok, Err, IsTrue}
 use Rattle.std.specs.Option.{ForSome, option_copied}
-use Rattle.node_select.specs.InsertionPoints.{IsLawfulInsertion, PlanIs}
+use Rattle.node_select.specs.InsertionPoints.{IsLawfulInsertion, IsInsertionPlan}
 use Rattle.doc_names.specs.declared.usages.Usage.{Usage}
 use Rattle.xml_tree.specs.Tree.{Tree, height, child_elements_of}
 use Rattle.xml_tree.specs.declared.tree.Node.TheVariants.{Elem}
-use Rattle.xml_names.specs.Limits.{max_levels}
+use Rattle.xml_names.specs.declared.limits.TheConstants.{MAX_LEVELS}
 use Rattle.node_select.specs.Selection.{SelectsChild, is_named, is_tested}
 use Rattle.node_select.specs.declared.selector.Step.{Step}
 use Rattle.usage_docs.specs.declared.schema_table.ElementKind.{ElementKind}
@@ -111,7 +111,7 @@ children_but context i q =
 pub record IsPlacedIn (context : ParentContext) (new : Tree) (q : List ℕ)
     (result : Result ℕ EditRefusal) : Type 0 where
   pub gap : Result ℕ EditRefusal
-  pub is_chosen : PlanIs CannotInsert (Faulty Invalid)
+  pub is_chosen : IsInsertionPlan CannotInsert (Faulty Invalid)
       (IsLawfulInsertion (is_named context.scope context.step)
       (is_tested context.scope context.step) context.step.position
       (child_elements_of context.element) new)
@@ -199,7 +199,7 @@ NoClash row c parent =
 
 -- the levels of a new element below the place of the parent are within the limit
 abbrev pub HasRoom : List ℕ → Tree → Type 0
-HasRoom q new = length q + suc (height new) ≤ max_levels
+HasRoom q new = length q + suc (height new) ≤ MAX_LEVELS
 
 -- the child is the one that the step selects under a parent whose children don't clash
 abbrev pub IsSelected : ParentContext → ℕ → Type 0

@@ -5,7 +5,7 @@ use Rattle.std.specs.Prelude.{if◌then◌else◌}
 use Rattle.std.specs.Str.{bytes_eq}
 use Rattle.xml_tree.specs.Edits.{own_number, parent_path}
 use Rattle.xml_names.specs.declared.names.Name.{Name}
-use Rattle.edit_ops.specs.MovedPaths.{behind, closed_up, made_room, under}
+use Rattle.edit_ops.specs.MovedPaths.{path_below, closed_up, made_room, under}
 use Rattle.edit_ops.specs.declared.change.Change.{Change}
 use Rattle.edit_ops.specs.declared.change.Change.TheVariants.{CreateDocument, Insert, Replace}
 use Rattle.edit_ops.specs.declared.change.Change.TheVariants.{Remove, SetAttr, DropAttr}
@@ -30,18 +30,19 @@ is_below_root (n ∷ p) = true
 
 -- whether an attribute of this name of the element at w touches the one at q
 abbrev pub is_touched : List ℕ → List ℕ → Name → Bool
-is_touched q w name = is_some (behind q w) || (is_some (behind w q) && bytes_eq name.prefix [])
+is_touched q w name = is_some (path_below q w)
+    || (is_some (path_below w q) && bytes_eq name.prefix [])
 
 -- where the element at q was before the change: None where the change inserted or touched it
 abbrev pub came_from : List ℕ → Change → Option (List ℕ)
 came_from q (CreateDocument root) = None
 came_from q (Insert parent gap element) =
-    if is_some (behind q parent) then None
-    else re_routed_if (without_gap gap) parent q (behind parent q)
+    if is_some (path_below q parent) then None
+    else re_routed_if (without_gap gap) parent q (path_below parent q)
 came_from q (Replace w element) =
-    if is_some (behind q w) || is_some (behind w q) then None else Some q
+    if is_some (path_below q w) || is_some (path_below w q) then None else Some q
 came_from q (Remove w) =
-    if is_below_root w && not (is_some (behind q (parent_path w)))
+    if is_below_root w && not (is_some (path_below q (parent_path w)))
     then Some (under (made_room (own_number w)) (parent_path w) q)
     else None
 came_from q (SetAttr w name value) = if is_touched q w name then None else Some q

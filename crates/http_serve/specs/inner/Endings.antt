@@ -4,9 +4,9 @@ use Rattle.xcap_io.specs.Causes.{StreamState}
 use Rattle.http_wire.specs.declared.close_reason.CloseReason.{CloseReason}
 use Rattle.http_serve.specs.Endings.{FaultsBy}
 
--- what a connection that ended so, or may go on, says about the fault counters
-abbrev pub FaultsSoFar : Option CloseReason → StreamState → StreamState → Type 0
-FaultsSoFar None old new =
+-- the fault counters by the close reason, or while the connection is open
+abbrev pub FaultsByEnding : Option CloseReason → StreamState → StreamState → Type 0
+FaultsByEnding None old new =
     (new.read_faults ≡ old.read_faults) × (new.write_faults ≡ old.write_faults)
-FaultsSoFar (Some ended) old new =
+FaultsByEnding (Some ended) old new =
     FaultsBy ended old.read_faults new.read_faults old.write_faults new.write_faults

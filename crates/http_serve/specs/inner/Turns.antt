@@ -1,6 +1,6 @@
 -- One turn of a connection: the next request is answered, reported and replied to. RFC 9112,
 -- sections 9.3 and 9.6.
-use Rattle.std.specs.Prelude.{◌≡◌, ℕ, ◌+◌, ◌⊎◌, Bool, true, false, List, ◌++◌, Option, None, Some}
+use Rattle.std.specs.Prelude.{◌≡◌, ℕ, ◌+◌, ◌⊎◌, true, false, List, ◌++◌, Option, None, Some}
 use Rattle.std.specs.Prelude.{option_to_list}
 use Rattle.reply_text.specs.ReplyHeads.{SentReply, bytes_of, plain}
 use Rattle.http_wire.specs.declared.request.Request.{Request}
@@ -8,7 +8,7 @@ use Rattle.http_wire.specs.declared.request.Asked.{Asked}
 use Rattle.http_wire.specs.declared.request.Asked.TheVariants.{Request as Requested, Bad, TooLong}
 use Rattle.http_wire.specs.declared.request.Asked.TheVariants.{Coded, End, NoMemory}
 use Rattle.http_wire.specs.NextRequests.{RequestReaderState}
-use Rattle.http_wire.specs.ServedConnections.{EndsBy, GoesOn}
+use Rattle.http_wire.specs.ServedConnections.{PendingInput, ItemAnswer, EndsBy, GoesOn}
 use Rattle.xcap_io.specs.Causes.{StreamState}
 use Rattle.xcap_io.specs.StreamTraffic.{Gave, Took}
 use Rattle.http_wire.specs.declared.close_reason.CloseReason.{CloseReason}
@@ -28,16 +28,6 @@ AsksRead NoMemory = Unit {0}
 abbrev pub IsFixed : {M E : Type 0} → ℕ → M → SentReply → Option E → M → Type 0
 IsFixed status machine reply edit next =
     (reply ≡ plain status true) × (edit ≡ None) × (next ≡ machine)
-
--- What a turn had and did: how many requests came before it, the bytes given after them, whether a
--- read found the end, the bytes written, the edit, if there was one, and what is buffered.
-pub record Turn (E : Type 0) : Type 0 where
-  pub before : ℕ
-  pub given : List ℕ
-  pub ended : Bool
-  pub written : List ℕ
-  pub edit : Option E
-  pub held : List ℕ
 
 -- a connection at one moment, with what it is served with
 pub record ConnectionState (M W : Type 0) : Type 0 where
@@ -59,14 +49,11 @@ module _ {M E : Type 0} (Step : M → Request → List ℕ → M → Option E �
   AnswersAsked machine NoMemory reply edit next = IsFixed 503 machine reply edit next
   AnswersAsked machine End reply edit next = ⊥
 
-  -- What a turn did: a request was answered, after which the connection goes on; or the connection
-  -- ended.
-  abbrev pub Did : Option CloseReason → M → Turn E → M → Type 0
-  Did None machine turn next =
-      GoesOn Step fixed_reply turn.before machine turn.given turn.written next turn.edit turn.held
-  Did (Some ended) machine turn next =
-      EndsBy Step fixed_reply ended turn.before machine turn.given turn.ended turn.written next
-      turn.edit
+  -- What a turn did: a request was answered, after which the connection goes on and these bytes
+  -- are buffered; or the connection ended.
+  abbrev pub Did : Option CloseReason → PendingInput → M → ItemAnswer M E → List ℕ → Type 0
+  Did None input machine answer held = GoesOn Step fixed_reply input machine answer held
+  Did (Some ended) input machine answer held = EndsBy Step fixed_reply ended input machine answer
 
   -- Some bytes were read and some written, and the watchers were notified of the edit, if there
   -- was one.
@@ -77,19 +64,17 @@ module _ {M E : Type 0} (Step : M → Request → List ℕ → M → Option E �
     pub edit : Option E
     pub gave : Gave old.stream.inward new.stream.inward read
     pub took : Took old.stream.taken new.stream.taken written
-    pub did : Did result old.machine
+    pub did : Did result
         (record {
           before = old.request_reader.requests;
           given = old.request_reader.held ++ read;
           ended = new.stream.inward.ended;
-          written = written;
-          edit = edit;
-          held = new.request_reader.held;
         })
-        new.machine
+        old.machine (record { written = written; next = new.machine; edit = edit })
+        new.request_reader.held
     pub kept : Keeps (option_to_list edit) old.watchers new.watchers
 
 -- A reader that returned a request which doesn't close goes on.
-pub record GivesOn (old new : RequestReaderState) : Type 0 where
+pub record KeepsOpen (old new : RequestReaderState) : Type 0 where
   pub requests : new.requests ≡ old.requests + 1
   pub open_still : new.spent ≡ false

@@ -11,7 +11,8 @@ use Rattle.http_wire.specs.declared.chunk_decoder.ChunkState.TheVariants.{SizeEn
 use Rattle.http_wire.specs.declared.chunk_decoder.ChunkState.TheVariants.{Trailers, Trailer}
 use Rattle.http_wire.specs.declared.chunk_decoder.ChunkState.TheVariants.{TrailerEnd, LastEnd, Done}
 use Rattle.http_wire.specs.declared.chunk_decoder.ChunkState.TheVariants.{Bad, TooLong}
-use Rattle.http_wire.specs.Limits.{max_body_bytes, max_digits, max_line_bytes, max_trailer_bytes}
+use Rattle.http_wire.specs.declared.limits.TheConstants.{MAX_BODY_BYTES, MAX_DIGITS, MAX_LINE}
+use Rattle.http_wire.specs.declared.limits.TheConstants.{MAX_TRAILER_BYTES}
 
 -- the decoder's state, and the data of the chunks so far, joined
 pub record Decoding : Type 0 where
@@ -46,7 +47,7 @@ is_settled TooLong = true
 abbrev pub after_digits : ℕ → ℕ → ℕ → ChunkState
 after_digits value len b =
     if b == carriage_return then SizeEnd value
-    else if nat_le (max_line_bytes - 2) len then Bad
+    else if nat_le MAX_LINE len then Bad
     else if is_ows b then Blank value (len + 1)
     else if b == semicolon then Extension value (len + 1)
     else Bad
@@ -56,8 +57,8 @@ after_digits value len b =
 abbrev pub in_digits : ℕ → ℕ → ℕ → ChunkState
 in_digits digits value b =
     if nat_lt (digit_value b) 16
-    then (if nat_lt digits max_digits
-    then Size (digits + 1) (min (value * 16 + digit_value b) (max_body_bytes + 1))
+    then (if nat_lt digits MAX_DIGITS
+    then Size (digits + 1) (min (value * 16 + digit_value b) (MAX_BODY_BYTES + 1))
     else Bad)
     else if digits == 0 then Bad
     else after_digits value digits b
@@ -66,7 +67,7 @@ in_digits digits value b =
 abbrev pub in_extension : ℕ → ℕ → ℕ → ChunkState
 in_extension value len b =
     if b == carriage_return then SizeEnd value
-    else if nat_le (max_line_bytes - 2) len then Bad
+    else if nat_le MAX_LINE len then Bad
     else if is_value_byte b then Extension value (len + 1)
     else Bad
 
@@ -75,7 +76,7 @@ abbrev pub after_line : ℕ → ℕ → ℕ → ChunkState
 after_line value decoded b =
     if not (b == line_feed) then Bad
     else if value == 0 then Trailers 0
-    else if nat_le (decoded + value) max_body_bytes then Data value
+    else if nat_le (decoded + value) MAX_BODY_BYTES then Data value
     else TooLong
 
 -- a byte after the data of a chunk
@@ -87,7 +88,7 @@ abbrev pub in_trailers : ℕ → ℕ → ChunkState → ChunkState
 in_trailers used b end =
     if b == carriage_return then end
     else if b == line_feed then Bad
-    else if nat_le (used + 3) max_trailer_bytes then Trailer (used + 1)
+    else if nat_le (used + 3) MAX_TRAILER_BYTES then Trailer (used + 1)
     else Bad
 
 -- the expected line feed
@@ -140,30 +141,30 @@ ReadsOn d (b ∷ bytes) new = (is_settled d.stage ≡ false) × ReadsOn (next_de
 -- the numbers of a state are within the limits, and the chunk's missing bytes fit the body
 abbrev pub Fits : ChunkState → ℕ → Type 0
 Fits (Size digits value) decoded =
-    (digits ≤ max_digits) × (value ≤ max_body_bytes + 1) × (decoded ≤ max_body_bytes)
+    (digits ≤ MAX_DIGITS) × (value ≤ MAX_BODY_BYTES + 1) × (decoded ≤ MAX_BODY_BYTES)
 Fits (Blank value len) decoded =
-    (value ≤ max_body_bytes + 1) × (len ≤ max_line_bytes - 2) × (decoded ≤ max_body_bytes)
+    (value ≤ MAX_BODY_BYTES + 1) × (len ≤ MAX_LINE) × (decoded ≤ MAX_BODY_BYTES)
 Fits (Extension value len) decoded =
-    (value ≤ max_body_bytes + 1) × (len ≤ max_line_bytes - 2) × (decoded ≤ max_body_bytes)
-Fits (SizeEnd value) decoded = (value ≤ max_body_bytes + 1) × (decoded ≤ max_body_bytes)
-Fits (Data left) decoded = decoded + left ≤ max_body_bytes
-Fits DataEnd decoded = decoded ≤ max_body_bytes
-Fits (Trailers used) decoded = (used ≤ max_trailer_bytes) × (decoded ≤ max_body_bytes)
-Fits (Trailer used) decoded = (used + 2 ≤ max_trailer_bytes) × (decoded ≤ max_body_bytes)
-Fits (TrailerEnd used) decoded = (used + 1 ≤ max_trailer_bytes) × (decoded ≤ max_body_bytes)
-Fits LastEnd decoded = decoded ≤ max_body_bytes
-Fits Done decoded = decoded ≤ max_body_bytes
-Fits Bad decoded = decoded ≤ max_body_bytes
-Fits TooLong decoded = decoded ≤ max_body_bytes
+    (value ≤ MAX_BODY_BYTES + 1) × (len ≤ MAX_LINE) × (decoded ≤ MAX_BODY_BYTES)
+Fits (SizeEnd value) decoded = (value ≤ MAX_BODY_BYTES + 1) × (decoded ≤ MAX_BODY_BYTES)
+Fits (Data left) decoded = decoded + left ≤ MAX_BODY_BYTES
+Fits DataEnd decoded = decoded ≤ MAX_BODY_BYTES
+Fits (Trailers used) decoded = (used ≤ MAX_TRAILER_BYTES) × (decoded ≤ MAX_BODY_BYTES)
+Fits (Trailer used) decoded = (used + 2 ≤ MAX_TRAILER_BYTES) × (decoded ≤ MAX_BODY_BYTES)
+Fits (TrailerEnd used) decoded = (used + 1 ≤ MAX_TRAILER_BYTES) × (decoded ≤ MAX_BODY_BYTES)
+Fits LastEnd decoded = decoded ≤ MAX_BODY_BYTES
+Fits Done decoded = decoded ≤ MAX_BODY_BYTES
+Fits Bad decoded = decoded ≤ MAX_BODY_BYTES
+Fits TooLong decoded = decoded ≤ MAX_BODY_BYTES
 
 -- an upper bound of how many more bytes can be read before the state is settled
 abbrev pub bytes_left : ChunkState → ℕ → ℕ
-bytes_left (Size digits value) decoded = (max_body_bytes + 1 - decoded) * 1000 + 20_000 - digits
-bytes_left (Blank value len) decoded = (max_body_bytes + 1 - decoded) * 1000 + 20_000 - len
-bytes_left (Extension value len) decoded = (max_body_bytes + 1 - decoded) * 1000 + 20_000 - len
-bytes_left (SizeEnd value) decoded = (max_body_bytes + 1 - decoded) * 1000 + 19_700
-bytes_left (Data left) decoded = (max_body_bytes + 1 - (decoded + left)) * 1000 + 20_002 + left
-bytes_left DataEnd decoded = (max_body_bytes + 1 - decoded) * 1000 + 20_001
+bytes_left (Size digits value) decoded = (MAX_BODY_BYTES + 1 - decoded) * 1000 + 20_000 - digits
+bytes_left (Blank value len) decoded = (MAX_BODY_BYTES + 1 - decoded) * 1000 + 20_000 - len
+bytes_left (Extension value len) decoded = (MAX_BODY_BYTES + 1 - decoded) * 1000 + 20_000 - len
+bytes_left (SizeEnd value) decoded = (MAX_BODY_BYTES + 1 - decoded) * 1000 + 19_700
+bytes_left (Data left) decoded = (MAX_BODY_BYTES + 1 - (decoded + left)) * 1000 + 20_002 + left
+bytes_left DataEnd decoded = (MAX_BODY_BYTES + 1 - decoded) * 1000 + 20_001
 bytes_left (Trailers used) decoded = 17_000 - used
 bytes_left (Trailer used) decoded = 17_000 - used
 bytes_left (TrailerEnd used) decoded = 17_000 - used

@@ -16,18 +16,14 @@ use Rattle.http_wire.specs.declared.framing.Framing.TheVariants.{TooLong as Long
 use Rattle.http_wire.specs.declared.framing.Framing.TheVariants.{Chunked}
 use Rattle.http_wire.specs.declared.body_decoder.DecodeResult.{DecodeResult}
 use Rattle.http_wire.specs.declared.body_decoder.DecodeResult.TheVariants.{Whole, TooLong, Bad, Cut}
-use Rattle.http_wire.specs.Limits.{max_body_bytes, max_head_bytes}
+use Rattle.http_wire.specs.declared.limits.TheConstants.{MAX_BODY_BYTES, MAX_HEAD_BYTES}
 use Rattle.http_wire.specs.Framing.{framing}
 use Rattle.http_wire.specs.inner.ChunkDecoder.{Decoding, start, is_settled, ReadsOn}
 use Rattle.http_wire.specs.ChunkedBodies.{ChunkedBody, ReadsBody, HasNoBody, MayBecomeBody}
 use Rattle.http_wire.specs.ChunkedBodies.{PassesLimit}
 use Rattle.http_wire.specs.ChunkedBodies.{chunk_data}
 use Rattle.http_wire.specs.NextRequests.{BufferedSource}
-use Rattle.http_wire.specs.declared.limits.TheConstants.{MAX_HELD}
-
--- the capacity of the read buffer
-abbrev pub max_held_bytes : ℕ
-max_held_bytes = MAX_HELD
+use Rattle.http_wire.specs.declared.limits.TheConstants.{MAX_HELD_BYTES}
 
 -- no prefix of the bytes is a head, whatever follows them
 abbrev pub NeverHasHead : List ℕ → Type 0
@@ -59,7 +55,7 @@ pub record IsHeadAt (bytes : List ℕ) (headers : List HeaderSpan) (spans : Requ
 -- the result of a head scan is right
 abbrev pub IsFront : List ℕ → List HeaderSpan → HeadScan → Type 0
 IsFront bytes headers (Head spans) = (head : RequestHead) × IsHeadAt bytes headers spans head
-IsFront bytes headers Open = HasNoHead bytes × (length bytes < max_head_bytes)
+IsFront bytes headers Open = HasNoHead bytes × (length bytes < MAX_HEAD_BYTES)
 IsFront bytes headers Hopeless = NeverHasHead bytes × (0 < length bytes)
 
 -- a head is at the front, or none is possible however the bytes go on, or none because they have
@@ -82,7 +78,7 @@ abbrev pub IsWithinLimit : Framing → Type 0
 IsWithinLimit BadFields = Unit {0}
 IsWithinLimit Coded = Unit {0}
 IsWithinLimit LongBody = Unit {0}
-IsWithinLimit (Length len) = len ≤ max_body_bytes
+IsWithinLimit (Length len) = len ≤ MAX_BODY_BYTES
 IsWithinLimit Chunked = Unit {0}
 
 -- the bytes begin with a complete body within the limit, and then the rest
@@ -90,7 +86,7 @@ pub record HasBody (raw body rest : List ℕ) : Type 0 where
   pub whole : ChunkedBody
   pub reads : ReadsBody raw whole rest
   pub gives : chunk_data whole.chunks ≡ body
-  pub short : length body ≤ max_body_bytes
+  pub short : length body ≤ MAX_BODY_BYTES
 
 -- no body is at the front of the bytes, and the limit isn't passed
 abbrev pub HasNoBodyYet : List ℕ → Type 0
@@ -130,4 +126,4 @@ pub record DecodesSoFar (head : ℕ) (old : BufferedSource) (decoder : Decoding)
   pub reads : ReadsOn start raw decoder
   pub split : drop head old.held ++ read ≡ raw ++ drop (head + used) new.held
   pub all : is_settled decoder.stage ≡ false → head + used ≡ length new.held
-  pub room : length new.held ≤ max_held_bytes
+  pub room : length new.held ≤ MAX_HELD_BYTES

@@ -13,6 +13,6 @@ use Rattle.list_resolve.specs.Walks.{Item, kind_items, walked}
 abbrev pub child_items : (Reference → List Item) → List ℕ → ElementKind → Scope → Tree → List Item
 child_items behind root row c child_element =
     option_map_or (λ kind.
-    kind_items behind root kind child_element.attrs child_element.content
+    kind_items behind root kind child_element
     (walked behind root EntryList (inside c child_element) child_element.content))
     (kind_of row (inside c child_element) child_element.name) []

@@ -13,7 +13,8 @@ use Rattle.xcap_uri.proofs.TargetAnswers.{some_target}
 use Rattle.list_resolve.specs.declared.document_place.Place.{Place}
 use Rattle.list_resolve.specs.declared.reference.Reference.{Reference}
 use Rattle.list_resolve.specs.ScopedElements.{ScopedElement, list_element}
-use Rattle.list_resolve.specs.Resolution.{ResolutionContext, ResolvedReference, lead_of, tree_held}
+use Rattle.list_resolve.specs.Resolution.{ResolutionContext, ResolvedReference, resolve_target}
+use Rattle.list_resolve.specs.Resolution.{tree_held}
 use Rattle.list_resolve.specs.Walks.{Item, address, mark, scoped_element_items}
 use Rattle.list_resolve.specs.inner.WalkStates.{FlatError, Gathered, Fails, with_items}
 
@@ -25,7 +26,7 @@ target_meant root target = (some_target root (encode_utf8_all target)).0
 
 -- where a reference leads, by that result
 abbrev pub reference_resolved_in : ResolutionContext → Reference → Option ResolvedReference
-reference_resolved_in g r = lead_of g r.wanted (target_meant g.root r.target)
+reference_resolved_in g r = resolve_target g r.wanted (target_meant g.root r.target)
 
 -- ---- what need not be walked again
 

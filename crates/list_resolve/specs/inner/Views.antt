@@ -10,8 +10,8 @@ use Rattle.list_resolve.specs.Resolution.{ResolutionContext, ResolvedReference}
 abbrev pub scoped_element_in : CodeSpot → ScopedElement
 scoped_element_in s = record { kind = s.kind; scope = s.scope; element = s.element.now }
 
-abbrev pub lead_in : CodeLead → ResolvedReference
-lead_in l = record { place = l.place; scoped_element = scoped_element_in l.scoped_element }
+abbrev pub resolved_in : CodeLead → ResolvedReference
+resolved_in l = record { place = l.place; scoped_element = scoped_element_in l.scoped_element }
 
 abbrev pub context_in : CodeGround → ResolutionContext
 context_in g =

@@ -36,8 +36,8 @@ gathered_code =
 abbrev pub no_items : Tally
 no_items = record { uris = []; marks = 0 }
 
-abbrev pub nothing : Gathered
-nothing = record { tally = no_items; passed = [] }
+abbrev pub empty_walk : Gathered
+empty_walk = record { tally = no_items; passed = [] }
 
 -- with one more item
 abbrev pub with_item : Tally → Item → Tally
@@ -48,12 +48,12 @@ with_item s mark = record { uris = s.uris; marks = s.marks + 1 }
 abbrev pub with_items : Tally → List Item → Tally
 with_items s items = fold with_item s items
 
-abbrev pub gathering : Gathered → Item → Gathered
-gathering s item = record { tally = with_item s.tally item; passed = s.passed }
+abbrev pub with_collected_item : Gathered → Item → Gathered
+with_collected_item s item = record { tally = with_item s.tally item; passed = s.passed }
 
 -- with one more place, unless it is there already
-abbrev pub passing : Gathered → Place → Gathered
-passing s place =
+abbrev pub with_visited_place : Gathered → Place → Gathered
+with_visited_place s place =
     record {
       tally = s.tally;
       passed = if is_on s.passed place then s.passed else (s.passed ++ place ∷ []);

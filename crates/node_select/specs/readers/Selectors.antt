@@ -5,13 +5,13 @@ use Rattle.xml_names.specs.declared.names.Name.{Name}
 use Rattle.std.specs.Char.{is_ascii_digit}
 use Rattle.xml_grammar.specs.TextReading.{Reader, head_is, starts, read_word, read_sequence}
 use Rattle.xml_grammar.specs.TextReading.{read_valued, read_some_of}
-use Rattle.xml_grammar.specs.readers.Functions.{read_either, read_many, read_sized, read_only}
+use Rattle.xml_grammar.specs.readers.Functions.{read_either, read_many, read_with_length, read_only}
 use Rattle.xml_grammar.specs.readers.Functions.{read_optional, read_between, read_before}
-use Rattle.xml_grammar.specs.readers.Functions.{read_behind, read_quoted}
+use Rattle.xml_grammar.specs.readers.Functions.{read_after, read_quoted}
 use Rattle.xml_tokens.specs.declared.fault_kind.FaultKind.{FaultKind}
 use Rattle.xml_tokens.specs.Tokens.{is_quote}
 use Rattle.xml_tokens.specs.readers.Tokens.{read_qname, read_reference, read_raw, reference_follows}
-use Rattle.node_select.specs.Grammar.{position_of, names_attribute, literal_value}
+use Rattle.node_select.specs.Grammar.{position_of, is_attribute_name, literal_value}
 use Rattle.node_select.specs.readers.SelectorValues.{first_step_of}
 use Rattle.node_select.specs.readers.Words.{slash, star, at_sign, open_bracket, close_bracket}
 use Rattle.node_select.specs.readers.Words.{equals_sign, namespaces, text_test}
@@ -36,11 +36,11 @@ position_follows t = head_is (λ c. c == 91) t && not (starts (open_bracket ++ a
 
 abbrev pub read_position : Reader FaultKind ℕ
 read_position =
-    read_behind (read_word open_bracket)
+    read_after (read_word open_bracket)
     (read_before (read_valued position_of (read_some_of is_ascii_digit)) (read_word close_bracket))
 
 abbrev pub read_attribute : Reader FaultKind Name
-read_attribute = read_behind (read_word at_sign) (read_only names_attribute read_qname)
+read_attribute = read_after (read_word at_sign) (read_only is_attribute_name read_qname)
 
 abbrev pub read_inside_quotes : ℕ → Reader FaultKind (List ℕ)
 read_inside_quotes quote =
@@ -54,16 +54,17 @@ test_follows = head_is (λ c. c == 91)
 
 abbrev pub read_test : Reader FaultKind (Name × List ℕ)
 read_test =
-    read_behind (read_word open_bracket)
+    read_after (read_word open_bracket)
     (read_before
-    (read_sequence read_attribute (λ _. read_behind (read_word equals_sign) read_value))
+    (read_sequence read_attribute (λ _. read_after (read_word equals_sign) read_value))
     (read_word close_bracket))
 
 abbrev pub read_step : Reader FaultKind RawStep
 read_step =
     read_valued raw_step_of
-    (read_sized (read_sequence
-    (read_sized (read_sequence read_node_name (λ _. read_optional position_follows read_position)))
+    (read_with_length (read_sequence
+    (read_with_length (read_sequence read_node_name
+    (λ _. read_optional position_follows read_position)))
     (λ _. read_optional test_follows read_test)))
 
 -- ---- selectors
@@ -80,7 +81,7 @@ step_follows t =
     slash_follows t && not (starts (slash ++ at_sign) t || starts (slash ++ namespace_axis) t)
 
 abbrev pub read_next_step : Reader FaultKind RawStep
-read_next_step = read_behind (read_word slash) read_step
+read_next_step = read_after (read_word slash) read_step
 
 abbrev pub read_steps : (List ℕ → Bool) → Reader FaultKind (List RawStep)
 read_steps follows =
@@ -98,7 +99,7 @@ abbrev pub read_selector : Reader FaultKind RawSelector
 read_selector =
     read_sequence (read_steps step_follows) (λ _.
     read_valued end_or_element
-    (read_optional slash_follows (read_behind (read_word slash) read_end)))
+    (read_optional slash_follows (read_after (read_word slash) read_end)))
 
 -- ---- selectors of patches
 
@@ -114,7 +115,7 @@ abbrev pub read_patch_end : Reader FaultKind RawPatchEnd
 read_patch_end =
     read_either attribute_follows (read_valued PatchAttribute read_attribute)
     (read_valued PatchChars
-    (read_behind (read_word text_test) (read_optional test_follows read_position)))
+    (read_after (read_word text_test) (read_optional test_follows read_position)))
 
 abbrev pub read_patch_selector : Reader FaultKind RawPatchSelector
 read_patch_selector =
@@ -123,4 +124,4 @@ read_patch_selector =
     read_sequence (read_steps patch_step_follows)
     (λ _.
     read_valued patch_end_or_element
-    (read_optional slash_follows (read_behind (read_word slash) read_patch_end))))
+    (read_optional slash_follows (read_after (read_word slash) read_patch_end))))

@@ -19,7 +19,7 @@ EditsAs stated new (Ok done) = stated ≡ Ok new
 EditsAs stated new (Err wrong) = stated ≡ Err (wrong_in wrong)
 
 -- a stated fault is reported as itself
-pub record IsTold {Y : Type 0} (stated : Result Y replay.CopyFault)
+pub record IsStatedFault {Y : Type 0} (stated : Result Y replay.CopyFault)
     (fault : ApplyFault) : Type 0 where
   pub stated_fault : replay.CopyFault
   pub is : stated ≡ Err stated_fault
@@ -29,7 +29,7 @@ pub record IsTold {Y : Type 0} (stated : Result Y replay.CopyFault)
 abbrev pub AreGiven : {X Y : Type 0} → (X → Y) → Result Y replay.CopyFault → Result X ApplyFault
     → Type 0
 AreGiven view stated (Ok x) = stated ≡ Ok (view x)
-AreGiven view stated (Err fault) = IsTold stated fault
+AreGiven view stated (Err fault) = IsStatedFault stated fault
 
 -- for a diff document: the stated answer and the stated replica; or the stated fault, or out of
 -- memory, and the replica is unchanged
@@ -37,5 +37,5 @@ abbrev pub AppliesAs : Result (replay.CopyAnswer × replay.ReplicaContents) repl
     → replay.ReplicaContents → Result Applied (ReadError ApplyFault) → replay.ReplicaContents
     → Type 0
 AppliesAs stated old (Ok answer) new = stated ≡ Ok (answer_in answer, new)
-AppliesAs stated old (Err (Fault fault)) new = IsTold stated fault × (new ≡ old)
+AppliesAs stated old (Err (Fault fault)) new = IsStatedFault stated fault × (new ≡ old)
 AppliesAs stated old (Err NoMemory) new = new ≡ old

@@ -17,18 +17,18 @@ abbrev pub renewed_copy : ℕ → List (List Decl) → List Tree → Option (Lis
     → Result DocumentOutcome CopyFault
 renewed_copy = words.renewed_copy reading_in
 
-abbrev pub by_tags : ℕ → List (List Decl) → List Tree → Option (List ℕ) → Option (List ℕ)
-    → ReplicaContents → Result DocumentOutcome CopyFault
-by_tags = words.by_tags reading_in
+abbrev pub outcome_by_previous_tag : ℕ → List (List Decl) → List Tree → Option (List ℕ)
+    → Option (List ℕ) → ReplicaContents → Result DocumentOutcome CopyFault
+outcome_by_previous_tag = words.outcome_by_previous_tag reading_in
 
-abbrev pub document_taken : ℕ → List (List Decl) → Tree → ReplicaContents
+abbrev pub outcome_of_document : ℕ → List (List Decl) → Tree → ReplicaContents
     → Result DocumentOutcome CopyFault
-document_taken = words.document_taken reading_in
+outcome_of_document = words.outcome_of_document reading_in
 
-abbrev pub all_taken : ℕ → List (List Decl) → List Tree → ReplicaContents
+abbrev pub outcome_of_documents : ℕ → List (List Decl) → List Tree → ReplicaContents
     → Result (Option ReplicaContents) CopyFault
-all_taken = words.all_taken reading_in
+outcome_of_documents = words.outcome_of_documents reading_in
 
-abbrev pub replayed : (List ℕ → Bool) → Tree → ReplicaContents
+abbrev pub replay_outcome : (List ℕ → Bool) → Tree → ReplicaContents
     → Result (CopyAnswer × ReplicaContents) CopyFault
-replayed = words.replayed reading_in
+replay_outcome = words.replay_outcome reading_in

@@ -7,10 +7,10 @@ use Rattle.xcap_uri.specs.declared.target.Mode.{Mode}
 use Rattle.xcap_uri.specs.declared.target.Mode.TheVariants.{NoPatching, XcapPatching, Aggregate}
 
 -- the change records whose operations it has
-abbrev pub told_notes : Mode → List Note → List Note
-told_notes NoPatching ns = []
-told_notes XcapPatching ns = ns
-told_notes Aggregate ns = ns
+abbrev pub reported_notes : Mode → List Note → List Note
+reported_notes NoPatching ns = []
+reported_notes XcapPatching ns = ns
+reported_notes Aggregate ns = ns
 
 -- its `document` elements
 abbrev pub documents_of : Mode → List ℕ → List ℕ → ℕ → List Note → List Tree

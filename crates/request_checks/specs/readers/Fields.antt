@@ -14,9 +14,9 @@ abbrev pub entity_tag : Bool → List ℕ → EntityTag
 entity_tag weak opaque = record { weak = weak; opaque = opaque }
 
 -- the text after leading blanks
-abbrev pub behind_blanks : List ℕ → List ℕ
-behind_blanks [] = []
-behind_blanks (c ∷ cs) = if is_ows_byte c then behind_blanks cs else c ∷ cs
+abbrev pub after_blanks : List ℕ → List ℕ
+after_blanks [] = []
+after_blanks (c ∷ cs) = if is_ows_byte c then after_blanks cs else c ∷ cs
 
 -- the text doesn't begin with a blank
 abbrev pub IsTrimmed : List ℕ → Type 0
@@ -28,31 +28,33 @@ abbrev pub opaque_front : List ℕ → List ℕ
 opaque_front s = take_while is_tag_byte s
 
 -- the text after this byte, if it begins with it
-abbrev pub behind_byte : ℕ → List ℕ → Option (List ℕ)
-behind_byte b [] = None
-behind_byte b (c ∷ cs) = if c == b then Some cs else None
+abbrev pub after_byte : ℕ → List ℕ → Option (List ℕ)
+after_byte b [] = None
+after_byte b (c ∷ cs) = if c == b then Some cs else None
 
 -- the text after those bytes and the closing quote (34), if it is there
-abbrev pub closed : List ℕ → Option (List ℕ)
-closed s = behind_byte 34 (drop (prefix_len is_tag_byte s) s)
+abbrev pub after_closing_quote : List ℕ → Option (List ℕ)
+after_closing_quote s = after_byte 34 (drop (prefix_len is_tag_byte s) s)
 
-abbrev pub quoted : Bool → List ℕ → Option (EntityTag × List ℕ)
-quoted weak s = option_map (λ rest. (entity_tag weak (opaque_front s), rest)) (closed s)
+abbrev pub quoted_tag : Bool → List ℕ → Option (EntityTag × List ℕ)
+quoted_tag weak s =
+    option_map (λ rest. (entity_tag weak (opaque_front s), rest)) (after_closing_quote s)
 
 -- the tag after its `W/`: a quote (34) follows
-abbrev pub behind_slash : List ℕ → Option (EntityTag × List ℕ)
-behind_slash [] = None
-behind_slash (c ∷ cs) = if c == 34 then quoted true cs else None
+abbrev pub after_slash : List ℕ → Option (EntityTag × List ℕ)
+after_slash [] = None
+after_slash (c ∷ cs) = if c == 34 then quoted_tag true cs else None
 
 -- the tag after its `W`: `/` (47) follows
-abbrev pub behind_letter : List ℕ → Option (EntityTag × List ℕ)
-behind_letter [] = None
-behind_letter (c ∷ cs) = if c == 47 then behind_slash cs else None
+abbrev pub after_letter : List ℕ → Option (EntityTag × List ℕ)
+after_letter [] = None
+after_letter (c ∷ cs) = if c == 47 then after_slash cs else None
 
 -- the tag at the front, which begins with a quote (34) or `W` (87), and the text after it
 abbrev pub first_tag : List ℕ → Option (EntityTag × List ℕ)
 first_tag [] = None
-first_tag (c ∷ cs) = if c == 34 then quoted false cs else if c == 87 then behind_letter cs else None
+first_tag (c ∷ cs) =
+    if c == 34 then quoted_tag false cs else if c == 87 then after_letter cs else None
 
 -- ---- a list of tags
 
@@ -95,14 +97,15 @@ tags_from Behind (c ∷ cs) =
 -- ---- a field
 
 -- a list has at least one tag
-abbrev pub listed : Option (List EntityTag) → Option FieldValue
-listed None = None
-listed (Some []) = None
-listed (Some (t ∷ ts)) = Some (Tags (t ∷ ts))
+abbrev pub tags_value : Option (List EntityTag) → Option FieldValue
+tags_value None = None
+tags_value (Some []) = None
+tags_value (Some (t ∷ ts)) = Some (Tags (t ∷ ts))
 
 -- the reading of a field's text, if it can be read
 abbrev pub text_value : List ℕ → Option FieldValue
-text_value text = if bytes_eq text (codes "*") then Some Star else listed (tags_from Before text)
+text_value text =
+    if bytes_eq text (codes "*") then Some Star else tags_value (tags_from Before text)
 
 -- the reading of a field's lines, if they can be read
 abbrev pub field_value : List (List ℕ) → Option FieldValue
@@ -112,11 +115,12 @@ field_value (line ∷ lines) = text_value (comma_joined (line ∷ lines))
 -- ---- both fields
 
 -- the readings of both, if each can be read
-abbrev pub both : Option FieldValue → Option FieldValue → Option Preconditions
-both None if_none_match = None
-both (Some a) None = None
-both (Some a) (Some b) = Some (record { if_match = a; if_none_match = b })
+abbrev pub both_conditions : Option FieldValue → Option FieldValue → Option Preconditions
+both_conditions None if_none_match = None
+both_conditions (Some a) None = None
+both_conditions (Some a) (Some b) = Some (record { if_match = a; if_none_match = b })
 
 -- what the lines of both say, if each can be read
 abbrev pub conditions_of : List (List ℕ) → List (List ℕ) → Option Preconditions
-conditions_of if_match if_none_match = both (field_value if_match) (field_value if_none_match)
+conditions_of if_match if_none_match =
+    both_conditions (field_value if_match) (field_value if_none_match)

@@ -1,5 +1,5 @@
--- How a change is planned: why a tree is refused, by what was found of it; the result of planning;
--- what a step makes of the entries.
+-- How a change is planned: why a tree is refused, from what was found in it; the result of
+-- planning; what a step makes of the entries.
 use Rattle.std.specs.Prelude.{◌≡◌, ℕ, ◌+◌, min, nat_lt, Bool, true, false, not, List, [], ◌∷◌, ◌++◌}
 use Rattle.std.specs.Prelude.{map, filter, Option, None, Some, option_map, Result, Ok, Err}
 use Rattle.std.specs.Prelude.{if◌then◌else◌}
@@ -16,7 +16,7 @@ use Rattle.edit_ops.specs.Changes.{Fits, edited}
 use Rattle.edit_ops.specs.Lengths.{element_len}
 use Rattle.edit_ops.specs.declared.change.Change.{Change}
 use Rattle.edit_ops.specs.Notes.{Note, note_of}
-use Rattle.store_core.specs.Limits.{max_bytes, max_bytes_together}
+use Rattle.store_core.specs.declared.limits.TheConstants.{MAX_DOCUMENT_BYTES, MAX_BYTES_TOGETHER}
 use Rattle.store_core.specs.declared.entry.Entry.{Entry}
 use Rattle.store_core.specs.declared.staged_tree.StagedTree.{StagedTree}
 use Rattle.store_core.specs.declared.step.Step.{Step}
@@ -25,10 +25,11 @@ use Rattle.store_core.specs.declared.refusal.StoreRefusal.{StoreRefusal}
 use Rattle.store_core.specs.declared.refusal.StoreRefusal.TheVariants.{ServiceTaken, TooLarge}
 use Rattle.store_core.specs.declared.refusal.StoreRefusal.TheVariants.{TooMany, StoreFull}
 use Rattle.store_core.specs.Contents.{StoredDocument, StoreContents}
-use Rattle.store_core.specs.DocumentChanges.{against_number, against_tree, changing, document_in}
+use Rattle.store_core.specs.DocumentChanges.{refusal_of_number, refusal_of_tree, change_result}
+use Rattle.store_core.specs.DocumentChanges.{document_in}
 use Rattle.store_core.specs.DocumentChanges.{stored_name, only_if}
 use Rattle.store_core.specs.ValidStates.{addresses_in}
-use Rattle.store_core.specs.TreeChanges.{IsOwnWhere, IsStagedIn}
+use Rattle.store_core.specs.TreeChanges.{NeedsUnshared, IsStagedIn}
 use Rattle.store_core.specs.inner.StoreMemory.{IsRenewed}
 use Rattle.store_core.specs.declared.change_builder.Outline.{Outline}
 use Rattle.store_core.specs.inner.Prints.{IsInsertedPrint, IsPrintOf}
@@ -40,9 +41,9 @@ abbrev pub refused_for : Option ℕ → ℕ → Bool → ℕ → Option StoreRef
 refused_for place len is_full others =
     option_or (option_map (λ clash. ServiceTaken clash)
     (option_map (λ i. let clash : Clash = record { path = i ∷ []; key = Uri } in clash) place))
-    (option_or (only_if (nat_lt max_bytes len) (TooLarge len))
+    (option_or (only_if (nat_lt MAX_DOCUMENT_BYTES len) (TooLarge len))
     (option_or (only_if is_full TooMany)
-    (only_if (nat_lt max_bytes_together (others + len)) (StoreFull (others + len)))))
+    (only_if (nat_lt MAX_BYTES_TOGETHER (others + len)) (StoreFull (others + len)))))
 
 -- a document is stored with the tree, the etag and the length of this entry
 abbrev pub IsHeldAs : StoreContents → DocId → Entry → Type 0
@@ -52,8 +53,8 @@ IsHeldAs c doc v =
 
 -- the outline of a new document with this root, against which there is no reason
 pub record IsNewOutline (c : StoreContents) (doc : DocId) (root : Tree) (o : Outline) : Type 0 where
-  pub free : against_tree c doc true root ≡ None
-  pub numbered : against_number c ≡ None
+  pub free : refusal_of_tree c doc true root ≡ None
+  pub numbered : refusal_of_number c ≡ None
   pub number : o.number ≡ c.next
   pub print : IsPrintOf root o.put.print
   pub len : o.len ≡ document_len root
@@ -64,8 +65,8 @@ pub record IsNewOutline (c : StoreContents) (doc : DocId) (root : Tree) (o : Out
 -- the outline of a document stored with the tree t after an edit, against which there is no reason
 pub record IsOutline (c : StoreContents) (doc : DocId) (t : Tree) (change : Change)
     (o : Outline) : Type 0 where
-  pub free : against_tree c doc false (edited t change) ≡ None
-  pub numbered : against_number c ≡ None
+  pub free : refusal_of_tree c doc false (edited t change) ≡ None
+  pub numbered : refusal_of_number c ≡ None
   pub number : o.number ≡ c.next
   pub put : o.put.len ≡ min (element_len change) u64_max
   pub print : IsInsertedPrint change o.put.print
@@ -98,23 +99,29 @@ IsNoted doc v change o p =
 -- it
 unfoldable pub Plans : StoreContents → DocId → Change → Result Readied StoreRefusal → Type 0
 Plans c doc change (Ok p) = (p.doc ≡ doc) × (p.note.change ≡ change) × IsPlanned c p
-Plans c doc change (Err e) = changing c doc change ≡ Err e
+Plans c doc change (Err e) = change_result c doc change ≡ Err e
 
--- the number is the one under which the document's addresses are registered
-abbrev pub Stepped : List (DocId × Entry) → DocId → ℕ → Step → ℕ → List (DocId × Entry) → Type 0
-Stepped old doc number (Make key entry) created new =
-    (new ≡ old ++ (key, entry) ∷ []) × (created ≡ entry.created)
-Stepped old doc number (Edit staged kept len) created new =
+-- what a step changes: the entries, of which document, and the number of the change
+pub record StepPlace : Type 0 where
+  pub entries : List (DocId × Entry)
+  pub doc : DocId
+  pub number : ℕ
+
+-- the entries after a step, and the number under which the document's addresses are registered
+abbrev pub TakesStep : StepPlace → Step → ℕ → List (DocId × Entry) → Type 0
+TakesStep at (Make key entry) created new =
+    (new ≡ at.entries ++ (key, entry) ∷ []) × (created ≡ entry.created)
+TakesStep at (Edit staged kept len) created new =
     (v : Entry) × (w : Entry)
-    × (lookup (same_id doc) old ≡ Some v) × IsRenewed v number kept len w
-    × (new ≡ map (λ e. if same_id doc e.0 then (e.0, w) else e) old)
+    × (lookup (same_id at.doc) at.entries ≡ Some v) × IsRenewed v at.number kept len w
+    × (new ≡ map (λ e. if same_id at.doc e.0 then (e.0, w) else e) at.entries)
     × (created ≡ w.created)
-Stepped old doc number End created new = new ≡ filter (λ e. not (same_id doc e.0)) old
+TakesStep at End created new = new ≡ filter (λ e. not (same_id at.doc e.0)) at.entries
 
 -- what a step requires of the entries
 abbrev pub Steppable : List (DocId × Entry) → DocId → Step → Type 0
 Steppable old doc (Make key entry) = lookup (same_id key) old ≡ None
 Steppable old doc (Edit staged kept len) =
     (v : Entry) × (lookup (same_id doc) old ≡ Some v) × Fits v.tree.root kept.change
-    × IsStagedIn v.tree.root kept.change staged × IsOwnWhere staged v.tree.own
+    × IsStagedIn v.tree.root kept.change staged × NeedsUnshared staged v.tree.own
 Steppable old doc End = Unit {0}

@@ -8,18 +8,18 @@ use Rattle.std.specs.Ordering.{nat_cmp}
 use Rattle.xml_tree.specs.Tree.{Tree}
 use Rattle.doc_names.specs.declared.doc_id.DocId.{DocId}
 use Rattle.store_core.specs.declared.entry.Entry.{Entry}
-use Rattle.store_core.specs.Indexes.{indexed}
+use Rattle.store_core.specs.Indexes.{index_entry}
 use Rattle.store_core.specs.inner.StoreMemory.{stored_in}
 
 -- the users' names and the trees of the documents that the index lists
-abbrev pub listed : List (DocId × Entry) → List (List ℕ × Tree)
-listed es = filter_map indexed (map stored_in es)
+abbrev pub index_entries : List (DocId × Entry) → List (List ℕ × Tree)
+index_entries es = filter_map index_entry (map stored_in es)
 
 -- the names and trees that a map lends
 abbrev pub pairs_in : List (Bor (List ℕ) × Bor Tree) → List (List ℕ × Tree)
 pairs_in es = map (λ e. (e.0.now, e.1.now)) es
 
 -- the entries of a map by names after these were added one after another: the last of each name
-abbrev pub entered : List (List ℕ × Tree) → List (List ℕ × Tree) → List (List ℕ × Tree)
-entered made [] = made
-entered made (d ∷ ds) = entered (insert_entry (slice_cmp nat_cmp) made d.0 d.1) ds
+abbrev pub with_entries : List (List ℕ × Tree) → List (List ℕ × Tree) → List (List ℕ × Tree)
+with_entries made [] = made
+with_entries made (d ∷ ds) = with_entries (insert_entry (slice_cmp nat_cmp) made d.0 d.1) ds

@@ -56,8 +56,8 @@ abbrev pub trees_in : List (DocId × Entry) → List (DocId × Bool)
 trees_in es = map (λ e. (e.0, e.1.tree.own)) es
 
 -- the entry as if its tree were unshared
-abbrev pub as_own : Entry → Entry
-as_own v =
+abbrev pub as_unshared : Entry → Entry
+as_unshared v =
     record {
       created = v.created;
       tag = v.tag;
@@ -66,8 +66,8 @@ as_own v =
       notes = v.notes;
     }
 
-abbrev pub all_as_own : List (DocId × Entry) → List (DocId × Entry)
-all_as_own es = map (λ e. (e.0, as_own e.1)) es
+abbrev pub all_as_unshared : List (DocId × Entry) → List (DocId × Entry)
+all_as_unshared es = map (λ e. (e.0, as_unshared e.1)) es
 
 -- ---- which document has an address
 
@@ -81,15 +81,15 @@ module _ {D : Type 0} (own : D → List (List ℕ)) (number : D → ℕ) where
 abbrev pub holder : List (DocId × Entry) → List ℕ → Option ℕ
 holder es uri = holder_in uris_in number_in es uri
 
--- the document is another than the one with this number, if that exists
+-- the document isn't the one with this number, if that exists
 abbrev pub is_others : Option ℕ → Option ℕ → Bool
 is_others own None = false
 is_others None (Some n) = true
 is_others (Some m) (Some n) = not (m == n)
 
 -- an address in a registry
-abbrev pub registered : List (List ℕ × ℕ) → List ℕ → Option ℕ
-registered rs uri = lookup (bytes_eq uri) rs
+abbrev pub registered_number : List (List ℕ × ℕ) → List ℕ → Option ℕ
+registered_number rs uri = lookup (bytes_eq uri) rs
 
 -- a registry after some addresses were removed and others added under a number
 abbrev pub exchanged : List (List ℕ) → List (List ℕ) → ℕ → Option ℕ → List ℕ → Option ℕ
@@ -105,7 +105,7 @@ pub record IsStoring (es : List (DocId × Entry)) (rs : List (List ℕ × ℕ))
   -- it represents a valid state
   pub kept : (m : State) × Represents (content_in es last) m × IsValidState m
   -- its registry gives for each address the document that has it
-  pub addresses : (uri : List ℕ) → registered rs uri ≡ holder es uri
+  pub addresses : (uri : List ℕ) → registered_number rs uri ≡ holder es uri
   -- each creation has its own number
   pub numbers : AreDistinct (map number_in es)
   pub given : AllByRecursion (λ e. number_in e ≤ last) es

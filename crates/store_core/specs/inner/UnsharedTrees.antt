@@ -5,5 +5,5 @@ use Rattle.doc_names.specs.Equality.{same_id}
 use Rattle.doc_names.specs.declared.doc_id.DocId.{DocId}
 
 -- the tree of this document is unshared, if it is stored
-abbrev pub IsOwn : List (DocId × Bool) → DocId → Type 0
-IsOwn trees doc = (own : Bool) → lookup (same_id doc) trees ≡ Some own → own ≡ true
+abbrev pub IsUnshared : List (DocId × Bool) → DocId → Type 0
+IsUnshared trees doc = (own : Bool) → lookup (same_id doc) trees ≡ Some own → own ≡ true

@@ -35,13 +35,13 @@ Means here s (Named local n) =
     × (option_map Some n ≡ option_map (number here.namespaces) (attr_name (lists here) s.name).uri)
 
 -- whether a raw attribute has this meaning
-abbrev pub says : Bindings → Meaning → RawAttribute → Bool
-says here (Declared prefix) s =
+abbrev pub has_meaning : Bindings → Meaning → RawAttribute → Bool
+has_meaning here (Declared prefix) s =
     is_declaring s.name && bytes_eq (encode_utf8_all (raw_attribute_decl s).prefix) prefix.now
-says here (Named local n) s =
+has_meaning here (Named local n) s =
     not (is_declaring s.name)
     && (same_number (attr_number here s.name) n && bytes_eq s.name.local local.now)
 
 -- a set holds exactly the meanings of these raw attributes
 abbrev pub Holds : Bindings → List RawAttribute → BTreeSet Meaning → Type 0
-Holds here es seen = (m : Meaning) → contains cmp-value.it seen m ≡ list_any (says here m) es
+Holds here es seen = (m : Meaning) → contains cmp-value.it seen m ≡ list_any (has_meaning here m) es

@@ -8,7 +8,7 @@ use Rattle.xml_tokens.specs.declared.fault_kind.FaultKind.{FaultKind}
 use Rattle.tree_text.specs.Pieces.{Markup, Inner, with_markup, with_pieces}
 use Rattle.xml_tokens.specs.readers.Tokens.{read_chars}
 use Rattle.tree_text.specs.readers.Texts.{read_plain, read_whole_reference, read_markup}
-use Rattle.tree_text.specs.readers.Texts.{read_content, read_behind_tag}
+use Rattle.tree_text.specs.readers.Texts.{read_content, read_after_tag}
 
 -- a reference of a spelling, and the raw characters after it
 abbrev pub read_spelled_piece : Reader FaultKind (ℕ × List ℕ)
@@ -48,6 +48,6 @@ filled tree content = record tree { content = content }
 abbrev pub read_filled : Tree → Reader FaultKind Tree → Reader FaultKind Tree
 read_filled tree inner = read_valued (filled tree) (read_content inner)
 
-abbrev pub read_filled_behind : Tree → Reader FaultKind Tree → Name → Bool → Reader FaultKind Tree
-read_filled_behind tree inner n is_empty =
-    read_valued (filled tree) (read_behind_tag inner n is_empty)
+abbrev pub read_filled_after : Tree → Reader FaultKind Tree → Name → Bool → Reader FaultKind Tree
+read_filled_after tree inner n is_empty =
+    read_valued (filled tree) (read_after_tag inner n is_empty)

@@ -11,8 +11,8 @@ use Rattle.tree_text.specs.Pieces.{StartTag}
 use Rattle.tree_text.specs.Names.{is_misnamed, is_repeated, inside_tag, is_unbound_in}
 
 -- what is wrong with a raw attribute: `Unbound` comes first
-abbrev pub wrong_said : List (List Decl) → List RawAttribute → RawAttribute → Option FaultKind
-wrong_said here earlier s =
+abbrev pub attribute_fault : List (List Decl) → List RawAttribute → RawAttribute → Option FaultKind
+attribute_fault here earlier s =
     if is_misnamed here s then Some Unbound
     else if is_repeated here earlier s then Some Repeated
     else None
@@ -28,7 +28,7 @@ abbrev pub first_wrong : List (List Decl) → List RawAttribute → ℕ → List
     → Option (FaultKind × ℕ)
 first_wrong here earlier at [] = None
 first_wrong here earlier at (s ∷ later) =
-    or_later (wrong_said here earlier s) (at + s.gap)
+    or_later (attribute_fault here earlier s) (at + s.gap)
     (first_wrong here (earlier ++ s ∷ []) (at + (s.gap + s.size)) later)
 
 -- the name of the tag comes before the names of its raw attributes

@@ -5,8 +5,8 @@ use Rattle.tree_text.specs.declared.raw_attribute.RawAttribute.{RawAttribute}
 use Rattle.tree_text.specs.Pieces.{StartTag}
 
 -- a raw attribute, of the white space before it and of its name and value with their width
-abbrev pub said_of : List ℕ × ((Name × List ℕ) × ℕ) → RawAttribute
-said_of x = record { name = x.1.0.0; value = x.1.0.1; gap = length x.0; size = x.1.1 }
+abbrev pub raw_attribute_of : List ℕ × ((Name × List ℕ) × ℕ) → RawAttribute
+raw_attribute_of x = record { name = x.1.0.0; value = x.1.0.1; gap = length x.0; size = x.1.1 }
 
 -- a start tag, of its name, its raw attributes, and whether it is empty, with its width
 abbrev pub start_tag_of : (Name × (List RawAttribute × Bool)) × ℕ → StartTag

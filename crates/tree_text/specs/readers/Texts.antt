@@ -8,10 +8,11 @@ use Rattle.xml_names.specs.declared.names.Name.{Name}
 use Rattle.xml_names.specs.declared.names.Decl.{Decl}
 use Rattle.xml_grammar.specs.TextReading.{Reader, head_is, starts, read_word, read_run}
 use Rattle.xml_grammar.specs.TextReading.{read_sequence, read_valued}
-use Rattle.xml_grammar.specs.readers.Functions.{spaced, read_never, read_empty, read_either}
-use Rattle.xml_grammar.specs.readers.Functions.{read_many, read_sized, read_atomic, read_marked}
+use Rattle.xml_grammar.specs.readers.Functions.{space_then, read_never, read_empty, read_either}
+use Rattle.xml_grammar.specs.readers.Functions.{read_many, read_with_length, read_atomic}
+use Rattle.xml_grammar.specs.readers.Functions.{read_marked}
 use Rattle.xml_grammar.specs.readers.Functions.{read_judged, read_between, read_before}
-use Rattle.xml_grammar.specs.readers.Functions.{read_behind, read_quoted}
+use Rattle.xml_grammar.specs.readers.Functions.{read_after, read_quoted}
 use Rattle.xml_tokens.specs.readers.Words.{less, greater, empty_end, end_start}
 use Rattle.xml_markup.specs.readers.Words.{instruction_start, bang, bang_bracket}
 use Rattle.xml_markup.specs.readers.Markup.{read_comment, read_section, read_instruction}
@@ -23,7 +24,7 @@ use Rattle.tree_text.specs.declared.raw_attribute.RawAttribute.{RawAttribute}
 use Rattle.xml_tokens.specs.Values.{value_spelled}
 use Rattle.tree_text.specs.Pieces.{Markup, Reference, Section, Comment, Instruction, Inner}
 use Rattle.tree_text.specs.Pieces.{StartTag, with_pieces}
-use Rattle.tree_text.specs.readers.TagValues.{said_of, start_tag_of}
+use Rattle.tree_text.specs.readers.TagValues.{raw_attribute_of, start_tag_of}
 use Rattle.tree_text.specs.Names.{element_of, inside_tag}
 use Rattle.tree_text.specs.readers.TagNameFaults.{tag_fault}
 use Rattle.xml_tokens.specs.Tokens.{is_quote, is_raw}
@@ -36,29 +37,33 @@ use Rattle.xml_tokens.specs.readers.Tokens.{read_spaces, read_value, reference_f
 
 abbrev pub read_attribute : Reader FaultKind (Name × List ℕ)
 read_attribute =
-    read_sequence read_qname (λ _. read_behind read_equals (read_quoted is_quote read_value))
+    read_sequence read_qname (λ _. read_after read_equals (read_quoted is_quote read_value))
 
-abbrev pub read_said : Reader FaultKind RawAttribute
-read_said = read_valued said_of (read_sequence read_some_spaces (λ _. read_sized read_attribute))
+abbrev pub read_raw_attribute : Reader FaultKind RawAttribute
+read_raw_attribute = read_valued raw_attribute_of (read_sequence read_some_spaces
+    (λ _. read_with_length read_attribute))
 
 -- an attribute follows after white space
-abbrev pub said_follows : List ℕ → Bool
-said_follows = spaced is_space is_name_start
+abbrev pub raw_attribute_follows : List ℕ → Bool
+raw_attribute_follows = space_then is_space is_name_start
 
-abbrev pub read_all_said : Reader FaultKind (List RawAttribute)
-read_all_said = read_many said_follows read_said
+abbrev pub read_raw_attributes : Reader FaultKind (List RawAttribute)
+read_raw_attributes = read_many raw_attribute_follows read_raw_attribute
 
 abbrev pub read_tag_end : Reader FaultKind Bool
 read_tag_end =
     read_either (head_is (λ c. c == 47)) (read_valued (λ _. true) (read_word empty_end))
     (read_valued (λ _. false) (read_word greater))
 
+-- after the name of a start tag: its attributes, and whether it ends as an empty element's
+abbrev pub read_tag_rest : Reader FaultKind (List RawAttribute × Bool)
+read_tag_rest = read_sequence (read_before read_raw_attributes read_spaces) (λ _. read_tag_end)
+
+abbrev pub read_tag_parts : Reader FaultKind (Name × (List RawAttribute × Bool))
+read_tag_parts = read_after (read_word less) (read_sequence read_qname (λ _. read_tag_rest))
+
 abbrev pub read_tag : Reader FaultKind StartTag
-read_tag =
-    read_valued start_tag_of
-    (read_sized (read_behind (read_word less)
-    (read_sequence read_qname (λ _.
-    read_sequence (read_before read_all_said read_spaces) (λ _. read_tag_end)))))
+read_tag = read_valued start_tag_of (read_with_length read_tag_parts)
 
 -- ---- content
 
@@ -85,9 +90,9 @@ read_content inner =
 
 -- ---- elements
 
-abbrev pub read_behind_tag : Reader FaultKind Tree → Name → Bool → Reader FaultKind Content
-read_behind_tag inner n true = read_empty (last [])
-read_behind_tag inner n false = read_before (read_content inner) (read_end_tag n)
+abbrev pub read_after_tag : Reader FaultKind Tree → Name → Bool → Reader FaultKind Content
+read_after_tag inner n true = read_empty (last [])
+read_after_tag inner n false = read_before (read_content inner) (read_end_tag n)
 
 -- a start tag's `<`, and the first character of its name
 abbrev pub starts_tag : List ℕ → Bool
@@ -98,18 +103,18 @@ starts_tag (c ∷ cs) = c == 60 && head_is is_name_start cs
 abbrev pub read_element : ℕ → List (List Decl) → ℕ → Reader FaultKind Tree
 read_element zero scope depth =
     read_marked (Depth depth) starts_tag
-    (read_behind (read_word less) (read_behind read_name read_never))
+    (read_after (read_word less) (read_after read_name read_never))
 read_element (suc n) scope depth =
     read_valued element_of
     (read_sequence (read_judged (tag_fault scope) read_tag) (λ t.
-    read_behind_tag (read_element n (inside_tag scope t) (depth + 1)) t.name t.is_empty))
+    read_after_tag (read_element n (inside_tag scope t) (depth + 1)) t.name t.is_empty))
 
 -- a document with at most this many levels
 abbrev pub read_text : ℕ → List (List Decl) → Reader FaultKind Tree
 read_text levels scope =
-    read_behind read_mark_if
-    (read_behind read_declaration_if
-    (read_behind read_prolog (read_before (read_element levels scope 1) read_epilog)))
+    read_after read_mark_if
+    (read_after read_declaration_if
+    (read_after read_prolog (read_before (read_element levels scope 1) read_epilog)))
 
 -- ---- bodies that spell a value
 

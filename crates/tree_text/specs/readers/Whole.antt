@@ -20,8 +20,8 @@ use Rattle.tree_text.specs.readers.Texts.{read_text, read_spelling}
 -- ---- documents and fragments
 
 -- with at most this many levels, and in this scope
-abbrev pub text_read : ℕ → List (List Decl) → List ℕ → Result Tree TextFault
-text_read limit scope bytes =
+abbrev pub read_document_text : ℕ → List (List Decl) → List ℕ → Result Tree TextFault
+read_document_text limit scope bytes =
     if is_utf8 bytes then text_result bytes (read_whole (read_text limit scope) (chars bytes))
     else Err texts.NotUtf8
 
@@ -35,8 +35,8 @@ FaultOf bytes stops.Memory error = error ≡ errors.NoMemory
 
 -- ---- bodies that spell a value
 
-abbrev pub body_read : List ℕ → Result (List ℕ) ValueFault
-body_read bytes =
+abbrev pub read_body_text : List ℕ → Result (List ℕ) ValueFault
+read_body_text bytes =
     if is_utf8 bytes
     then body_result (chars bytes) bytes (read_whole read_spelling (spelling_of (chars bytes)))
     else Err bodies.NotUtf8

@@ -42,18 +42,41 @@ RepeatsBelow row c child_elements [] key = ⊥
 RepeatsBelow row c child_elements (i ∷ []) key = ⊥
 RepeatsBelow row c child_elements (i ∷ n ∷ p) key = RepeatsAt row c child_elements (i ∷ n ∷ p) key
 
--- the first clash below the first n of these children, if none was found before; `clear` children
--- come before the one that it is below
-abbrev pub IsFirstSoFar : ElementKind → Scope → List Tree → List ℕ → ℕ → ℕ → Option Clash
-    → Option Clash → Type 0
-IsFirstSoFar row c child_elements base n clear (Some clash) new = (new ≡ Some clash) × (clear ≡ 0)
-IsFirstSoFar row c child_elements base n clear None None =
+-- an element of this kind, in the scope inside it, at this path
+pub record ElementPlace : Type 0 where
+  pub kind : ElementKind
+  pub scope : Scope
+  pub path : List ℕ
+
+-- a scan of an element's children: how many were passed, how many of them come before the one that
+-- the clash is below, and the first clash
+pub record ClashScan : Type 0 where
+  pub count : ℕ
+  pub clear : ℕ
+  pub clash : Option Clash
+
+abbrev pub clash_scan : ChildScan → Option Clash → ClashScan
+clash_scan scan clash = record { count = scan.count; clear = scan.clear; clash = clash }
+
+-- the first clash below the first n of these children; `clear` children come before the one that
+-- it is below
+abbrev pub IsFirstBelow : ElementPlace → List Tree → ℕ → ℕ → Option Clash → Type 0
+IsFirstBelow at child_elements n clear None =
     (clear ≡ n)
-    × ((i : ℕ) (p : List ℕ) (key : Key) → i < n → RepeatsBelow row c child_elements (i ∷ p) key → ⊥)
-IsFirstSoFar row c child_elements base n clear None (Some clash) =
+    × ((i : ℕ) (p : List ℕ) (key : Key) → i < n
+    → RepeatsBelow at.kind at.scope child_elements (i ∷ p) key → ⊥)
+IsFirstBelow at child_elements n clear (Some clash) =
     (p : List ℕ)
-    × ((clash.path ≡ base ++ clear ∷ p) × RepeatsBelow row c child_elements (clear ∷ p) clash.key
-    × ((q : List ℕ) (key : Key) → RepeatsBelow row c child_elements q key → NoLater (clear ∷ p) q))
+    × ((clash.path ≡ at.path ++ clear ∷ p)
+    × RepeatsBelow at.kind at.scope child_elements (clear ∷ p) clash.key
+    × ((q : List ℕ) (key : Key) → RepeatsBelow at.kind at.scope child_elements q key
+    → NoLater (clear ∷ p) q))
+
+-- a scan has found the first clash below the children that it passed, if none was found before
+abbrev pub IsFirstSoFar : ElementPlace → List Tree → Option Clash → ClashScan → Type 0
+IsFirstSoFar at child_elements (Some clash) scan = (scan.clash ≡ Some clash) × (scan.clear ≡ 0)
+IsFirstSoFar at child_elements None scan =
+    IsFirstBelow at child_elements scan.count scan.clear scan.clash
 
 -- ---- one more node
 
@@ -69,20 +92,20 @@ PassesKey row c (Comment t) old new =
     (new.holds_all ≡ old.holds_all) × (new.keys.items ≡ old.keys.items)
 
 -- the first clash below an element is found, if none was found before
-abbrev pub PassesClash : ElementKind → Scope → List ℕ → Node → ChildScan → Option Clash → ChildScan
-    → Option Clash → Type 0
-PassesClash row c base (Elem e) old before new found =
-    IsFirstAfter before (RepeatsKnown (kind_of row (inside c e) e.name) (inside c e) e)
-    (base ++ old.count ∷ []) found
-    × (new.clear ≡ (if is_some found then old.clear else suc old.clear))
-PassesClash row c base (Chars t) old before new found = (found ≡ before) × (new.clear ≡ old.clear)
-PassesClash row c base (Comment t) old before new found = (found ≡ before) × (new.clear ≡ old.clear)
+abbrev pub PassesClash : ElementPlace → Node → ClashScan → ClashScan → Type 0
+PassesClash at (Elem e) old new =
+    IsFirstAfter old.clash
+    (RepeatsKnown (kind_of at.kind (inside at.scope e) e.name) (inside at.scope e) e)
+    (at.path ++ old.count ∷ []) new.clash
+    × (new.clear ≡ (if is_some new.clash then old.clear else suc old.clear))
+PassesClash at (Chars t) old new = (new.clash ≡ old.clash) × (new.clear ≡ old.clear)
+PassesClash at (Comment t) old new = (new.clash ≡ old.clash) × (new.clear ≡ old.clear)
 
 -- ---- the first fault
 
 -- the first fault by the result of the walk over a root
-abbrev pub fault_of : ValidationResult → Option Fault
-fault_of found =
+abbrev pub fault_of_result : ValidationResult → Option Fault
+fault_of_result found =
     if found.valid
     then (if found.formed then option_map (λ clash. Repeated clash) found.clash else Some Unformed)
     else Some Invalid

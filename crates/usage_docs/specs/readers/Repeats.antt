@@ -46,21 +46,32 @@ abbrev pub lesser : ℕ × ElementKind → Option (ℕ × ElementKind) → ℕ �
 lesser x None = x
 lesser x (Some y) = if nat_le y.0 x.0 then y else x
 
+-- the s-th entry of a list and the one before it are such a pair; d stands for a missing entry
+abbrev pub ArePairAt : List KeyedChild → ℕ → KeyedChild → Type 0
+ArePairAt keys s d = IsPair (slice_index_or keys (s - 1) d) (slice_index_or keys s d)
+
+-- the same, and the second child has this number and kind
+abbrev pub HasSecond : List KeyedChild → ℕ → ℕ × ElementKind → KeyedChild → Type 0
+HasSecond keys s x d =
+    ArePairAt keys s d × ((slice_index_or keys s d).child ≡ x.0)
+    × ((slice_index_or keys s d).kind ≡ x.1)
+
+-- some neighbours are such a pair, and its second child has this number and kind
+abbrev pub IsSecond : List KeyedChild → ℕ × ElementKind → Type 0
+IsSecond keys x =
+    (s : ℕ) × ((0 < s) × (s < length keys) × ((d : KeyedChild) → HasSecond keys s x d))
+
+-- this holds of the second child of each such pair among the first n entries
+abbrev pub AllSeconds : List KeyedChild → ℕ → (ℕ → Type 0) → Type 0
+AllSeconds keys n P =
+    (s : ℕ) (d : KeyedChild) → 0 < s → s < n → ArePairAt keys s d
+    → P (slice_index_or keys s d).child
+
 -- of the neighbours up to the n-th entry of a list that are such a pair, the earliest second one,
 -- by number and kind
 abbrev pub IsLeastPair : List KeyedChild → ℕ → Option (ℕ × ElementKind) → Type 0
-IsLeastPair keys n None =
-    (s : ℕ) (d : KeyedChild) → 0 < s → s < n
-    → IsPair (slice_index_or keys (s - 1) d) (slice_index_or keys s d) → ⊥
-IsLeastPair keys n (Some least) =
-    ((s : ℕ)
-    × ((0 < s) × (s < length keys)
-    × ((d : KeyedChild)
-    → IsPair (slice_index_or keys (s - 1) d) (slice_index_or keys s d)
-    × ((slice_index_or keys s d).child ≡ least.0) × ((slice_index_or keys s d).kind ≡ least.1))))
-    × ((s : ℕ) (d : KeyedChild) → 0 < s → s < n
-    → IsPair (slice_index_or keys (s - 1) d) (slice_index_or keys s d)
-    → least.0 ≤ (slice_index_or keys s d).child)
+IsLeastPair keys n None = AllSeconds keys n (λ _. ⊥)
+IsLeastPair keys n (Some least) = IsSecond keys least × AllSeconds keys n (λ i. least.0 ≤ i)
 
 -- the first sibling that has the kind and the key of an earlier one
 abbrev pub IsFirstRepeat : ElementKind → Scope → List Tree → Option KeyRepeat → Type 0

@@ -34,10 +34,10 @@ HoldsRow row c content =
 -- ---- node by node
 
 -- the part before what follows a node
-abbrev pub part_behind : ElementKind → Scope → ℕ → Node → ℕ
-part_behind row c before (Elem e) = part_of row (c ++ e.decls ∷ []) e.name
-part_behind row c before (Chars t) = before
-part_behind row c before (Comment x) = before
+abbrev pub part_after : ElementKind → Scope → ℕ → Node → ℕ
+part_after row c before (Elem e) = part_of row (c ++ e.decls ∷ []) e.name
+part_after row c before (Chars t) = before
+part_after row c before (Comment x) = before
 
 -- a node may come after a child of the part `before`, and is valid by itself
 abbrev pub IsNodeValid : ElementKind → Scope → ℕ → Node → Type 0

@@ -8,7 +8,8 @@ use Rattle.watchers.specs.Lines.{line_bytes}
 use Rattle.watchers.specs.WrittenLines.{Wrote, with_lines}
 use Rattle.watchers.specs.declared.watcher.Told.{Told}
 use Rattle.watchers.specs.declared.watcher.Told.TheVariants.{Kept}
-use Rattle.watchers.specs.Notifications.{AreKept, AreNotified, HasKeptAll, HasLeft, with_edits}
+use Rattle.watchers.specs.Notifications.{AreKept, AreNotified, HasKept, HasKeptAll}
+use Rattle.watchers.specs.Notifications.{HasLeft, HasLeftAmong, with_edits}
 
 no_more : (told : Option (List Edit)) → told ≡ with_edits told []
 no_more None = refl
@@ -46,6 +47,15 @@ module _ {B : Type 0} (told_list : B → Option (List Edit)) (faults : B → ℕ
   abbrev KeptAll : List Edit → B → B → Type 0
   KeptAll = HasKeptAll told_list faults never_refuses answers written
 
+  abbrev LeftAmong : List Edit → B → Type 0
+  LeftAmong = HasLeftAmong told_list faults never_refuses answers written
+
+  abbrev KeptOne : Edit → B → B → Type 0
+  KeptOne = HasKept told_list faults never_refuses answers written
+
+  abbrev LeftAt : Edit → B → B → Type 0
+  LeftAt = HasLeft told_list faults never_refuses answers written
+
   kept_none : (b : B) → KeptAll [] b b
   kept_none b =
       record {
@@ -64,6 +74,54 @@ module _ {B : Type 0} (told_list : B → Option (List Edit)) (faults : B → ℕ
     never = λ n. s.never (f.never n);
   }
 
+  kept_one : (edit : Edit) (b c : B) → KeptOne edit b c → KeptAll (edit ∷ []) b c
+  kept_one edit b c h = record {
+    told = h.told;
+    wrote = one_line (written b) edit (written c) h.wrote;
+    counts = h.counts;
+    never = h.never;
+  }
+
+  left_first : (edit : Edit) (b last : B) → LeftAt edit b last → LeftAmong (edit ∷ []) b
+  left_first edit b last h = record {
+    first = [];
+    edit = edit;
+    later = [];
+    in_order = refl;
+    before = b;
+    last = last;
+    kept = kept_none b;
+    left = h;
+  }
+
+  left_later : (xs ys : List Edit) (a b : B) → KeptAll xs a b → LeftAmong ys b
+      → LeftAmong (xs ++ ys) a
+  left_later xs ys a b f h = record {
+    first = xs ++ h.first;
+    edit = h.edit;
+    later = h.later;
+    in_order =
+        ap (λ (l : List Edit). xs ++ l) h.in_order
+        ∙ sym (append_assoc xs h.first (h.edit ∷ h.later));
+    before = h.before;
+    last = h.last;
+    kept = kept_more xs h.first a b h.before f h.kept;
+    left = h.left;
+  }
+
+  left_before : (xs ys : List Edit) (b : B) → LeftAmong xs b → LeftAmong (xs ++ ys) b
+  left_before xs ys b h = record {
+    first = h.first;
+    edit = h.edit;
+    later = h.later ++ ys;
+    in_order =
+        ap (λ (l : List Edit). l ++ ys) h.in_order ∙ append_assoc h.first (h.edit ∷ h.later) ys;
+    before = h.before;
+    last = h.last;
+    kept = h.kept;
+    left = h.left;
+  }
+
   -- no change
   pub no_round : (bs : List B) → Keeping [] bs bs
   no_round [] = refl
@@ -75,41 +133,23 @@ module _ {B : Type 0} (told_list : B → Option (List Edit)) (faults : B → ℕ
       → Keeping (edit ∷ []) old new
   one_round edit [] new left h = h.0
   one_round edit (b ∷ bs) new left h =
-      ⊎_elim
-      (λ k.
-      inl (
-        k.0,
-        k.1,
-        k.2,
-        record {
-          told = k.3.told;
-          wrote = one_line (written b) edit (written k.0) k.3.wrote;
-          counts = k.3.counts;
-          never = k.3.never;
-        },
-        one_round edit bs k.1 left k.4,
-      ))
-      (λ k.
-      inr (
-        record {
-          first = [];
-          edit = edit;
-          later = [];
-          in_order = refl;
-          before = b;
-          last = k.0;
-          kept = kept_none b;
-          left = k.3;
-        },
-        one_round edit bs new k.1 k.4,
-      ))
+      ⊎_elim (λ k. inl (k.0, k.1, k.2, kept_one edit b k.0 k.3, one_round edit bs k.1 left k.4))
+      (λ k. inr (left_first edit b k.0 k.3, one_round edit bs new k.1 k.4))
       h
 
   -- one change, at which the one watcher left
-  pub one_left : (edit : Edit) (b last : B)
-      → HasLeft told_list faults never_refuses answers written edit b last
+  pub one_left : (edit : Edit) (b last : B) → LeftAt edit b last
       → Keeping (edit ∷ []) (b ∷ []) []
   one_left edit b last left = one_round edit (b ∷ []) [] 1 (inr (last, 0, refl, left, (refl, refl)))
+
+  -- a watcher that kept changes, then others, where the later watchers are known
+  more_after_kept : (xs ys : List Edit) (b c : B) (bs cs new : List B) → KeptAll xs b c
+      → ((ds : List B) → Keeping ys cs ds → Keeping (xs ++ ys) bs ds)
+      → Keeping ys (c ∷ cs) new → Keeping (xs ++ ys) (b ∷ bs) new
+  more_after_kept xs ys b c bs cs new kept later h =
+      ⊎_elim (λ s. inl (s.0, s.1, s.2, kept_more xs ys b c s.0 kept s.3, later s.1 s.4))
+      (λ s. inr (left_later xs ys b c kept s.0, later new s.1))
+      h
 
   -- changes, and then others
   pub more_rounds : (xs ys : List Edit) (old mid new : List B) → Keeping xs old mid
@@ -118,40 +158,7 @@ module _ {B : Type 0} (told_list : B → Option (List Edit)) (faults : B → ℕ
   more_rounds xs ys (b ∷ bs) mid new h k =
       ⊎_elim
       (λ f.
-      ⊎_elim
-      (λ s.
-      inl (s.0, s.1, s.2, kept_more xs ys b f.0 s.0 f.3 s.3, more_rounds xs ys bs f.1 s.1 f.4 s.4))
-      (λ s.
-      inr (
-        record {
-          first = xs ++ s.0.first;
-          edit = s.0.edit;
-          later = s.0.later;
-          in_order =
-              ap (λ (l : List Edit). xs ++ l) s.0.in_order
-              ∙ sym (append_assoc xs s.0.first (s.0.edit ∷ s.0.later));
-          before = s.0.before;
-          last = s.0.last;
-          kept = kept_more xs s.0.first b f.0 s.0.before f.3 s.0.kept;
-          left = s.0.left;
-        },
-        more_rounds xs ys bs f.1 new f.4 s.1,
-      ))
+      more_after_kept xs ys b f.0 bs f.1 new f.3 (λ ds g. more_rounds xs ys bs f.1 ds f.4 g)
       (subst (λ ms. Keeping ys ms new) f.2 k))
-      (λ f.
-      inr (
-        record {
-          first = f.0.first;
-          edit = f.0.edit;
-          later = f.0.later ++ ys;
-          in_order =
-              ap (λ (l : List Edit). l ++ ys) f.0.in_order
-              ∙ append_assoc f.0.first (f.0.edit ∷ f.0.later) ys;
-          before = f.0.before;
-          last = f.0.last;
-          kept = f.0.kept;
-          left = f.0.left;
-        },
-        more_rounds xs ys bs mid new f.1 k,
-      ))
+      (λ f. inr (left_before xs ys b f.0, more_rounds xs ys bs mid new f.1 k))
       h

@@ -2,7 +2,7 @@
 use Rattle.std.proofs.Common.{arith}
 use Rattle.std.specs.Prelude.{◌≡◌, ℕ, suc, ◌+◌, ◌≤◌, true, List, [], ◌∷◌, ◌++◌, length, map, Option}
 use Rattle.xcap_io.specs.Histories.{Traffic}
-use Rattle.http_wire.specs.ServedConnections.{ServesAll}
+use Rattle.http_wire.specs.ServedConnections.{ServesAll, without_faults}
 use Rattle.http_serve.specs.FixedReplies.{fixed_reply}
 use Rattle.http_serve.specs.ReplyBytes.{InBytes}
 use Rattle.reply_text.specs.ReplyHeads.{SentReply}
@@ -72,4 +72,5 @@ pub record ServesThem (root : List ℕ) (all : List (List ℕ)) (s : NotingState
   pub next : Noted
   pub edits : List Edit
   pub stands : RepresentsRecorded root s next
-  pub serves : ServesAll (InBytes (NotedStep root)) fixed_reply m connections next edits 0 0 0 0
+  pub serves : ServesAll (InBytes (NotedStep root)) fixed_reply (without_faults m)
+      (without_faults next) connections edits

@@ -9,7 +9,7 @@ use Rattle.httparse.specs.declared.spans.HeaderSpan.{HeaderSpan}
 use Rattle.httparse.specs.declared.spans.ResponseSpans.{ResponseSpans}
 use Rattle.xcap_client.specs.declared.head_scan.HeadScan.{HeadScan}
 use Rattle.xcap_client.specs.declared.head_scan.HeadScan.TheVariants.{Head, Open, Hopeless}
-use Rattle.http_wire.specs.Limits.{max_head_bytes}
+use Rattle.http_wire.specs.declared.limits.TheConstants.{MAX_HEAD_BYTES}
 
 -- no prefix is a head, whatever follows the bytes
 abbrev pub NeverHasHead : List ℕ → Type 0
@@ -25,7 +25,7 @@ pub record IsHeadAt (bytes : List ℕ) (headers : List HeaderSpan) (spans : Resp
 -- the result of a search for a head at the front of some bytes
 abbrev pub IsFront : List ℕ → List HeaderSpan → HeadScan → Type 0
 IsFront bytes headers (Head spans) = (head : ResponseHead) × IsHeadAt bytes headers spans head
-IsFront bytes headers Open = HasNoHead bytes × (length bytes < max_head_bytes)
+IsFront bytes headers Open = HasNoHead bytes × (length bytes < MAX_HEAD_BYTES)
 IsFront bytes headers Hopeless = NeverHasHead bytes
 
 -- there is a head at the front, or none however the bytes go on, or none as a read found their end

@@ -3,8 +3,9 @@
 use Rattle.std.specs.Prelude.{◌<◌, ◌≤◌}
 use Rattle.store_core.specs.Contents.{StoreContents}
 use Rattle.xml_tree.specs.Tree.{Tree, height}
-use Rattle.xml_names.specs.Limits.{max_levels}
-use Rattle.usage_docs.specs.Services.{document_len, index_limit}
+use Rattle.xml_names.specs.declared.limits.TheConstants.{MAX_LEVELS}
+use Rattle.usage_docs.specs.Services.{document_len}
+use Rattle.usage_docs.specs.declared.service_index.TheConstants.{INDEX_LIMIT}
 use Rattle.xcap_machine.specs.Resources.{IsIndexOfServices, Resource, absent, beyond_limit, there}
 use Rattle.xcap_get.specs.declared.document_lookup.DocumentLookup.{DocumentLookup}
 use Rattle.xcap_get.specs.declared.document_lookup.DocumentLookup.TheVariants.{Absent, BeyondLimit}
@@ -21,9 +22,9 @@ resource_of (Computed root tag) = there root tag
 abbrev pub IsWithinLevels : DocumentLookup → Type 0
 IsWithinLevels Absent = Unit {0}
 IsWithinLevels BeyondLimit = Unit {0}
-IsWithinLevels (Held root tag) = height root.now ≤ max_levels
-IsWithinLevels (Computed root tag) = height root ≤ max_levels
+IsWithinLevels (Held root tag) = height root.now ≤ MAX_LEVELS
+IsWithinLevels (Computed root tag) = height root ≤ MAX_LEVELS
 
 -- the index of the stored documents would be longer than the limit
 abbrev pub HasLongIndex : StoreContents → Type 0
-HasLongIndex c = (root : Tree) × IsIndexOfServices c root × (index_limit < document_len root)
+HasLongIndex c = (root : Tree) × IsIndexOfServices c root × (INDEX_LIMIT < document_len root)

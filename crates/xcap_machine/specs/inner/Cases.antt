@@ -28,7 +28,7 @@ use Rattle.http_wire.specs.declared.request.Request.{Request}
 use Rattle.request_checks.specs.Methods.{method_of}
 use Rattle.xcap_uri.specs.declared.fault.UriFault.{UriFault}
 use Rattle.xcap_uri.specs.declared.target.Target.{Target}
-use Rattle.xcap_machine.specs.Answers.{Answer, BehindConditions, unchanged, conflict}
+use Rattle.xcap_machine.specs.Answers.{Answer, AfterConditions, unchanged, conflict}
 use Rattle.xcap_machine.specs.NodeWrites.{CutsNode, NodeWrite, PutsFrom, is_there, put_planned}
 use Rattle.xcap_machine.specs.NodeWrites.{value_conflict}
 use Rattle.xcap_machine.specs.Requests.{ByTarget, fault_status}
@@ -121,7 +121,7 @@ PutsNodeIn server put version a =
 abbrev pub DeletesNodeOf : StoreContents → NodeWrite → Tree × ℕ → Answer → Type 0
 DeletesNodeOf c cut held a =
     MatchBool (is_there held.0 cut.selector)
-    (BehindConditions cut.request (record { tag = Some held.1; exists = true }) false a
+    (AfterConditions cut.request (record { tag = Some held.1; exists = true }) false a
     (CutsNode c cut held.0 a))
     (a ≡ unchanged (plain 404 cut.request.closes))
 
@@ -134,5 +134,5 @@ DeletesNodeIn c cut version a =
 abbrev pub DeletesDocumentIn : StoreContents → DocId → Option (Tree × ℕ) → Request → Answer → Type 0
 DeletesDocumentIn c id version request a =
     MatchOption version (a ≡ unchanged (plain 404 request.closes)) (λ held.
-    BehindConditions request (record { tag = Some held.1; exists = true }) false a
+    AfterConditions request (record { tag = Some held.1; exists = true }) false a
     (a ≡ change_answer c id RemoveDocument request.closes (deleted_reply request.closes)))

@@ -31,7 +31,8 @@ abbrev pub feed_query : Mode → ℕ → DocId → FeedQuery
 feed_query mode tag id = record { mode = mode; tag = tag; id = id }
 
 abbrev pub element_query : ℕ → DocId → Selector → List ℕ → ElementQuery
-element_query tag id selector raw = record { tag = tag; id = id; selector = selector; raw = raw }
+element_query tag id selector raw =
+    record { tag = tag; watched = record { doc = id; selector = selector; raw = raw } }
 
 abbrev pub write_of : DocId → Usage → Selector → Request → NodeWrite
 write_of id usage selector request =

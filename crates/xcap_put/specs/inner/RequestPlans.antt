@@ -23,11 +23,11 @@ use Rattle.xcap_put.specs.declared.plan.Plan.TheVariants.{Stops, Makes}
 -- ---- the element of an edit target
 
 -- the element is in the tree
-abbrev pub LeadsSomewhere : Tree → Spot → Type 0
-LeadsSomewhere t (Over p) = IsSome (at p t)
-LeadsSomewhere t (Under q) = IsSome (at q t)
-LeadsSomewhere t Beside = Unit {0}
-LeadsSomewhere t (Value p) = IsSome (at p t)
+abbrev pub SpotExists : Tree → Spot → Type 0
+SpotExists t (Over p) = IsSome (at p t)
+SpotExists t (Under q) = IsSome (at q t)
+SpotExists t Beside = Unit {0}
+SpotExists t (Value p) = IsSome (at p t)
 
 -- ---- plans
 

@@ -23,14 +23,19 @@ pub record AnswersRequest (old : ServerState) (request : Request) (reply : SentR
 abbrev pub IsAsBefore : ServerState → ServerState → Type 0
 IsAsBefore old new = new ≡ old
 
+-- a request, and what was decided on it
+pub record DecidedRequest : Type 0 where
+  pub request : Request
+  pub decision : Decision
+
 -- a decision is carried out where the request's record was added; where it couldn't be, the answer
 -- is the 500, and no change is made
-abbrev pub CarriesOut : {E : Type 0} → Stored → Decision → Request → Result (Unit {0}) AppendFault
+abbrev pub CarriesOut : {E : Type 0} → Stored → DecidedRequest → Result (Unit {0}) AppendFault
     → Result (MachineReply Edit) E → Stored → Type 0
-CarriesOut old d request (Ok x) (Ok a) new =
-    (answer_as a.reply a.edit ≡ answer_of d)
-    × (new.content ≡ content_after_answer old.content (answer_of d).made)
-CarriesOut old d request (Err Failed) (Ok a) new =
-    (a.reply ≡ plain 500 request.closes) × (a.edit ≡ None) × (new.content ≡ old.content)
-CarriesOut old d request (Err NoMemory) (Err e) new = new.content ≡ old.content
-CarriesOut old d request _ _ new = ⊥
+CarriesOut old decided (Ok x) (Ok a) new =
+    (answer_as a.reply a.edit ≡ answer_of decided.decision)
+    × (new.content ≡ content_after_answer old.content (answer_of decided.decision).made)
+CarriesOut old decided (Err Failed) (Ok a) new =
+    (a.reply ≡ plain 500 decided.request.closes) × (a.edit ≡ None) × (new.content ≡ old.content)
+CarriesOut old decided (Err NoMemory) (Err e) new = new.content ≡ old.content
+CarriesOut old decided _ _ new = ⊥

@@ -13,11 +13,11 @@ abbrev pub stands_for_text : List ℕ → Bool
 stands_for_text part = has_whole_escapes part && is_utf8 (percent_decode part)
 
 -- the text that it decodes to
-abbrev pub text_read : List ℕ → Result (List ℕ) UriError
-text_read part =
+abbrev pub parsed_text : List ℕ → Result (List ℕ) UriError
+parsed_text part =
     if stands_for_text part then Ok (chars (percent_decode part)) else Err (Fault BadEscape)
 
 -- the text of a part that may be absent
-abbrev pub optional_text_read : Option (List ℕ) → Result (Option (List ℕ)) UriError
-optional_text_read None = Ok None
-optional_text_read (Some part) = text_read part >>= λ text. Ok (Some text)
+abbrev pub parsed_optional_text : Option (List ℕ) → Result (Option (List ℕ)) UriError
+parsed_optional_text None = Ok None
+parsed_optional_text (Some part) = parsed_text part >>= λ text. Ok (Some text)

@@ -40,8 +40,8 @@ abbrev pub some_uri : List ℕ × List ℕ → Read (List ℕ)
 some_uri ([], rest) = Err (Fault BadQuery)
 some_uri (c ∷ cs, rest) = Ok (c ∷ cs, rest)
 
-abbrev pub uri_read : List ℕ → Read (List ℕ)
-uri_read text = uri_chars 0 text >>= some_uri
+abbrev pub parsed_uri : List ℕ → Read (List ℕ)
+parsed_uri text = uri_chars 0 text >>= some_uri
 
 -- the text after a leading word
 abbrev pub past : Option (List ℕ) → Result (List ℕ) UriError
@@ -49,14 +49,14 @@ past None = Err (Fault BadQuery)
 past (Some rest) = Ok rest
 
 -- the text after `=` and the optional white space around it
-abbrev pub equals_past : List ℕ → Result (List ℕ) UriError
-equals_past text =
+abbrev pub after_equals : List ℕ → Result (List ℕ) UriError
+after_equals text =
     past (rest_after_front (codes "=") (after_front is_space text)) >>= λ rest.
     Ok (after_front is_space rest)
 
 -- an NCName
-abbrev pub prefix_read : List ℕ → Read (List ℕ)
-prefix_read text =
+abbrev pub parsed_prefix : List ℕ → Read (List ℕ)
+parsed_prefix text =
     if head_is is_name_start text
     then Ok (front_of is_name_char text, after_front is_name_char text)
     else Err (Fault BadQuery)
@@ -68,31 +68,31 @@ is_reserved p = bytes_eq p (codes "xml") || bytes_eq p (codes "xmlns")
 abbrev pub unreserved : List ℕ × List ℕ → Read (List ℕ)
 unreserved x = if is_reserved x.0 then Err (Fault BadQuery) else Ok x
 
-abbrev pub free_prefix_read : List ℕ → Read (List ℕ)
-free_prefix_read text = prefix_read text >>= unreserved
+abbrev pub parsed_free_prefix : List ℕ → Read (List ℕ)
+parsed_free_prefix text = parsed_prefix text >>= unreserved
 
 -- an item, and what comes after it
-abbrev pub item_read : List ℕ → Read Decl
-item_read text =
+abbrev pub parsed_item : List ℕ → Read Decl
+parsed_item text =
     past (rest_after_front (codes "xmlns(") text) >>= λ inner.
-    free_prefix_read inner >>= λ p.
-    equals_past p.1 >>= uri_read >>= λ u.
+    parsed_free_prefix inner >>= λ p.
+    after_equals p.1 >>= parsed_uri >>= λ u.
     Ok (record { prefix = p.0; uri = u.0 }, u.1)
 
 -- at most n items, each with the spaces after it, and nothing else
-abbrev pub items_read : ℕ → List ℕ → Result (List Decl) UriError
-items_read n [] = Ok []
-items_read zero (c ∷ text) = Err (Fault BadQuery)
-items_read (suc n) (c ∷ text) =
-    item_read (c ∷ text) >>= λ x.
-    items_read n (after_front is_blank x.1) >>= λ items. Ok (x.0 ∷ items)
+abbrev pub parsed_items : ℕ → List ℕ → Result (List Decl) UriError
+parsed_items n [] = Ok []
+parsed_items zero (c ∷ text) = Err (Fault BadQuery)
+parsed_items (suc n) (c ∷ text) =
+    parsed_item (c ∷ text) >>= λ x.
+    parsed_items n (after_front is_blank x.1) >>= λ items. Ok (x.0 ∷ items)
 
 -- the bindings of a query: an item has more than one character, so there are fewer items than
 -- characters
-abbrev pub bindings_read : List ℕ → Result (List Decl) UriError
-bindings_read text = items_read (length text) (after_front is_blank text)
+abbrev pub parsed_bindings : List ℕ → Result (List Decl) UriError
+parsed_bindings text = parsed_items (length text) (after_front is_blank text)
 
 -- an absent query has none
-abbrev pub optional_bindings_read : Option (List ℕ) → Result (List Decl) UriError
-optional_bindings_read None = Ok []
-optional_bindings_read (Some text) = bindings_read text
+abbrev pub parsed_optional_bindings : Option (List ℕ) → Result (List Decl) UriError
+parsed_optional_bindings None = Ok []
+parsed_optional_bindings (Some text) = parsed_bindings text

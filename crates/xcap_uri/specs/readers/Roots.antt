@@ -8,8 +8,8 @@ use Rattle.xcap_uri.specs.Roots.{slash, is_authority_char, is_segment_char, is_s
 use Rattle.xcap_uri.specs.declared.root.TheConstants.{MAX_ROOT_LEN}
 
 -- what comes after the scheme
-abbrev pub behind_scheme : List ℕ → Option (List ℕ)
-behind_scheme text =
+abbrev pub strip_scheme : List ℕ → Option (List ℕ)
+strip_scheme text =
     option_or (rest_after_front (codes "http://") text) (rest_after_front (codes "https://") text)
 
 -- an authority, and then segments
@@ -24,4 +24,4 @@ is_root_after_scheme (Some rest) = are_authority_and_segments (pieces slash rest
 
 -- the text reads as a root
 abbrev pub reads_as_root : List ℕ → Bool
-reads_as_root text = nat_le (length text) MAX_ROOT_LEN && is_root_after_scheme (behind_scheme text)
+reads_as_root text = nat_le (length text) MAX_ROOT_LEN && is_root_after_scheme (strip_scheme text)

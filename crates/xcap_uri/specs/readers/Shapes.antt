@@ -49,15 +49,15 @@ mode_of name =
 -- ---- documents
 
 -- a document, or with a selector a node of it; an empty selector is none
-abbrev pub document : DocId → Option (List ℕ) → Result Shape UriError
-document doc None = Ok (Document doc)
-document doc (Some []) = Err (Fault BadShape)
-document doc (Some (c ∷ cs)) = Ok (Node doc (c ∷ cs))
+abbrev pub document_shape : DocId → Option (List ℕ) → Result Shape UriError
+document_shape doc None = Ok (Document doc)
+document_shape doc (Some []) = Err (Fault BadShape)
+document_shape doc (Some (c ∷ cs)) = Ok (Node doc (c ∷ cs))
 
 -- after a home: a name, or more, which is below a document; then the selector isn't looked at
 abbrev pub in_home : Auid → Home → List (List ℕ) → Option (List ℕ) → Result Shape UriError
 in_home auid home [] selector = Err (Fault BadShape)
-in_home auid home (name ∷ []) selector = document (doc_of auid home name) selector
+in_home auid home (name ∷ []) selector = document_shape (doc_of auid home name) selector
 in_home auid home (name ∷ next ∷ more) selector = Ok (Deep auid home)
 
 -- after `users`: a user

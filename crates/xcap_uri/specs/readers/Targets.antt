@@ -16,10 +16,10 @@ use Rattle.doc_names.specs.Usages.{namespace_of}
 use Rattle.doc_names.specs.declared.doc_id.Auid.{Auid}
 use Rattle.xcap_uri.specs.Delimiters.{front_before, rest_after, pieces}
 use Rattle.xcap_uri.specs.readers.Steps.{UriError, ◌>>=◌}
-use Rattle.xcap_uri.specs.readers.Queries.{optional_bindings_read}
+use Rattle.xcap_uri.specs.readers.Queries.{parsed_optional_bindings}
 use Rattle.xcap_uri.specs.Roots.{slash}
 use Rattle.xcap_uri.specs.Targets.{question, under_root, raw_text, target_fault}
-use Rattle.xcap_uri.specs.readers.Escapes.{text_read, optional_text_read}
+use Rattle.xcap_uri.specs.readers.Escapes.{parsed_text, parsed_optional_text}
 use Rattle.xcap_uri.specs.readers.Shapes.{shape_of}
 use Rattle.xcap_uri.specs.declared.fault.UriFault.TheVariants.{OutsideRoot, BadSelector}
 use Rattle.xcap_uri.specs.declared.shape.Shape.{Shape}
@@ -30,17 +30,17 @@ use Rattle.xcap_uri.specs.declared.target.Target.TheVariants.{ElementFeed, Flat}
 
 -- the segments before the first one that decodes to the separator, each decoded; and where there
 -- is one, the text after it
-abbrev pub segments_read : List (List ℕ) → Result (List (List ℕ) × Option (List ℕ)) UriError
-segments_read [] = Ok ([], None)
-segments_read (segment ∷ segments) =
-    text_read segment >>= λ text.
+abbrev pub parsed_segments : List (List ℕ) → Result (List (List ℕ) × Option (List ℕ)) UriError
+parsed_segments [] = Ok ([], None)
+parsed_segments (segment ∷ segments) =
+    parsed_text segment >>= λ text.
     if bytes_eq text separator
     then Ok ([], Some (join_with_byte slash segments))
-    else (segments_read segments >>= λ x. Ok (text ∷ x.0, x.1))
+    else (parsed_segments segments >>= λ x. Ok (text ∷ x.0, x.1))
 
 -- a raw path cut into its segments
-abbrev pub path_read : List ℕ → Result (List (List ℕ) × Option (List ℕ)) UriError
-path_read path = segments_read (pieces slash path)
+abbrev pub parsed_path : List ℕ → Result (List (List ℕ) × Option (List ℕ)) UriError
+parsed_path path = parsed_segments (pieces slash path)
 
 -- ---- the selector
 
@@ -53,8 +53,8 @@ as_target_part (Ok selector) = Ok selector
 as_target_part (Err fault) = Err (Fault (target_fault fault))
 
 -- the selector that a text spells in a document of this AUID
-abbrev pub part_read : List Decl → Auid → List ℕ → Result Selector UriError
-part_read bindings auid text =
+abbrev pub parsed_part : List Decl → Auid → List ℕ → Result Selector UriError
+parsed_part bindings auid text =
     as_target_part (selector_read bindings (chars (namespace_of auid)) (encode_utf8_all text))
 
 -- a feed of a node is about an element, and about nothing else
@@ -70,28 +70,28 @@ about_element selector = ends_in_element selector.end selector
 abbrev pub target_of : Shape → List Decl → List ℕ → Result Target UriError
 target_of (shapes.Document doc) bindings raw = Ok (Document doc)
 target_of (shapes.Node doc text) bindings raw =
-    part_read bindings doc.auid text >>= λ selector. Ok (Node doc selector)
+    parsed_part bindings doc.auid text >>= λ selector. Ok (Node doc selector)
 target_of (shapes.Deep auid home) bindings raw = Ok (Deep auid home)
 target_of (shapes.Feed mode tag doc) bindings raw = Ok (Feed mode tag doc)
 target_of (shapes.ElementFeed tag doc text) bindings raw =
-    part_read bindings doc.auid text >>= about_element >>= λ selector.
+    parsed_part bindings doc.auid text >>= about_element >>= λ selector.
     Ok (ElementFeed tag doc selector raw)
 target_of (shapes.Flat doc service) bindings raw = Ok (Flat doc service)
 
 -- escapes, then the shape, then the query, then the selector
-abbrev pub rest_read : List ℕ → Result Target UriError
-rest_read rest =
-    path_read (front_before question rest) >>= λ path.
-    optional_text_read path.1 >>= λ selector.
-    optional_text_read (rest_after question rest) >>= λ query.
+abbrev pub parsed_rest : List ℕ → Result Target UriError
+parsed_rest rest =
+    parsed_path (front_before question rest) >>= λ path.
+    parsed_optional_text path.1 >>= λ selector.
+    parsed_optional_text (rest_after question rest) >>= λ query.
     shape_of path.0 selector >>= λ shape.
-    optional_bindings_read query >>= λ bindings.
+    parsed_optional_bindings query >>= λ bindings.
     target_of shape bindings (raw_text path.1 (rest_after question rest))
 
-abbrev pub under_read : Option (List ℕ) → Result Target UriError
-under_read None = Err (Fault OutsideRoot)
-under_read (Some rest) = rest_read rest
+abbrev pub parsed_under_root : Option (List ℕ) → Result Target UriError
+parsed_under_root None = Err (Fault OutsideRoot)
+parsed_under_root (Some rest) = parsed_rest rest
 
 -- what a target means under a root, or its first fault
-abbrev pub target_read : List ℕ → List ℕ → Result Target UriError
-target_read root target = under_read (under_root root target)
+abbrev pub parsed_target : List ℕ → List ℕ → Result Target UriError
+parsed_target root target = parsed_under_root (under_root root target)

@@ -12,8 +12,8 @@ use Rattle.xml_grammar.specs.TextReading.{◌>>=◌}
 
 -- at least one character of the first class is at the front, and after all of them one of the
 -- second
-abbrev pub spaced : (ℕ → Bool) → (ℕ → Bool) → List ℕ → Bool
-spaced space p text = head_is space text && head_is p (after_front space text)
+abbrev pub space_then : (ℕ → Bool) → (ℕ → Bool) → List ℕ → Bool
+space_then space p text = head_is space text && head_is p (after_front space text)
 
 abbrev pub read_never : {Kind A : Type 0} → Reader Kind A
 read_never text = Err (Syntax text)
@@ -86,8 +86,8 @@ read_at_most test p (suc n) text =
 abbrev pub read_many : {Kind A : Type 0} → (List ℕ → Bool) → Reader Kind A → Reader Kind (List A)
 read_many test p text = read_at_most test p (length (encode_utf8_all text)) text
 
-abbrev pub read_sized : {Kind A : Type 0} → Reader Kind A → Reader Kind (A × ℕ)
-read_sized p text = p text >>= λ x. Ok ((x.0, length text - length x.1), x.1)
+abbrev pub read_with_length : {Kind A : Type 0} → Reader Kind A → Reader Kind (A × ℕ)
+read_with_length p text = p text >>= λ x. Ok ((x.0, length text - length x.1), x.1)
 
 abbrev pub read_only : {Kind A : Type 0} → (A → Bool) → Reader Kind A → Reader Kind A
 read_only test p text = p text >>= λ x. if test x.0 then Ok x else Err (Syntax x.1)
@@ -135,8 +135,8 @@ read_name_of first others =
 abbrev pub read_before : {Kind A B : Type 0} → Reader Kind A → Reader Kind B → Reader Kind A
 read_before p q = read_valued (λ x. x.0) (read_sequence p (λ _. q))
 
-abbrev pub read_behind : {Kind A B : Type 0} → Reader Kind A → Reader Kind B → Reader Kind B
-read_behind p q = read_valued (λ x. x.1) (read_sequence p (λ _. q))
+abbrev pub read_after : {Kind A B : Type 0} → Reader Kind A → Reader Kind B → Reader Kind B
+read_after p q = read_valued (λ x. x.1) (read_sequence p (λ _. q))
 
 abbrev pub read_quoted : {Kind A : Type 0} → (ℕ → Bool) → (ℕ → Reader Kind A) → Reader Kind A
 read_quoted is_quote inside =

@@ -6,9 +6,9 @@ use Rattle.std.specs.Char.{is_ascii_digit, is_ascii_alphabetic}
 use Rattle.xml_names.specs.Characters.{is_char, is_space}
 use Rattle.xml_grammar.specs.TextReading.{Reader, head_is, starts, read_one, read_word}
 use Rattle.xml_grammar.specs.TextReading.{read_valued, read_some_of}
-use Rattle.xml_grammar.specs.readers.Functions.{spaced, read_up_to, read_either, read_only}
+use Rattle.xml_grammar.specs.readers.Functions.{space_then, read_up_to, read_either, read_only}
 use Rattle.xml_grammar.specs.readers.Functions.{read_judged, read_optional, read_trap, read_between}
-use Rattle.xml_grammar.specs.readers.Functions.{read_name_of, read_before, read_behind, read_quoted}
+use Rattle.xml_grammar.specs.readers.Functions.{read_name_of, read_before, read_after, read_quoted}
 use Rattle.xml_tokens.specs.declared.fault_kind.FaultKind.{FaultKind}
 use Rattle.xml_tokens.specs.declared.fault_kind.FaultKind.TheVariants.{Doctyped, Encoded}
 use Rattle.xml_tokens.specs.Values.{line_ends}
@@ -28,7 +28,7 @@ read_dropped p = read_valued (λ _. tt) p
 
 abbrev pub read_comment_inside : Reader FaultKind (List ℕ)
 read_comment_inside =
-    read_behind (read_word comment_start)
+    read_after (read_word comment_start)
     (read_before (read_up_to is_char dashes) (read_word greater))
 
 abbrev pub read_comment : Reader FaultKind (List ℕ)
@@ -36,7 +36,7 @@ read_comment = read_valued line_ends read_comment_inside
 
 abbrev pub read_section : Reader FaultKind (List ℕ)
 read_section =
-    read_valued line_ends (read_behind (read_word section_start) (read_up_to is_char section_end))
+    read_valued line_ends (read_after (read_word section_start) (read_up_to is_char section_end))
 
 -- white space follows
 abbrev pub space_follows : List ℕ → Bool
@@ -45,18 +45,18 @@ space_follows = head_is is_space
 abbrev pub read_instructed : Reader FaultKind (Unit {0})
 read_instructed =
     read_either space_follows
-    (read_dropped (read_behind (read_one is_space) (read_up_to is_char instruction_end)))
+    (read_dropped (read_after (read_one is_space) (read_up_to is_char instruction_end)))
     (read_word instruction_end)
 
 abbrev pub read_instruction : Reader FaultKind (Unit {0})
 read_instruction =
-    read_behind (read_word instruction_start)
-    (read_behind (read_only is_target read_name) read_instructed)
+    read_after (read_word instruction_start)
+    (read_after (read_only is_target read_name) read_instructed)
 
 -- ---- the XML declaration and the byte order mark
 
 abbrev pub read_version_number : Reader FaultKind (Unit {0})
-read_version_number = read_dropped (read_behind (read_word one_dot) (read_some_of is_ascii_digit))
+read_version_number = read_dropped (read_after (read_word one_dot) (read_some_of is_ascii_digit))
 
 abbrev pub read_encoding_name : Reader FaultKind (List ℕ)
 read_encoding_name = read_name_of is_ascii_alphabetic is_encoding_char
@@ -66,12 +66,12 @@ read_yes_or_no = read_either (head_is (λ c. c == 121)) (read_word yes) (read_wo
 
 abbrev pub read_declared : {A : Type 0} → List ℕ → Reader FaultKind A → Reader FaultKind A
 read_declared w r =
-    read_behind read_some_spaces
-    (read_behind (read_word w) (read_behind read_equals (read_quoted is_quote (λ _. r))))
+    read_after read_some_spaces
+    (read_after (read_word w) (read_after read_equals (read_quoted is_quote (λ _. r))))
 
 -- white space and this letter follow
 abbrev pub letter_follows : ℕ → List ℕ → Bool
-letter_follows letter = spaced is_space (λ c. c == letter)
+letter_follows letter = space_then is_space (λ c. c == letter)
 
 abbrev pub read_version : Reader FaultKind (Unit {0})
 read_version = read_declared version read_version_number
@@ -90,10 +90,10 @@ read_standalone_if = read_optional (letter_follows 115) read_standalone
 
 abbrev pub read_xml_declaration : Reader FaultKind (Option (List ℕ))
 read_xml_declaration =
-    read_behind (read_word declaration_start)
-    (read_behind read_version
+    read_after (read_word declaration_start)
+    (read_after read_version
     (read_before read_encoding_if
-    (read_behind read_standalone_if (read_behind read_spaces (read_word instruction_end)))))
+    (read_after read_standalone_if (read_after read_spaces (read_word instruction_end)))))
 
 -- the fault of a foreign encoding, at the `?>`
 abbrev pub encoding_fault : Option (List ℕ) → Option (FaultKind × ℕ)
@@ -144,6 +144,6 @@ read_prolog = read_miscs misc_follows read_prolog_misc
 abbrev pub read_epilog : Reader FaultKind (Unit {0})
 read_epilog = read_miscs less_follows read_misc
 
--- parts that spell nothing, and more of them
+-- parts without a value, joined
 abbrev pub nothing_with : Unit {0} → List (Unit {0} × Unit {0}) → Unit {0}
 nothing_with so_far more = tt

@@ -9,7 +9,7 @@ use Rattle.xml_grammar.specs.TextReading.{read_sequence}
 use Rattle.xml_grammar.specs.TextReading.{read_valued, read_some_of}
 use Rattle.xml_grammar.specs.readers.Functions.{read_run_without, read_number, read_either}
 use Rattle.xml_grammar.specs.readers.Functions.{read_optional, read_between, read_name_of}
-use Rattle.xml_grammar.specs.readers.Functions.{read_before, read_behind}
+use Rattle.xml_grammar.specs.readers.Functions.{read_before, read_after}
 use Rattle.xml_tokens.specs.readers.Words.{greater, end_start, equals_sign, colon, ampersand}
 use Rattle.xml_tokens.specs.readers.Words.{semicolon, hash, small_x, amp, lt, gt, quot, apos}
 use Rattle.xml_tokens.specs.readers.Words.{section_end}
@@ -30,7 +30,7 @@ abbrev pub read_qname : Reader FaultKind Name
 read_qname =
     read_valued qname_of
     (read_sequence read_name (λ _.
-    read_optional colon_follows (read_behind (read_word colon) read_name)))
+    read_optional colon_follows (read_after (read_word colon) read_name)))
 
 abbrev pub read_spaces : Reader FaultKind (List ℕ)
 read_spaces = read_run is_space
@@ -39,7 +39,7 @@ abbrev pub read_some_spaces : Reader FaultKind (List ℕ)
 read_some_spaces = read_some_of is_space
 
 abbrev pub read_equals : Reader FaultKind (List ℕ)
-read_equals = read_behind read_spaces (read_behind (read_word equals_sign) read_spaces)
+read_equals = read_after read_spaces (read_after (read_word equals_sign) read_spaces)
 
 -- ---- references and values
 
@@ -56,16 +56,16 @@ read_entity =
 
 abbrev pub read_numbered : Reader FaultKind ℕ
 read_numbered =
-    read_behind (read_word hash)
+    read_after (read_word hash)
     (read_either (head_is (λ c. c == 120))
-    (read_behind (read_word small_x) (read_number hexadecimal last_char is_char))
+    (read_after (read_word small_x) (read_number hexadecimal last_char is_char))
     (read_number decimal_digits last_char is_char))
 
 abbrev pub read_named : Reader FaultKind ℕ
 read_named = read_either (head_is (λ c. c == 35)) read_numbered read_entity
 
 abbrev pub read_reference : Reader FaultKind ℕ
-read_reference = read_behind (read_word ampersand) (read_before read_named (read_word semicolon))
+read_reference = read_after (read_word ampersand) (read_before read_named (read_word semicolon))
 
 -- raw characters of a value between these quotes
 abbrev pub read_raw : ℕ → Reader FaultKind (List ℕ)
@@ -81,8 +81,8 @@ read_value quote =
 
 abbrev pub read_end_tag : Name → Reader FaultKind (Unit {0})
 read_end_tag n =
-    read_behind (read_word end_start)
-    (read_behind (read_word (written n)) (read_behind read_spaces (read_word greater)))
+    read_after (read_word end_start)
+    (read_after (read_word (written n)) (read_after read_spaces (read_word greater)))
 
 -- raw characters of content
 abbrev pub read_raw_run : Reader FaultKind (List ℕ)

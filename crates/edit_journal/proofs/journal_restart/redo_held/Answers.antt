@@ -4,19 +4,19 @@ use Rattle.http_wire.specs.declared.request.Request.{Request}
 use Rattle.edit_journal.specs.Records.{record_of}
 use Rattle.edit_journal.specs.inner.ReadBuffer.{TakesRecord}
 use Rattle.edit_journal.proofs.Lengths.{record_length}
-use Rattle.edit_journal.proofs.ReplayedRequests.{held_next, held_stops, held_short, held_few}
+use Rattle.edit_journal.proofs.ReplayedRequests.{replay_progress, held_next, held_stops, held_short, held_few}
 use Rattle.edit_journal.proofs.journal_restart.redo_held.Goals as goal
 
 pub redo_one-requires-clause-within_max : goal.redo_one-requires-clause-within_max
 redo_one-requires-clause-within_max g c =
-    let j0 = g.J.Journal.state c.args.journal.now in
-    let j1 = g.J.Journal.state c.records.journal in
+    let r0 = replay_progress c.args.replayer.now (g.J.Journal.state c.args.journal.now) c.args.log.now c.args.count.now in
+    let r1 = replay_progress c.records.replayer (g.J.Journal.state c.records.journal) c.records.log c.records.count in
     let redone = c.records.invariant.redone in
     omega (
       arith,
       c.requires.length_bounded,
-      held_few g.R.Replayer.stands g.R.Replayer.refuses j0 j1 c.args.replayer.now c.records.replayer c.args.log.now c.records.log c.args.count.now c.records.count c.args.read_buffer.now.held c.records.read_buffer.held c.requires.within_max redone,
-      held_short g.R.Replayer.stands g.R.Replayer.refuses j0 j1 c.args.replayer.now c.records.replayer c.args.log.now c.records.log c.args.count.now c.records.count c.args.read_buffer.now.held c.records.read_buffer.held redone,
+      held_few g.R.Replayer.stands g.R.Replayer.refuses r0 r1 c.args.read_buffer.now.held c.records.read_buffer.held c.requires.within_max redone,
+      held_short g.R.Replayer.stands g.R.Replayer.refuses r0 r1 c.args.read_buffer.now.held c.records.read_buffer.held redone,
     )
 
 pub returns-in_err-redo_one-clause-redoes_whole : goal.returns-in_err-redo_one-clause-redoes_whole
@@ -24,8 +24,8 @@ returns-in_err-redo_one-clause-redoes_whole g c =
     let p = err_from_is_err_and c.from_residual-in_err-redo_one.result c.from_residual-in_err-redo_one.ensures.1 in
     let takes : TakesRecord c.records.read_buffer c.next_record.new.self c.len.result (Ok (Some c.in-Some.request)) =
     subst (λ (o : Option Request). TakesRecord c.records.read_buffer c.next_record.new.self c.len.result (Ok o)) c.in-Some.is c.in_ok-request.ensures.takes_record in
-    rw (p.1, p.2) (held_stops g.R.Replayer.stands g.R.Replayer.refuses (g.J.Journal.state c.args.journal.now) (g.J.Journal.state c.records.journal) (g.J.Journal.state c.redo_one.new.journal)
-    c.args.replayer.now c.records.replayer c.redo_one.new.replayer c.args.log.now c.records.log c.args.count.now c.records.count c.args.read_buffer.now.held c.records.read_buffer.held
+    rw (p.1, p.2) (held_stops g.R.Replayer.stands g.R.Replayer.refuses (replay_progress c.args.replayer.now (g.J.Journal.state c.args.journal.now) c.args.log.now c.args.count.now) (replay_progress c.records.replayer (g.J.Journal.state c.records.journal) c.records.log c.records.count) (replay_progress c.redo_one.new.replayer (g.J.Journal.state c.redo_one.new.journal) c.redo_one.new.log c.redo_one.new.count)
+    c.args.read_buffer.now.held c.records.read_buffer.held
     (record_of c.in-Some.request ++ c.next_record.new.self.held) c.in_err-redo_one.field-0.0 c.records.invariant.redone takes.0.1 (c.in_err-redo_one.ensures.redoes_request c.next_record.new.self.held))
 
 pub returns-in_err-redo_one-clause-same_subject : goal.returns-in_err-redo_one-clause-same_subject
@@ -42,8 +42,7 @@ records-preserved g c =
     let takes : TakesRecord c.records.read_buffer c.next_record.new.self c.len.result (Ok (Some c.in-Some.request)) =
     subst (λ (o : Option Request). TakesRecord c.records.read_buffer c.next_record.new.self c.len.result (Ok o)) c.in-Some.is c.in_ok-request.ensures.takes_record in
     record {
-      redone = held_next g.R.Replayer.stands g.R.Replayer.refuses (g.J.Journal.state c.args.journal.now) (g.J.Journal.state c.records.journal) (g.J.Journal.state c.redo_one.new.journal)
-          c.args.replayer.now c.records.replayer c.redo_one.new.replayer c.args.log.now c.records.log c.redo_one.new.log c.args.count.now c.records.count c.redo_one.new.count
+      redone = held_next g.R.Replayer.stands g.R.Replayer.refuses (replay_progress c.args.replayer.now (g.J.Journal.state c.args.journal.now) c.args.log.now c.args.count.now) (replay_progress c.records.replayer (g.J.Journal.state c.records.journal) c.records.log c.records.count) (replay_progress c.redo_one.new.replayer (g.J.Journal.state c.redo_one.new.journal) c.redo_one.new.log c.redo_one.new.count)
           c.args.read_buffer.now.held c.records.read_buffer.held (record_of c.in-Some.request ++ c.next_record.new.self.held) c.next_record.new.self.held c.records.invariant.redone takes.0.1
           (c.in_ok-redo_one.ensures.redoes_request c.next_record.new.self.held);
       taken = takes.1 ∙ c.records.invariant.taken;

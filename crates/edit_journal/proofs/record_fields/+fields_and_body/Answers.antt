@@ -6,16 +6,16 @@ use Rattle.edit_journal.proofs.Fields.{body_stops, body_whole, field_stops, fiel
 use Rattle.edit_journal.proofs.Lengths.{field_length}
 use Rattle.edit_journal.proofs.record_fields.+fields_and_body.Goals as goal
 
-pub returns-in_err-block-clause-reads_rule : goal.returns-in_err-block-clause-reads_rule
-returns-in_err-block-clause-reads_rule t c =
+pub returns-in_err-read_block-clause-reads_rule : goal.returns-in_err-read_block-clause-reads_rule
+returns-in_err-read_block-clause-reads_rule t c =
     let seen : List ℕ → List Field × List ℕ = λ body. (drop (length c.args.fields.now) c.args.fields.now, body) in
-    stops_with seen (FieldsAndBody c.args.count c.args.left) c.args.bytes.now c.from_residual.result c.in_err-block.field-0.0 c.from_residual.ensures.1
-    (body_stops seen c.args.bytes.now c.args.count c.args.left c.in_err-block.field-0.0 c.if-count-eq0.true c.requires.room_left c.in_err-block.ensures.reads_rule)
+    stops_with seen (FieldsAndBody c.args.count c.args.left) c.args.bytes.now c.from_residual.result c.in_err-read_block.field-0.0 c.from_residual.ensures.1
+    (body_stops seen c.args.bytes.now c.args.count c.args.left c.in_err-read_block.field-0.0 c.if-count-eq0.true c.requires.room_left c.in_err-read_block.ensures.reads_rule)
 
 pub returns-then-count-eq0-clause-reads_rule : goal.returns-then-count-eq0-clause-reads_rule
 returns-then-count-eq0-clause-reads_rule t c =
-    let e = c.in_ok-block.ensures.reads_rule in
-    (e.0, e.1, e.2, body_whole c.args.fields.now c.args.count c.args.left e.0 c.in_ok-block.field-0.now c.in_ok-from.field-0 c.if-count-eq0.true c.requires.room_left e.3 c.in_ok-from.ensures.same_bytes)
+    let e = c.in_ok-read_block.ensures.reads_rule in
+    (e.0, e.1, e.2, body_whole c.args.fields.now c.args.count c.args.left e.0 c.in_ok-read_block.field-0.now c.in_ok-from.field-0 c.if-count-eq0.true c.requires.room_left e.3 c.in_ok-from.ensures.same_bytes)
 
 pub returns-in_err-field-clause-reads_rule : goal.returns-in_err-field-clause-reads_rule
 returns-in_err-field-clause-reads_rule t c =

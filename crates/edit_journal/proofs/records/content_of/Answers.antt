@@ -4,8 +4,8 @@ use Rattle.edit_journal.specs.inner.WritableParts.{IsWritable}
 use Rattle.edit_journal.proofs.Lengths.{content_length, fields_writable}
 use Rattle.edit_journal.proofs.records.content_of.Goals as goal
 
-pub put_block-requires : goal.put_block-requires
-put_block-requires c =
+pub append_block-requires : goal.append_block-requires
+append_block-requires c =
     let request = c.args.request.now in
     omega (arith, content_length request, c.requires.short, ap length c.as_slice.ensures.exact)
 

@@ -4,8 +4,8 @@ use Rattle.edit_journal.specs.Records.{block}
 use Rattle.edit_journal.proofs.Pieces.{then_more}
 use Rattle.edit_journal.proofs.records.put_field.Goals as goal
 
-pub put_block-requires : goal.put_block-requires
-put_block-requires c =
+pub append_block-requires : goal.append_block-requires
+append_block-requires c =
     let same : c.as_bytes.result.now ≡ c.args.field.now.name = c.as_bytes.ensures.value ∙ c.as_str.ensures.utf8_bytes ∙ encodes-IsAscii c.args.field.now.name c.requires.ascii in
     subst (λ (l : List ℕ). length l < 4294967296) (sym same) c.requires.name
 
@@ -13,8 +13,8 @@ pub returns : goal.returns
 returns c = record {
   appended =
       let same : c.as_bytes.result.now ≡ c.args.field.now.name = c.as_bytes.ensures.value ∙ c.as_str.ensures.utf8_bytes ∙ encodes-IsAscii c.args.field.now.name c.requires.ascii in
-      let first : c.put_block.new.made ≡ c.args.made.now ++ block c.args.field.now.name = c.in_ok-put_block.ensures.appended ∙ ap (λ (l : List ℕ). c.args.made.now ++ block l) same in
+      let first : c.append_block.new.made ≡ c.args.made.now ++ block c.args.field.now.name = c.in_ok-append_block.ensures.appended ∙ ap (λ (l : List ℕ). c.args.made.now ++ block l) same in
       let value : c.as_slice.result.now ≡ c.args.field.now.value = c.as_slice.ensures.exact in
-      then_more c.put_block-2.result c.args.made.now c.put_block.new.made c.put_block-2.new.made (block c.args.field.now.name) (block c.args.field.now.value) first
-      (subst (λ (l : List ℕ). OnOk c.put_block-2.result (c.put_block-2.new.made ≡ c.put_block.new.made ++ block l)) value c.put_block-2.ensures.appended);
+      then_more c.append_block-2.result c.args.made.now c.append_block.new.made c.append_block-2.new.made (block c.args.field.now.name) (block c.args.field.now.value) first
+      (subst (λ (l : List ℕ). OnOk c.append_block-2.result (c.append_block-2.new.made ≡ c.append_block.new.made ++ block l)) value c.append_block-2.ensures.appended);
 }

@@ -12,8 +12,8 @@ unreachable-requires c =
     let root = c.args.root.now in
     site_missing root c.args.change.now c.requires (ap (λ p. at p root) (sym c.site_of.ensures.exact) ∙ sym (c.in_default.ensures {u = tt}).exact)
 
-pub staged_here-requires : goal.staged_here-requires
-staged_here-requires c =
+pub stage_here-requires : goal.stage_here-requires
+stage_here-requires c =
     let root = c.args.root.now in
     fits_at root c.in-Some.here.now c.args.change.now c.requires (ap (λ p. at p root) (sym c.site_of.ensures.exact) ∙ sym c.in-Some.ensures.exact)
 
@@ -21,10 +21,10 @@ pub returns-clause-stages_change : goal.returns-clause-stages_change
 returns-clause-stages_change c =
     let root = c.args.root.now in let change = c.args.change.now in let here = c.in-Some.here.now in
     let there = ap (λ p. at p root) (sym c.site_of.ensures.exact) ∙ sym c.in-Some.ensures.exact in
-    IfOk-weaker c.staged_here.result _ _ (λ made h. with_there (at (site change) root) (λ e. IsStagedHere change e made) here there h) c.staged_here.ensures.stages_change
+    IfOk-weaker c.stage_here.result _ _ (λ made h. with_there (at (site change) root) (λ e. IsStagedHere change e made) here there h) c.stage_here.ensures.stages_change
 
 pub returns-clause-err_wants_memory : goal.returns-clause-err_wants_memory
 returns-clause-err_wants_memory c =
     let root = c.args.root.now in
     let there = ap (λ p. at p root) (sym c.site_of.ensures.exact) ∙ sym c.in-Some.ensures.exact in
-    IfErr-weaker c.staged_here.result _ _ (λ fault h. wants_at root c.in-Some.here.now c.args.change.now there h) c.staged_here.ensures.err_wants_memory
+    IfErr-weaker c.stage_here.result _ _ (λ fault h. wants_at root c.in-Some.here.now c.args.change.now there h) c.stage_here.ensures.err_wants_memory

@@ -1,6 +1,6 @@
 use Rattle.std.proofs.Common.{◌≡◌, ◌≤◌, length, drop, take, count_by}
 use Rattle.std.specs.Option.{ForSome}
-use Rattle.node_select.specs.InsertionPoints.{IsLawfulInsertion, PlanIs}
+use Rattle.node_select.specs.InsertionPoints.{IsLawfulInsertion, IsInsertionPlan}
 use Rattle.xml_tree.specs.Tree.{child_elements, child_elements_of}
 use Rattle.xml_tree.specs.Nodes.{content_of}
 use Rattle.node_select.specs.Selection.{is_named, is_tested}
@@ -17,5 +17,5 @@ invariant-loop-node l = record {
   counted : l.before ≡ count_by (is_named l.scope l.step) (take l.i (child_elements_of l.parent));
   few : l.before ≤ l.i;
   prev : ForSome l.row (λ kind. l.prev ≡ part_before kind l.scope 0 l.i l.parent.content);
-  plan : PlanIs Unlawful Invalid (IsLawfulInsertion (is_named l.scope l.step) (is_tested l.scope l.step) l.step.position (child_elements_of l.parent) l.new) (FitsIn l.row l.scope l.parent.content l.new) l.i l.answer;
+  plan : IsInsertionPlan Unlawful Invalid (IsLawfulInsertion (is_named l.scope l.step) (is_tested l.scope l.step) l.step.position (child_elements_of l.parent) l.new) (FitsIn l.row l.scope l.parent.content l.new) l.i l.answer;
 }

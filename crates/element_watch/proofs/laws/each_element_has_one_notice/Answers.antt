@@ -6,6 +6,6 @@ pub returns : goal.returns
 returns c = record {
   state_exists = λ u t selector ns. (state_in u t selector ns, state_is u t selector ns);
   states_are_one = one_state;
-  notice_exists = λ w c tag ns. some_notice w.root c tag w.doc w.selector w.raw ns;
-  notices_are_one = λ w c ns. one_notice w.root c w.doc w.selector w.raw ns;
+  notice_exists = λ root w c tag ns. some_notice root c tag w.doc w.selector w.raw ns;
+  notices_are_one = λ root w c ns. one_notice root c w.doc w.selector w.raw ns;
 }

@@ -10,5 +10,5 @@ returns-then-not-contains c = record {
   head_of_all =
       let none : list_any (λ b. b == line_feed) (drop c.args.seen c.args.bytes.now) ≡ false =
       ap (list_any (λ b. b == line_feed)) (sym (take_rest c.args.bytes.now c.args.seen)) ∙ sym c.contains.ensures.value ∙ c.if-not-contains.true in
-      (no_head_without_feed c.args.bytes.now c.args.seen c.requires.inside c.requires.no_head_yet none, c.if-bytes-lt-MAX_HEAD.true);
+      (no_head_without_feed c.args.bytes.now c.args.seen c.requires.inside c.requires.no_head_yet none, c.if-bytes-lt-MAX_HEAD_BYTES.true);
 }

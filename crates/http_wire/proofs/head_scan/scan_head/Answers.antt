@@ -17,8 +17,8 @@ pub returns-in_default : goal.returns-in_default
 returns-in_default c = record {
   head_of_bytes =
       let none = rw c.in-Ok-Partial.field-0-is at c.in-Ok-Partial.ensures.partial in
-      let full : c.min.result ≡ 16_384 = omega (arith, c.if-bytes-lt-MAX_HEAD.false) in
-      (never_behind_full c.args.bytes.now c.if-bytes-lt-MAX_HEAD.false (subst (λ (n : ℕ). HasNoRequest (take n c.args.bytes.now)) full none), omega arith);
+      let full : c.min.result ≡ 16_384 = omega (arith, c.if-bytes-lt-MAX_HEAD_BYTES.false) in
+      (never_behind_full c.args.bytes.now c.if-bytes-lt-MAX_HEAD_BYTES.false (subst (λ (n : ℕ). HasNoRequest (take n c.args.bytes.now)) full none), omega arith);
 }
 
 pub returns-in_default-2 : goal.returns-in_default-2

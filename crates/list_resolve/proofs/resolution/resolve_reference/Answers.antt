@@ -5,7 +5,7 @@ use Rattle.list_resolve.proofs.resolution.resolve_reference.Goals as goal
 
 pub returns-in-Ok-clause-exact : goal.returns-in-Ok-clause-exact
 returns-in-Ok-clause-exact c =
-    c.lead_of.ensures.exact
+    c.resolve_target.ensures.exact
     ∙ target_led (context_in c.args.ground.now) c.args.reference.now c.as_bytes-target.result.now c.in-Ok.target (c.as_bytes-target.ensures.value ∙ c.as_str.ensures.utf8_bytes) c.in-Ok.ensures.rules_answer
 
 pub returns-in-Err-Fault-clause-exact : goal.returns-in-Err-Fault-clause-exact
@@ -15,8 +15,8 @@ returns-in-Err-Fault-clause-exact c =
 
 pub returns-in-Ok-clause-lead_is_there : goal.returns-in-Ok-clause-lead_is_there
 returns-in-Ok-clause-lead_is_there c =
-    found_there (context_in c.args.ground.now) c.args.reference.now c.lead_of.result
+    found_there (context_in c.args.ground.now) c.args.reference.now c.resolve_target.result
     (
-    c.lead_of.ensures.exact
+    c.resolve_target.ensures.exact
     ∙ target_led (context_in c.args.ground.now) c.args.reference.now c.as_bytes-target.result.now c.in-Ok.target (c.as_bytes-target.ensures.value ∙ c.as_str.ensures.utf8_bytes) c.in-Ok.ensures.rules_answer
     )

@@ -4,7 +4,7 @@ use Rattle.list_resolve.specs.Walks.{Item, mark, walk_after, walked}
 use Rattle.list_resolve.specs.inner.WalkStates.{Fails, with_items}
 use Rattle.list_resolve.specs.inner.Kids.{child_items}
 use Rattle.list_resolve.specs.inner.SkippedElements.{Gathers, reference_resolved_in}
-use Rattle.list_resolve.specs.inner.Views.{context_in, lead_in, scoped_element_in}
+use Rattle.list_resolve.specs.inner.Views.{context_in, resolved_in, scoped_element_in}
 use Rattle.list_resolve.proofs.SkippedElements.{is_passed, once_passed}
 use Rattle.list_resolve.proofs.Walks.{all_nodes, at_elem, behind_left, fails_before, fails_in_part, hands_on, lead_items, led_items, nodes_items, reference_items}
 use Rattle.list_resolve.proofs.walk.+walk.Goals as goal
@@ -37,10 +37,10 @@ pub walk_after-returns-in-Some : goal.walk_after-returns-in-Some
 walk_after-returns-in-Some t c = record {
   gathers_reference =
       let g = context_in c.args.ground.now in
-      let led : reference_resolved_in g c.args.reference.now ≡ Some (lead_in c.in-Some.lead) = sym c.in_ok-resolve_reference.ensures.exact ∙ ap (option_map lead_in) c.in-Some.is in
-      let e : walk_after (reference_resolved_in g) g.root c.args.left c.args.chain.now c.args.reference.now ≡ lead_items (walk_after (reference_resolved_in g) g.root (c.args.left - 1)) g.root c.args.chain.now (lead_in c.in-Some.lead) =
+      let led : reference_resolved_in g c.args.reference.now ≡ Some (resolved_in c.in-Some.lead) = sym c.in_ok-resolve_reference.ensures.exact ∙ ap (option_map resolved_in) c.in-Some.is in
+      let e : walk_after (reference_resolved_in g) g.root c.args.left c.args.chain.now c.args.reference.now ≡ lead_items (walk_after (reference_resolved_in g) g.root (c.args.left - 1)) g.root c.args.chain.now (resolved_in c.in-Some.lead) =
       behind_left (reference_resolved_in g) g.root c.args.left c.args.chain.now c.args.reference.now (omega arith) ∙ ap (led_items (walk_after (reference_resolved_in g) g.root (c.args.left - 1)) g.root c.args.chain.now) led in
-      subst (λ (items : List Item). Gathers g items c.args.collector.now c.walk_lead.new.collector c.walk_lead.result) (sym e) c.walk_lead.ensures.gathers_lead;
+      subst (λ (items : List Item). Gathers g items c.args.collector.now c.walk_resolved_reference.new.collector c.walk_resolved_reference.result) (sym e) c.walk_resolved_reference.ensures.gathers_lead;
 }
 
 pub walk_once-returns-then-has_passed : goal.walk_once-returns-then-has_passed

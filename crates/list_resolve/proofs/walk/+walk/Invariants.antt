@@ -24,8 +24,8 @@ decreases-walk_reference l = 300 * l.left + 3 * height l.element.now
 abbrev pub decreases-walk_after : goal.decreases-walk_after
 decreases-walk_after l = 300 * l.left + 2
 
-abbrev pub decreases-walk_lead : goal.decreases-walk_lead
-decreases-walk_lead l = 300 * l.left + 299
+abbrev pub decreases-walk_resolved_reference : goal.decreases-walk_resolved_reference
+decreases-walk_resolved_reference l = 300 * l.left + 299
 
 abbrev pub decreases-walk_once : goal.decreases-walk_once
 decreases-walk_once l = 300 * l.left + 298

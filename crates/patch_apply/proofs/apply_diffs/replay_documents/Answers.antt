@@ -1,7 +1,7 @@
 use Rattle.std.proofs.Common.{◌≡◌, ◌<◌, ℕ, zero, suc, eqb, true, false, Ok, List, [], ◌∷◌, ◌++◌, length, sym, subst, ap, ◌∙◌, arith}
 use Rattle.xml_tree.specs.Tree.{Tree}
 use Rattle.patch_rules.specs.Replay.{CopyAnswer, documents, is_all_mine}
-use Rattle.patch_rules.specs.readers.Replay.{all_taken}
+use Rattle.patch_rules.specs.readers.Replay.{outcome_of_documents}
 use Rattle.xcap_uri.specs.PrintedNames.{is_name_of}
 use Rattle.patch_apply.specs.Views.{stored_in}
 use Rattle.patch_apply.specs.inner.PrivateTypes.{contents_in}
@@ -23,6 +23,6 @@ returns-in-Updated-clause-as_specified c =
     let some = subst (λ (l : List Tree). 0 < length l) docs (some_item c.args.documents.now (some_if (length c.args.documents.now) (sym c.is_empty.ensures ∙ c.if-is_empty.false))) in
     let scope = c.with-scope.ensures.exact ∙ (λ i. c.empty.ensures.declares_nothing i ++ c.decls.ensures.exact i ∷ []) in
     let held = c.in_ok-held.ensures.equal_copy in
-    let new = stored_in c.all_taken.new.held in
-    let document_outcome = (λ i. all_taken 0 (sym scope i) (sym docs i) (stored_in (sym held i))) ∙ c.in_ok-outcome.ensures.as_specified ∙ ap (λ (o : DocumentOutcome). Ok (contents_in o new)) c.in-Updated.is in
+    let new = stored_in c.outcome_of_documents.new.held in
+    let document_outcome = (λ i. outcome_of_documents 0 (sym scope i) (sym docs i) (stored_in (sym held i))) ∙ c.in_ok-outcome.ensures.as_specified ∙ ap (λ (o : DocumentOutcome). Ok (contents_in o new)) c.in-Updated.is in
     done_with is_mine notice (stored_in c.args.replica.now.held) mine new some document_outcome ∙ ap (λ (a : CopyAnswer). Ok (a, new)) (sym c.outcome_with-answer.ensures.patched_or_removed)

@@ -1,7 +1,7 @@
 use Rattle.std.proofs.Common.{ℕ, List, [], ◌∷◌, ◌++◌, ap, ◌∙◌}
 use Rattle.std.proofs.lemmas.Result.{err_from_is_err_and}
 use Rattle.xml_names.specs.declared.names.Decl.{Decl}
-use Rattle.patch_rules.specs.readers.Replay.{by_tags}
+use Rattle.patch_rules.specs.readers.Replay.{outcome_by_previous_tag}
 use Rattle.patch_parse.specs.Operations.{ours_in}
 use Rattle.patch_apply.specs.Views.{stored_in}
 use Rattle.patch_apply.specs.inner.PrivateTypes.{turn_in}
@@ -19,6 +19,6 @@ returns-in_err-turn-clause-as_specified c =
     λ n e.
     rw (p.1, p.2) (
     error_alike (λ (t : DocumentOutcome). turn_in t new) (λ (x : DocumentOutcome × ℕ). turn_in x.0 new) _ _ c.in_err-turn.field-0.0
-    (λ i. by_tags n (here i) ((told.same_operations ∙ (λ j. ours_in (here j) d)) i) (told.tag_before_diff i) (told.tag_after_diff i) (stored_in c.args.held.now))
+    (λ i. outcome_by_previous_tag n (here i) ((told.same_operations ∙ (λ j. ours_in (here j) d)) i) (told.tag_before_diff i) (told.tag_after_diff i) (stored_in c.args.held.now))
     (c.in_err-turn.ensures.as_specified n e)
     )

@@ -16,5 +16,5 @@ returns c = record {
       let p = c.args.path.now in let t = c.args.tree.now in
       take_made p c.args.operation.now.content t (some_if (at p t) _ c.requires.place_exists) c.requires.height_bounded c.args.place
       (sym c.is_bare.ensures.exact ∙ c.if-not-is_bare.false)
-      ∙ ap Ok (sym c.take_at.ensures.tree_changed);
+      ∙ ap Ok (sym c.remove_attribute_at.ensures.tree_changed);
 }

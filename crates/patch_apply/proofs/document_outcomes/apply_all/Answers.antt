@@ -1,7 +1,7 @@
 use Rattle.std.proofs.Common.{◌+◌, suc, Err, List, drop, map, refl, sym, ap, ◌∙◌}
 use Rattle.xml_tree.specs.Tree.{Tree}
 use Rattle.patch_rules.specs.readers.AppliedOperations.{apply_operation}
-use Rattle.patch_rules.specs.Replay.{numbered}
+use Rattle.patch_rules.specs.Replay.{with_operation_number}
 use Rattle.patch_rules.specs.readers.Replay.{apply_all}
 use Rattle.patch_apply.proofs.Lows.{applied_low}
 use Rattle.patch_apply.proofs.OperationOrder.{applied_next, fault_ends, item_now, one_more, tells_same}
@@ -33,6 +33,6 @@ returns-in-Err-clause-as_specified c = λ n e.
     (item_now c.args.operations.now c.loop-operation.operation-index c.operation-item.result c.loop-operation-test.true c.operation-item.is) in
     tells_same {X = Unit {0}} (λ _. new) _ _ (Err c.error_at.result) (sym same)
     (
-    fault_ends {X = Tree} {Z = Unit {0}} (λ y. y) (λ _. new) (numbered x.0 (apply_operation scope o t)) (apply_all (suc x.0) scope (map (λ y. y.now) (drop (c.loop-operation.operation-index + 1) c.args.operations.now))) c.error_at.result
+    fault_ends {X = Tree} {Z = Unit {0}} (λ y. y) (λ _. new) (with_operation_number x.0 (apply_operation scope o t)) (apply_all (suc x.0) scope (map (λ y. y.now) (drop (c.loop-operation.operation-index + 1) c.args.operations.now))) c.error_at.result
     (c.error_at.ensures.numbered_fault x.0 (apply_operation scope o t) new (c.saturating_add-number.ensures ∙ one_more c.loop-operation.number x.0 x.1) c.in-Err.ensures.as_specified)
     )

@@ -4,12 +4,12 @@ use Rattle.patch_rules.specs.PatchOperations.{means_alike}
 use Rattle.patch_apply.proofs.Sites.{scope_above, there_above}
 use Rattle.patch_apply.proofs.edits.alike_around.Goals as goal
 
-pub means_alike_at-requires : goal.means_alike_at-requires
-means_alike_at-requires c = record { place_exists = there_above c.args.path.now c.in-Some.parent _ c.args.tree.now (c.in-Some.ensures {u = tt}).path_parts c.requires.place_exists }
+pub names_agree_at-requires : goal.names_agree_at-requires
+names_agree_at-requires c = record { place_exists = there_above c.args.path.now c.in-Some.parent _ c.args.tree.now (c.in-Some.ensures {u = tt}).path_parts c.requires.place_exists }
 
 pub returns-in-Some : goal.returns-in-Some
 returns-in-Some c = record {
   exact =
-      c.means_alike_at.ensures.exact
+      c.names_agree_at.ensures.exact
       ∙ ap (λ (s : List (List Decl)). means_alike c.args.here.now s c.args.operation.now.content) (sym (scope_above c.args.path.now c.in-Some.parent _ c.args.tree.now (c.in-Some.ensures {u = tt}).path_parts));
 }

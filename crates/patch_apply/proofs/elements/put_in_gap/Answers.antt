@@ -9,8 +9,8 @@ use Rattle.patch_apply.proofs.Depths.{some_if}
 use Rattle.patch_apply.proofs.ActionTrees.{gap_deep, gap_made, gap_unlike}
 use Rattle.patch_apply.proofs.elements.put_in_gap.Goals as goal
 
-pub means_alike_at-requires : goal.means_alike_at-requires
-means_alike_at-requires c = record { place_exists = some_if (at c.args.gap.now.path c.args.tree.now) _ c.requires.within }
+pub names_agree_at-requires : goal.names_agree_at-requires
+names_agree_at-requires c = record { place_exists = some_if (at c.args.gap.now.path c.args.tree.now) _ c.requires.within }
 
 pub returns-then-not-may_hold : goal.returns-then-not-may_hold
 returns-then-not-may_hold c = record {
@@ -23,8 +23,8 @@ returns-then-not-may_hold c = record {
       );
 }
 
-pub returns-then-not-means_alike_at : goal.returns-then-not-means_alike_at
-returns-then-not-means_alike_at c = record {
+pub returns-then-not-names_agree_at : goal.returns-then-not-names_agree_at
+returns-then-not-names_agree_at c = record {
   as_specified =
       let p = c.args.gap.now.path in let t = c.args.tree.now in
       gap_unlike c.args.here.now p c.args.gap.now.place c.args.operation.now.content t (some_if (at p t) _ c.requires.within) c.requires.height_bounded
@@ -32,7 +32,7 @@ returns-then-not-means_alike_at c = record {
       ap (λ (ns : List Node). nat_le (length p + suc (nodes_height ns)) 64) (sym c.nodes-nodes.ensures.content_nodes) ∙ sym c.may_hold.ensures.exact
       ∙ c.if-not-may_hold.false
       )
-      (sym c.means_alike_at.ensures.exact ∙ c.if-not-means_alike_at.true);
+      (sym c.names_agree_at.ensures.exact ∙ c.if-not-names_agree_at.true);
 }
 
 pub returns : goal.returns
@@ -44,7 +44,7 @@ returns c = record {
       ap (λ (ns : List Node). nat_le (length p + suc (nodes_height ns)) 64) (sym c.nodes-nodes.ensures.content_nodes) ∙ sym c.may_hold.ensures.exact
       ∙ c.if-not-may_hold.false
       )
-      (sym c.means_alike_at.ensures.exact ∙ c.if-not-means_alike_at.false)
+      (sym c.names_agree_at.ensures.exact ∙ c.if-not-names_agree_at.false)
       ∙ ap (λ (ns : List Node). Ok (change_at p (exchange_nodes i i ns) t)) (sym (c.in_ok-copies.ensures.equal_copy ∙ c.nodes-nodes.ensures.content_nodes))
       ∙ ap Ok (sym c.in_ok-exchange_at.ensures.tree_changed);
 }

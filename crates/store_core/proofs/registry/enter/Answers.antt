@@ -3,7 +3,7 @@ use Rattle.std.specs.HashMap.{Updates}
 use Rattle.std.specs.Option.{option_to_list}
 use Rattle.std.specs.Set.{is_member}
 use Rattle.std.specs.Str.{bytes_eq}
-use Rattle.store_core.specs.inner.StoreMemory.{registered}
+use Rattle.store_core.specs.inner.StoreMemory.{registered_number}
 use Rattle.store_core.proofs.RegistryLemmas.{more-first, succeeded}
 use Rattle.store_core.proofs.registry.enter.Goals as goal
 
@@ -17,6 +17,6 @@ each-preserved c =
       room = search rules;
       rest = λ k.
           ap (λ (o : Option ℕ). cond (is_member bytes_eq us k) given o) (entered.0 k)
-          ∙ more-first us c.each.uris.items u k given (registered c.each.registry.entries k) all
+          ∙ more-first us c.each.uris.items u k given (registered_number c.each.registry.entries k) all
           ∙ c.each.invariant.rest k;
     }

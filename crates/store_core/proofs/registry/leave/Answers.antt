@@ -1,6 +1,6 @@
 use Rattle.std.proofs.Common.{ℕ, ◌+◌, cond, take, Option, None, ap, ◌∙◌, arith}
 use Rattle.std.specs.Str.{bytes_eq}
-use Rattle.store_core.specs.inner.StoreMemory.{registered}
+use Rattle.store_core.specs.inner.StoreMemory.{registered_number}
 use Rattle.store_core.proofs.RegistryLemmas.{more-last, taken-more}
 use Rattle.store_core.proofs.registry.leave.Goals as goal
 
@@ -12,6 +12,6 @@ loop-uri-preserved c =
       left = λ k.
           c.swap_remove.ensures.updates.0 k
           ∙ ap (λ (o : Option ℕ). cond (bytes_eq u k) None o) (c.loop-uri.invariant.left k)
-          ∙ more-last (take i us) (take (i + 1) us) u k None (registered c.args.registry.now.entries k) (taken-more us i u c.loop-uri-test.true c.uri-item.is);
+          ∙ more-last (take i us) (take (i + 1) us) u k None (registered_number c.args.registry.now.entries k) (taken-more us i u c.loop-uri-test.true c.uri-item.is);
       room = omega (arith, c.swap_remove.ensures.room, c.loop-uri.invariant.room);
     }

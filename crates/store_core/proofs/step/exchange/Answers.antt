@@ -3,7 +3,7 @@ use Rattle.std.specs.Map.{lookup}
 use Rattle.doc_names.specs.Equality.{same_id}
 use Rattle.edit_ops.specs.Changes.{Fits}
 use Rattle.store_core.specs.declared.entry.Entry.{Entry}
-use Rattle.store_core.specs.TreeChanges.{IsOwnWhere, IsStagedIn}
+use Rattle.store_core.specs.TreeChanges.{NeedsUnshared, IsStagedIn}
 use Rattle.store_core.proofs.DocumentMaps.{exchanged-in, looked-up, one-value}
 use Rattle.store_core.proofs.step.exchange.Goals as goal
 
@@ -20,7 +20,7 @@ update_entry-requires-clause-change_staged c =
 pub update_entry-requires-clause-tree_owned : goal.update_entry-requires-clause-tree_owned
 update_entry-requires-clause-tree_owned c =
     let r = c.requires in
-    subst (λ (v : Entry). IsOwnWhere c.args.staged v.tree.own) (one-value c.args.doc.now c.args.documents.now.entries r.0 c.in-Some.entry.now r.1 c.in-Some.ensures.value) r.4
+    subst (λ (v : Entry). NeedsUnshared c.args.staged v.tree.own) (one-value c.args.doc.now c.args.documents.now.entries r.0 c.in-Some.entry.now r.1 c.in-Some.ensures.value) r.4
 
 pub returns : goal.returns
 returns c = record {

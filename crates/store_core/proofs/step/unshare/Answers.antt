@@ -1,6 +1,6 @@
 use Rattle.std.proofs.Common.{sym, subst}
 use Rattle.std.proofs.lemmas.Result.{on_ok_weaker}
-use Rattle.store_core.specs.inner.UnsharedTrees.{IsOwn}
+use Rattle.store_core.specs.inner.UnsharedTrees.{IsUnshared}
 use Rattle.store_core.specs.inner.StoreMemory.{trees_in}
 use Rattle.store_core.proofs.SharedTrees.{own-missing, own-written, same-written}
 use Rattle.store_core.proofs.step.unshare.Goals as goal
@@ -17,4 +17,4 @@ returns-in-Some-clause-tree_unshared c =
 
 pub returns-in-None-clause-tree_unshared : goal.returns-in-None-clause-tree_unshared
 returns-in-None-clause-tree_unshared c =
-    subst (λ m. IsOwn (trees_in m.entries) c.args.doc.now) (sym c.get_mut.follows.holds-at-none) (own-missing c.args.doc.now c.args.documents.now.entries c.in-None.ensures.value)
+    subst (λ m. IsUnshared (trees_in m.entries) c.args.doc.now) (sym c.get_mut.follows.holds-at-none) (own-missing c.args.doc.now c.args.documents.now.entries c.in-None.ensures.value)

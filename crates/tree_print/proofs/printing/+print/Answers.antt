@@ -1,5 +1,5 @@
 use Rattle.std.proofs.Common.{◌++◌, length, sym, ap, ◌∙◌, eqb-true, eq-eqb}
-use Rattle.xml_names.specs.Markup.{closing}
+use Rattle.xml_names.specs.Markup.{end_tag_text}
 use Rattle.tree_print.proofs.PrintLemmas.{node_next, bare_end, filled_end}
 use Rattle.tree_print.proofs.printing.+print.Goals as goal
 
@@ -19,5 +19,5 @@ push_ending-returns t c = record {
       let e = c.args.element.now in
       filled_end c.args.out.now c.push.new.self c.loop-node.out c.push_closing.new.out e c.nodes-nodes.result.now c.loop-node.node-index c.nodes-nodes.ensures.nodes_content c.nodes-nodes.ensures.nodes_are_normal
       (λ z. let both = eq-eqb (length c.nodes-nodes.result.now) 0 z in let f = sym c.is_empty.ensures ∙ c.if-is_empty.false in cc)
-      c.loop-node-test.false c.in_ok-push.ensures.appended c.loop-node.invariant (c.in_ok-push_closing.ensures.appended ∙ ap (λ n. c.loop-node.out ++ closing n) c.name.ensures.exact);
+      c.loop-node-test.false c.in_ok-push.ensures.appended c.loop-node.invariant (c.in_ok-push_closing.ensures.appended ∙ ap (λ n. c.loop-node.out ++ end_tag_text n) c.name.ensures.exact);
 }

@@ -112,48 +112,48 @@ fill-returns t c =
     let start_tag = tag_in (chars c.args.text.now) c.args.start_tag.now all in
     let inside = c.in_ok-enter.ensures.scope_grows in
     let read = tagged (chars c.args.text.now) behind c.args.start_tag.now all c.args.raw_attribute.now.items same c.requires.1.1.1.1.0 in
-    let out = closed c.args.bindings.now c.enter.new.self c.behind_tag.new.bindings c.leave-decls.new.self decls c.leave-decls.result.items inside c.in_ok-rest.ensures.bindings_restored c.leave-decls.ensures.scope_shrinks c.leave-decls.ensures.lists_in_step in
+    let out = closed c.args.bindings.now c.enter.new.self c.after_tag.new.bindings c.leave-decls.new.self decls c.leave-decls.result.items inside c.in_ok-rest.ensures.bindings_restored c.leave-decls.ensures.scope_shrinks c.leave-decls.ensures.lists_in_step in
     let dressed =
     c.in_ok-push_attrs.ensures.appended ∙ ap (λ (z : Tree). record z { attrs = z.attrs ++ attrs_of c.args.raw_attribute.now.items }) c.requires.1.1.1.1.1
     ∙ ap (λ (z : List RawAttribute). tree_of start_tag.name [] (attrs_of z) (last [])) (sym same) in
     record {
       reads_rule = rw c.in_ok-push_decls.ensures.adds_declarations (rw out.0 (element_ok (c.args.inner + 1) c.args.inner c.args.depth scope here decls (chars c.args.text.now) behind start_tag refl
           (judged_is scope here decls (chars c.args.text.now) behind start_tag read declared inside ∙ c.in_ok-check_tag_names.ensures.judged_names)
-          declared inside c.push_attrs.new.element c.behind_tag.new.element (chars c.in_ok-rest.rest.now) dressed c.in_ok-rest.ensures.reads_rule));
+          declared inside c.push_attrs.new.element c.after_tag.new.element (chars c.in_ok-rest.rest.now) dressed c.in_ok-rest.ensures.reads_rule));
       bindings_restored = out.1;
     }
 
-pub push_child-returns-in_err-start_tag-clause-reads_rule : goal.push_child-returns-in_err-start_tag-clause-reads_rule
-push_child-returns-in_err-start_tag-clause-reads_rule t c =
+pub read_child_into-returns-in_err-start_tag-clause-reads_rule : goal.read_child_into-returns-in_err-start_tag-clause-reads_rule
+read_child_into-returns-in_err-start_tag-clause-reads_rule t c =
     let p = err_from_is_err_and c.from_residual.result c.from_residual.ensures.1 in
     let stop = c.in_err-start_tag.field-0.0 in
     let scope = lists c.args.bindings.now in
     rw (p.1, p.2) (child_stops c.args.parent.now (read_element c.args.levels scope c.args.depth) (chars c.args.text.now) stop
     (untagged c.args.levels c.in-Some.inner c.args.depth scope (chars c.args.text.now) stop (omega (arith, c.in-Some.ensures)) c.in_err-start_tag.ensures.reads_rule))
 
-pub push_child-returns-in_err-rest-clause-reads_rule : goal.push_child-returns-in_err-rest-clause-reads_rule
-push_child-returns-in_err-rest-clause-reads_rule t c =
+pub read_child_into-returns-in_err-rest-clause-reads_rule : goal.read_child_into-returns-in_err-rest-clause-reads_rule
+read_child_into-returns-in_err-rest-clause-reads_rule t c =
     let p = err_from_is_err_and c.from_residual-in_err-rest.result c.from_residual-in_err-rest.ensures.1 in
     let stop = c.in_err-rest.field-0.0 in
     let scope = lists c.args.bindings.now in
     rw (p.1, p.2) (child_stops c.args.parent.now (read_element c.args.levels scope c.args.depth) (chars c.args.text.now) stop
     (level_stops c.args.levels c.in-Some.inner c.args.depth scope (chars c.args.text.now) stop (omega (arith, c.in-Some.ensures)) c.in_err-rest.ensures.reads_rule))
 
-pub push_child-last_elem-child-requires : goal.push_child-last_elem-child-requires
-push_child-last_elem-child-requires t c =
+pub read_child_into-last_elem-child-requires : goal.read_child_into-last_elem-child-requires
+read_child_into-last_elem-child-requires t c =
     there c.take_nodes-nodes.result.items c.push_bare.new.nodes.items (tree_of (name_in c.in_ok-start_tag.start_tag.written) [] [] (last [])) c.in_ok-push_bare.ensures.appends_bare
 
-pub push_child-fill-requires : goal.push_child-fill-requires
-push_child-fill-requires t c =
+pub read_child_into-fill-requires : goal.read_child_into-fill-requires
+read_child_into-fill-requires t c =
     let bare = is_bare c.take_nodes-nodes.result.items c.push_bare.new.nodes.items (tree_of (name_in c.in_ok-start_tag.start_tag.written) [] [] (last [])) c.in_ok-push_bare.ensures.appends_bare c.last_elem-child.result.now c.last_elem-child.ensures.lends_element in
     search (rules, bare)
 
-pub push_child-put_nodes-requires-clause-normal : goal.push_child-put_nodes-requires-clause-normal
-push_child-put_nodes-requires-clause-normal t c =
+pub read_child_into-put_nodes-requires-clause-normal : goal.read_child_into-put_nodes-requires-clause-normal
+read_child_into-put_nodes-requires-clause-normal t c =
     still_normal c.take_nodes-nodes.result.items c.push_bare.new.nodes.items (tree_of (name_in c.in_ok-start_tag.start_tag.written) [] [] (last [])) c.in_ok-push_bare.ensures.appends_bare c.fill.new.element c.take_nodes-nodes.ensures.nodes_are_normal
 
-pub push_child-returns : goal.push_child-returns
-push_child-returns t c =
+pub read_child_into-returns : goal.read_child_into-returns
+read_child_into-returns t c =
     let scope = lists c.args.bindings.now in
     let bare = tree_of (name_in c.in_ok-start_tag.start_tag.written) [] [] (last []) in
     let taken = c.take_nodes-nodes.ensures in

@@ -8,8 +8,8 @@ use Rattle.tree_text.specs.readers.Texts.{markup_follows, read_element}
 use Rattle.xml_tokens.proofs.Loops.{finish}
 use Rattle.tree_text.proofs.elements.+nested.Given as goal
 
-abbrev pub decreases-push_child : goal.decreases-push_child
-decreases-push_child l = 5 * l.levels
+abbrev pub decreases-read_child_into : goal.decreases-read_child_into
+decreases-read_child_into l = 5 * l.levels
 
 abbrev pub decreases-push_markup : goal.decreases-push_markup
 decreases-push_markup l = 5 * l.levels + 1
@@ -17,8 +17,8 @@ decreases-push_markup l = 5 * l.levels + 1
 abbrev pub decreases-content : goal.decreases-content
 decreases-content l = 5 * l.levels + 2
 
-abbrev pub decreases-behind_tag : goal.decreases-behind_tag
-decreases-behind_tag l = 5 * l.levels + 3
+abbrev pub decreases-after_tag : goal.decreases-after_tag
+decreases-after_tag l = 5 * l.levels + 3
 
 abbrev pub decreases-fill : goal.decreases-fill
 decreases-fill l = 5 * l.inner + 4

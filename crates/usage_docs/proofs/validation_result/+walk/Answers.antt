@@ -12,13 +12,13 @@ use Rattle.usage_docs.specs.Forms.{AllFormed, IsNodeFormed, is_formed}
 use Rattle.usage_docs.specs.Keys.{attrs_pass}
 use Rattle.usage_docs.specs.SchemaTable.{Scope, kind_of}
 use Rattle.usage_docs.specs.Validity.{ValidInRow, text_passes}
-use Rattle.usage_docs.specs.readers.FirstFaults.{IsFirstAfter, IsFirstSoFar, IsKnownFormed, PassesClash, PassesKey, RepeatsKnown}
+use Rattle.usage_docs.specs.readers.FirstFaults.{IsFirstAfter, IsKnownFormed, PassesKey, RepeatsKnown}
 use Rattle.usage_docs.specs.readers.Parts.{follows, part_of}
 use Rattle.usage_docs.specs.readers.Repeats.{Enters, Holds}
 use Rattle.usage_docs.specs.readers.Siblings.{node_children, one_more}
-use Rattle.usage_docs.specs.readers.Walks.{HoldsRow, IsNodeValid, part_behind}
+use Rattle.usage_docs.specs.readers.Walks.{HoldsRow, IsNodeValid, part_after}
 use Rattle.usage_docs.proofs.ClashLemmas.{kids_are, kind_is, scope_is}
-use Rattle.usage_docs.proofs.FindingLemmas.{And, and_both, and_equal, and_same, and_then, clash_next, counts_next, formed_end, formed_next, key_next, marked_by, none_clash, none_found_yet, none_known, nothing_more, one_more_at_most, same_test, some_known, under_test, valid_end, valid_in_row, valid_next}
+use Rattle.usage_docs.proofs.FindingLemmas.{And, ClashPassed, FirstSoFar, and_both, and_equal, and_same, and_then, clash_next, counts_next, formed_end, formed_next, key_next, marked_by, none_clash, none_found_yet, none_known, nothing_more, one_more_at_most, same_test, some_known, under_test, valid_end, valid_in_row, valid_next}
 use Rattle.usage_docs.proofs.NodesFormed.{nodes_formed}
 use Rattle.usage_docs.proofs.NodesValid.{nodes_hold}
 use Rattle.usage_docs.proofs.RepeatLemmas.{none_held}
@@ -95,7 +95,7 @@ walk_inside-returns t c =
       valid_inside = valid_end row scope (drop i ns) passed.part found.valid c.follows.result c.note_repeat.new.found.valid first.valid (HoldsRow row scope e.content) none stay.0 c.follows.ensures.exact inv.valid;
       formed_inside = subst (λ (b : Bool). And b first.formed (AllFormed row scope e.content)) (sym stay.1) (formed_end row scope (drop i ns) found.formed first.formed (AllFormed row scope e.content) none inv.formed);
       first_clash_inside = λ low. c.note_repeat.ensures.is_first_repeat row scope e first.clash (c.repeat_among-repeat.ensures.is_first_repeat (λ all. subst (λ (k : ℕ). Holds row scope xs k passed.keys.items) count (inv.held all))) low
-          (subst (λ (k : ℕ). IsFirstSoFar row scope xs trail k passed.clear first.clash found.clash) count (inv.first low));
+          (subst (λ (k : ℕ). FirstSoFar row scope xs trail k passed.clear first.clash found.clash) count (inv.first low));
     }
 
 -- ---- a node
@@ -113,11 +113,11 @@ walk_node-returns-in-Elem t c =
     record {
       valid_with_node = subst (λ (n : Node). (And next.valid found.valid (IsNodeValid row scope old.part n))) is done.valid_with_child;
       formed_with_node = subst (λ (n : Node). (And next.formed found.formed (IsNodeFormed row scope n))) is done.formed_with_child;
-      next_part = subst (λ (n : Node). (new.part ≡ part_behind row scope old.part n)) is done.next_part;
+      next_part = subst (λ (n : Node). (new.part ≡ part_after row scope old.part n)) is done.next_part;
       counts_node = subst (λ (n : Node). (new.count ≡ one_more n old.count)) is done.counts_child;
       clear_at_most = done.clear_at_most;
       enters_key = subst (λ (n : Node). (PassesKey row scope n old new)) is done.enters_key;
-      clash_in_node = subst (λ (n : Node). (length c.args.trail.now + node_height n ≤ 64 → PassesClash row scope c.args.trail.now n old found.clash new next.clash)) is done.clash_in_child;
+      clash_in_node = subst (λ (n : Node). (length c.args.trail.now + node_height n ≤ 64 → ClashPassed row scope c.args.trail.now n old found.clash new next.clash)) is done.clash_in_child;
     }
 
 pub walk_node-returns-in-Chars : goal.walk_node-returns-in-Chars
@@ -132,11 +132,11 @@ walk_node-returns-in-Chars t c =
     record {
       valid_with_node = subst (λ (n : Node). And (found.valid && passes) found.valid (IsNodeValid row scope old.part n)) is (and_equal (found.valid && passes) found.valid passes _ refl (same_test passes (text_passes row c.in-Chars.text) says));
       formed_with_node = subst (λ (n : Node). And found.formed found.formed (IsNodeFormed row scope n)) is (nothing_more found.formed);
-      next_part = subst (λ (n : Node). old.part ≡ part_behind row scope old.part n) is refl;
+      next_part = subst (λ (n : Node). old.part ≡ part_after row scope old.part n) is refl;
       counts_node = subst (λ (n : Node). old.count ≡ one_more n old.count) is refl;
       clear_at_most = c.requires.clear_bounded;
       enters_key = subst (λ (n : Node). PassesKey row scope n old old) is (refl, refl);
-      clash_in_node = λ low. subst (λ (n : Node). PassesClash row scope c.args.trail.now n old found.clash old found.clash) is (refl, refl);
+      clash_in_node = λ low. subst (λ (n : Node). ClashPassed row scope c.args.trail.now n old found.clash old found.clash) is (refl, refl);
     }
 
 pub walk_node-returns-in-Comment : goal.walk_node-returns-in-Comment
@@ -149,11 +149,11 @@ walk_node-returns-in-Comment t c =
     record {
       valid_with_node = subst (λ (n : Node). And found.valid found.valid (IsNodeValid row scope old.part n)) is (nothing_more found.valid);
       formed_with_node = subst (λ (n : Node). And found.formed found.formed (IsNodeFormed row scope n)) is (nothing_more found.formed);
-      next_part = subst (λ (n : Node). old.part ≡ part_behind row scope old.part n) is refl;
+      next_part = subst (λ (n : Node). old.part ≡ part_after row scope old.part n) is refl;
       counts_node = subst (λ (n : Node). old.count ≡ one_more n old.count) is refl;
       clear_at_most = c.requires.clear_bounded;
       enters_key = subst (λ (n : Node). PassesKey row scope n old old) is (refl, refl);
-      clash_in_node = λ low. subst (λ (n : Node). PassesClash row scope c.args.trail.now n old found.clash old found.clash) is (refl, refl);
+      clash_in_node = λ low. subst (λ (n : Node). ClashPassed row scope c.args.trail.now n old found.clash old found.clash) is (refl, refl);
     }
 
 -- ---- a child
@@ -169,13 +169,13 @@ walk_child-returns t c =
     let new = c.add.new.self in
     let found = c.args.found.now in
     let mid = found.valid && c.follows.result in
-    let next = c.walk_known.new.found in
+    let next = c.walk_if_kind.new.found in
     let is = scope_is scope e c.inside-inside.result c.declared_in-declared.result c.decls.result.now c.inside-inside.ensures.adds_declarations c.declared_in-declared.ensures.holds_declarations c.decls.ensures.exact in
     let kind = kind_is row scope e c.inside-inside.result c.name.result.now child.kind child.kind c.place_of-child.ensures.child_kind is c.name.ensures.exact refl in
     let part : child.part ≡ part_of row (inside scope e) e.name =
     c.place_of-child.ensures.child_part ∙ ap (λ (s : Scope). part_of row s c.name.result.now) is ∙ ap (part_of row (inside scope e)) c.name.ensures.exact in
     let follow = same_test c.follows.result (follows row old.part (part_of row (inside scope e) e.name)) (c.follows.ensures.exact ∙ ap (follows row old.part) part) in
-    let walked = c.walk_known.ensures in
+    let walked = c.walk_if_kind.ensures in
     let added = c.add.ensures in
     let valid = subst (λ (o : Option ElementKind). And next.valid mid (ForSome o (λ k. ValidInRow k (inside scope e) e))) (sym kind)
     (subst (λ (s : Scope). And next.valid mid (ForSome child.kind (λ k. ValidInRow k s e))) is walked.valid_with_element) in
@@ -199,8 +199,8 @@ walk_child-returns t c =
 
 -- ---- an element that may have a kind
 
-pub walk_known-returns-in_default : goal.walk_known-returns-in_default
-walk_known-returns-in_default t c =
+pub walk_if_kind-returns-in_default : goal.walk_if_kind-returns-in_default
+walk_if_kind-returns-in_default t c =
     let kind = c.args.kind in
     let scope = c.args.scope.now in
     let e = c.args.element.now in
@@ -211,8 +211,8 @@ walk_known-returns-in_default t c =
       first_clash_below = λ low. none_clash kind c.in_default.is scope e c.args.trail.now found.clash;
     }
 
-pub walk_known-returns : goal.walk_known-returns
-walk_known-returns t c =
+pub walk_if_kind-returns : goal.walk_if_kind-returns
+walk_if_kind-returns t c =
     let kind = c.args.kind in
     let known = c.in-Some.known in
     let scope = c.args.scope.now in

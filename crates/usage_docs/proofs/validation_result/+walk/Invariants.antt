@@ -2,11 +2,10 @@ use Rattle.std.proofs.Common.{◌≡◌, ◌≤◌, ◌*◌, ◌+◌, drop, leng
 use Rattle.xml_tree.specs.Nodes.{node_height}
 use Rattle.xml_tree.specs.Tree.{content_height, height, child_elements_of}
 use Rattle.usage_docs.specs.Forms.{AllFormed}
-use Rattle.usage_docs.specs.readers.FirstFaults.{IsFirstSoFar}
 use Rattle.usage_docs.specs.readers.Repeats.{Holds}
 use Rattle.usage_docs.specs.readers.Siblings.{node_children}
 use Rattle.usage_docs.specs.readers.Walks.{HoldsRow}
-use Rattle.usage_docs.proofs.FindingLemmas.{Stands}
+use Rattle.usage_docs.proofs.FindingLemmas.{FirstSoFar, Stands}
 use Rattle.usage_docs.proofs.NodesFormed.{FormedNodes}
 use Rattle.usage_docs.proofs.NodesValid.{ValidNodes}
 use Rattle.usage_docs.proofs.validation_result.+walk.Given as goal
@@ -20,8 +19,8 @@ decreases-walk_node l = 4 * node_height l.node.now + 3
 abbrev pub decreases-walk_child : goal.decreases-walk_child
 decreases-walk_child l = 4 * height l.child_element.now + 2
 
-abbrev pub decreases-walk_known : goal.decreases-walk_known
-decreases-walk_known l = 4 * height l.element.now + 1
+abbrev pub decreases-walk_if_kind : goal.decreases-walk_if_kind
+decreases-walk_if_kind l = 4 * height l.element.now + 1
 
 abbrev pub invariant-walk_inside-loop-node : goal.invariant-walk_inside-loop-node
 invariant-walk_inside-loop-node l = record {
@@ -32,5 +31,5 @@ invariant-walk_inside-loop-node l = record {
   small : l.passed.count ≤ l.node-index;
   clear : l.passed.clear ≤ l.passed.count;
   held : l.passed.holds_all ≡ true → Holds l.row l.scope (child_elements_of l.element) l.passed.count l.passed.keys.items;
-  first : length l.trail + content_height l.element.content ≤ 64 → IsFirstSoFar l.row l.scope (child_elements_of l.element) l.trail l.passed.count l.passed.clear l.fn.found.clash l.found.clash;
+  first : length l.trail + content_height l.element.content ≤ 64 → FirstSoFar l.row l.scope (child_elements_of l.element) l.trail l.passed.count l.passed.clear l.fn.found.clash l.found.clash;
 }

@@ -1,4 +1,4 @@
-use Rattle.xcap_uri.specs.readers.Targets.{target_read}
+use Rattle.xcap_uri.specs.readers.Targets.{parsed_target}
 use Rattle.xcap_uri.proofs.Nameable.{answer_nameable, target_readable}
 use Rattle.xcap_uri.proofs.TargetAnswers.{target_answered}
 use Rattle.xcap_uri.proofs.target.read_target.Goals as goal
@@ -10,5 +10,5 @@ returns c =
     record {
       rules_answer = target_answered root target c.read.result c.read.ensures.stated_answer;
       outside_without_memory = c.read.ensures.outside_is_refused;
-      readable_ids = answer_nameable (target_read root target) c.read.result (target_readable root target) c.read.ensures.stated_answer;
+      readable_ids = answer_nameable (parsed_target root target) c.read.result (target_readable root target) c.read.ensures.stated_answer;
     }

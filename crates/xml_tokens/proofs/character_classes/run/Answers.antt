@@ -9,11 +9,11 @@ whole : (p : ℕ → Bool) (text rest : List ℕ) → rest ≡ after_front p tex
 whole p text rest is = front_whole p text ∙ ap (λ (z : List ℕ). front_of p text ++ z) (sym is)
 
 pub text_before-requires : goal.text_before-requires
-text_before-requires c = (front_of (passes c.args.class) (chars c.args.text.now), whole (passes c.args.class) (chars c.args.text.now) (chars c.behind-rest.result.now) c.behind-rest.ensures.exact)
+text_before-requires c = (front_of (passes c.args.class) (chars c.args.text.now), whole (passes c.args.class) (chars c.args.text.now) (chars c.skip_class-rest.result.now) c.skip_class-rest.ensures.exact)
 
 pub returns-clause-front_of_run : goal.returns-clause-front_of_run
 returns-clause-front_of_run c =
     let p = passes c.args.class in
     let text = chars c.args.text.now in
-    let rest = chars c.behind-rest.result.now in
-    front_by_rest text (chars c.text_before.result.now) (front_of p text) rest c.text_before.ensures.parts_of_text (whole p text rest c.behind-rest.ensures.exact)
+    let rest = chars c.skip_class-rest.result.now in
+    front_by_rest text (chars c.text_before.result.now) (front_of p text) rest c.text_before.ensures.parts_of_text (whole p text rest c.skip_class-rest.ensures.exact)

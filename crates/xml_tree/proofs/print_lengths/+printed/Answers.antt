@@ -1,10 +1,10 @@
 use Rattle.std.proofs.Common.{◌≡◌, ◌+◌, length, drop, sym, ap, ◌∙◌, arith, min, eqb-true, eq-eqb}
 use Rattle.std.proofs.lemmas.List.{drop_all}
 use Rattle.xml_tree.specs.Nodes.{content_of}
-use Rattle.xml_names.specs.Markup.{byte_len, opening, print_name}
+use Rattle.xml_names.specs.Markup.{byte_len, tag_front, print_name}
 use Rattle.xml_tree.specs.Print.{print, print_content}
 use Rattle.xml_tree.specs.inner.Print.{print_node}
-use Rattle.xml_names.proofs.PrintLengths.{byte_len-closing}
+use Rattle.xml_names.proofs.PrintLengths.{byte_len-end_tag_text}
 use Rattle.xml_tree.proofs.PrintedNodes.{no_nodes, some_nodes, byte_len-bare, byte_len-whole, byte_len-nodes, bare_sum, next_sum, whole_sum}
 use Rattle.xml_tree.proofs.print_lengths.+printed.Goals as goal
 
@@ -13,8 +13,8 @@ printed_len-returns-then-is_empty t c = record {
   exact =
       let e = c.args.element.now in let ns = c.nodes-nodes.result.now in
       let none = no_nodes ns e.content c.nodes-nodes.ensures.nodes_content (eqb-true (length ns) 0 (sym c.is_empty.ensures ∙ c.if-is_empty.true)) in
-      bare_sum 18446744073709551615 (byte_len (opening e.name e.decls e.attrs)) c.opening_len-opening.result c.saturating_add.result (byte_len (print e))
-      c.opening_len-opening.ensures.exact c.saturating_add.ensures (byte_len-bare e none);
+      bare_sum 18446744073709551615 (byte_len (tag_front e.name e.decls e.attrs)) c.opening_len-tag_front.result c.saturating_add.result (byte_len (print e))
+      c.opening_len-tag_front.ensures.exact c.saturating_add.ensures (byte_len-bare e none);
 }
 
 pub printed_len-loop-node-preserved : goal.printed_len-loop-node-preserved
@@ -35,9 +35,9 @@ printed_len-returns t c = record {
       let some = some_nodes ns e.content c.nodes-nodes.ensures.nodes_are_normal c.nodes-nodes.ensures.nodes_content (λ z. let both = eq-eqb (length ns) 0 z in cc) in
       let end = ap (λ l. byte_len (print_content (content_of l))) (drop_all i ns c.loop-node-test.false) in
       let all : byte_len (print_content (content_of ns)) ≡ byte_len (print_content e.content) = ap (λ k. byte_len (print_content k)) c.nodes-nodes.ensures.nodes_content in
-      whole_sum 18446744073709551615 (byte_len (opening e.name e.decls e.attrs)) (byte_len (print_content (content_of ns))) (byte_len (print_name e.name))
-      c.name_len.result c.opening_len-opening.result c.loop-node.inside c.saturating_add-2.result c.saturating_add-3.result c.saturating_add-4.result
+      whole_sum 18446744073709551615 (byte_len (tag_front e.name e.decls e.attrs)) (byte_len (print_content (content_of ns))) (byte_len (print_name e.name))
+      c.name_len.result c.opening_len-tag_front.result c.loop-node.inside c.saturating_add-2.result c.saturating_add-3.result c.saturating_add-4.result
       (byte_len (print e)) (byte_len (print_content (content_of (drop i ns))))
-      c.opening_len-opening.ensures.exact c.loop-node.invariant.counted c.loop-node.invariant.fits end (c.name_len.ensures.exact ∙ ap (λ n. min (byte_len (print_name n)) 18446744073709551615) c.name.ensures.exact) c.saturating_add-2.ensures c.saturating_add-3.ensures c.saturating_add-4.ensures
-      (byte_len-whole e some ∙ omega (arith, all, byte_len-closing e.name));
+      c.opening_len-tag_front.ensures.exact c.loop-node.invariant.counted c.loop-node.invariant.fits end (c.name_len.ensures.exact ∙ ap (λ n. min (byte_len (print_name n)) 18446744073709551615) c.name.ensures.exact) c.saturating_add-2.ensures c.saturating_add-3.ensures c.saturating_add-4.ensures
+      (byte_len-whole e some ∙ omega (arith, all, byte_len-end_tag_text e.name));
 }

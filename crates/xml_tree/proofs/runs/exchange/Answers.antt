@@ -30,7 +30,7 @@ returns-clause-replaces_nodes c =
     let ns = c.args.nodes.now.items in
     let before = take c.in_ok-start.start ns in
     let n1 = c.with_text_before.new.more.items in
-    let n2 = c.with_text_behind.new.more.items in
+    let n2 = c.with_text_after.new.more.items in
     let start = rw c.deref.ensures.value at c.in_ok-start.ensures.nodes_in_order in
     let end = rw c.deref-2.ensures.value at c.in_ok-end.ensures.nodes_in_order in
     ap content_of (spliced c) ∙ content_of-between before c.in_ok-joined.joined.items n2 (drop c.in_ok-end.end ns) c.in_ok-joined.ensures.same_content

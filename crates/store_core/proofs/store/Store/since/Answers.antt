@@ -6,7 +6,7 @@ use Rattle.store_core.proofs.store.Store.since.Goals as goal
 pub returns-in-Some : goal.returns-in-Some
 returns-in-Some c = record {
   exact =
-      c.told_by.ensures.exact
+      c.since_in_entry.ensures.exact
       ∙ by-entry c.self.inside.documents.entries c.args.doc.now c.args.tag c.args.self.now (Some c.in-Some.entry.now) (ap (λ (s : Stored). s.content.documents) c.self.view_is) c.in-Some.ensures.exact;
 }
 

@@ -13,7 +13,7 @@ loop-decl-preserved c =
       finite = tt;
       left = λ ds are.
           let parts = ap (λ (l : List Decl). ds ++ l) c.in-Some.ensures.steps ∙ sym (append_assoc ds rest (last ∷ [])) in
-          c.forget.ensures.holds_one_fewer (ds ++ rest) (subst (AreOf c.loop-decl.self) parts (c.loop-decl.invariant.left ds are));
+          c.pop_declaration.ensures.holds_one_fewer (ds ++ rest) (subst (AreOf c.loop-decl.self) parts (c.loop-decl.invariant.left ds are));
     }
 
 pub returns : goal.returns

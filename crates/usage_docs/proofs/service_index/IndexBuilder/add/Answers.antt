@@ -1,7 +1,8 @@
 use Rattle.std.proofs.Common.{◌≤◌, ◌+◌, ◌++◌, List, length, map, min, ap, sym, ◌∙◌, subst, arith}
 use Rattle.xml_tree.specs.Tree.{Tree}
 use Rattle.xml_tree.specs.declared.tree.Node.TheVariants.{Elem}
-use Rattle.usage_docs.specs.Services.{service_elements, index_of, index_len, index_limit}
+use Rattle.usage_docs.specs.Services.{service_elements, index_of, index_len}
+use Rattle.usage_docs.specs.declared.service_index.TheConstants.{INDEX_LIMIT}
 use Rattle.usage_docs.specs.readers.ServiceNodes.{elems_len}
 use Rattle.usage_docs.proofs.ListingLemmas.{too_large, small_enough, counted_again, grown, kids_grown}
 use Rattle.usage_docs.proofs.service_index.IndexBuilder.add.Goals as goal
@@ -43,4 +44,4 @@ returns-clause-at_most_limit c =
     let new = service_elements c.args.root.now in
     let root = grown c.exchange_nodes.new.self c.self.inside.root c.in_ok-services.services.items ss new (length c.nodes-end.result.now) c.in_ok-exchange_nodes.ensures.replaces_nodes c.in_ok-services.ensures.ok (c.self.invariant.whole ∙ ap index_of c.self.view_is) (ap length c.nodes-end.ensures.content_nodes) in
     let child_elements = kids_grown c.exchange_nodes.new.self (ss ++ new) root in
-    subst (λ (ts : List Tree). index_len ts ≤ index_limit) (sym child_elements) (small_enough ss new c.self.inside.inner c.saturating_add-inner.result c.len_with-len.result counted added c.len_with-len.ensures.exact (omega arith))
+    subst (λ (ts : List Tree). index_len ts ≤ INDEX_LIMIT) (sym child_elements) (small_enough ss new c.self.inside.inner c.saturating_add-inner.result c.len_with-len.result counted added c.len_with-len.ensures.exact (omega arith))

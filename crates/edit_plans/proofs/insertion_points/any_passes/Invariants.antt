@@ -1,0 +1,14 @@
+use Rattle.std.proofs.Common.{◌≡◌, ◌≤◌, length, drop}
+use Rattle.xml_tree.specs.Tree.{child_elements, child_elements_of}
+use Rattle.xml_tree.specs.Nodes.{content_of}
+use Rattle.node_select.specs.Selection.{is_named, is_tested}
+use Rattle.edit_plans.proofs.SideLemmas.{NoneUpTo}
+use Rattle.edit_plans.proofs.insertion_points.any_passes.Given as goal
+
+abbrev pub invariant-loop-node : goal.invariant-loop-node
+invariant-loop-node l = record {
+  left : drop l.i (child_elements_of l.parent) ≡ child_elements (content_of (drop l.node-index l.node-items));
+  within : l.i ≤ length (child_elements_of l.parent);
+  small : l.i ≤ l.node-index;
+  none : NoneUpTo (is_named l.scope l.step) (is_tested l.scope l.step) (child_elements_of l.parent) l.i;
+}

@@ -1,8 +1,0 @@
-use Rattle.xcap_client.proofs.Words.{get, is_lawful, getting_is_lawful}
-use Rattle.xcap_client.proofs.asks.getting.Goals as goal
-
-pub returns-clause-ok : goal.returns-clause-ok
-returns-clause-ok c = rw get at c.bare.ensures.ok
-
-pub returns-clause-lawful_ask : goal.returns-clause-lawful_ask
-returns-clause-lawful_ask c = is_lawful _ c.bare.result (getting_is_lawful _ _) (returns-clause-ok c)
